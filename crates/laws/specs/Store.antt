@@ -1,0 +1,59 @@
+-- An insert that finds the pages it wants leaves a valid store, which shows the plain tree's insert.
+use mathlib.Core.Path.{_≡_, refl, sym, ap, _∙_}
+use mathlib.Core.Bool.{Bool, true, false, cond, not, _&&_, _||_, false≢true, true≢false}
+use mathlib.Core.List.{List, [], _∷_}
+use Prim.Native.Nat.{ℕ, zero, suc, _+_, _≤_, _<_, max}
+use native.Mathlib.Omega.{arith}
+use lib.ListN.{length}
+use lib.Dec.{leb, ltb, eqb, T}
+use Rattle.model.specs.Row.{Head, Row, nil, agg, lit, rec, size, isNil, lone, recordSize, Config, height, isAgg, store}
+use Rattle.laws.specs.Fits.{HeadFits, Fits, RecordFits, Shape, one, more, IsByte, Valid}
+use Rattle.model.specs.Tree.{Tree, end, branch, leaf, shown, New, insertAt}
+use Rattle.model.specs.Growth.{Work, Out, grow}
+use Rattle.laws.specs.Laws.{isNil-nil, shown-grow}
+use Rattle.laws.specs.Keeps.{levels, height-shown, levels-insertAt, grow-fits}
+use Rattle.laws.specs.Pages.{placed-grow}
+
+pub record NewFits (x : New) : Type 0 where
+  pub head : HeadFits (x .head)
+  pub long : length (x .content) ≤ 520
+  pub byte : IsByte (x .content)
+
+-- a settled record has one node
+settled-lone : (r : Row) → Shape true r → lone r ≡ true
+settled-lone r (one e) = e
+
+abbrev isBranch : Tree → Bool
+isBranch end = false
+isBranch (branch l cs rest) = true
+isBranch (leaf l c rest) = false
+
+branch-insert : (x : New) (n : ℕ) (path : List ℕ) (l : Head) (cs rest : Tree) → isBranch (insertAt x n 0 path (branch l cs rest)) ≡ true
+branch-insert x n [] l cs rest = refl
+branch-insert x n (j ∷ path) l cs rest = refl
+
+lone-agg : (r : Row) → lone r ≡ true → isBranch (shown r) ≡ true → isAgg r ≡ true
+lone-agg nil e b = absurd (false≢true e)
+lone-agg (agg l cs rest) e b = refl
+lone-agg (lit l c rest) e b = absurd (false≢true b)
+lone-agg (rec p s r rest) e b = absurd (false≢true e)
+
+module _ (st : Config) (x : New) (a : NewFits x) where
+  pub valid-grow : (root : Row) (path : List ℕ) (n : ℕ) → Valid st root → length path ≤ 22 → grow st root path n x .1 .full ≡ false → Valid st (grow st root path n x .0)
+  valid-grow nil path n v p full = absurd (false≢true (v .top))
+  valid-grow (lit l c rest) path n v p full = absurd (false≢true (v .top))
+  valid-grow (rec q s r rest) path n v p full = absurd (false≢true (v .top))
+  valid-grow (agg m cs rest) path n v p full =
+      let root = agg m cs rest in
+      let new = grow st root path n x .0 in
+      let e = isNil-nil rest (settled-lone root (v .rows .0 .shape)) in
+      let fit : recordSize (agg m cs nil) ≤ 4080 = rw e at (v .rows .0 .fits) in
+      let high : height cs ≤ 23 = omega (arith, v .levels) in
+      let rows : Fits (store new) = rw e (grow-fits st (v .ranges) x (a .head) (a .long) (a .byte) m cs path n (v .rows .1 .0) (v .rows .1 .1) fit high p) in
+      record {
+        ranges = v .ranges;
+        rows = rows;
+        top = lone-agg new (settled-lone new (rows .0 .shape)) (ap isBranch (shown-grow st x root path n) ∙ branch-insert x n path m (shown cs) (shown rest));
+        levels = omega (arith, height-shown new, ap levels (shown-grow st x root path n), levels-insertAt x n 0 path (shown root), height-shown root, v .levels);
+        placed = placed-grow st x root path n (v .placed) full;
+      }

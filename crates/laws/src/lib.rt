@@ -1,0 +1,1 @@
+// The theorems about the definitions of the crate model, in specs/.

@@ -1,0 +1,48 @@
+-- The answers of the calls as values, and what document 01 calls them: numbers, and zeros where a call is refused.
+use mathlib.Core.List.{List, [], _∷_}
+use Prim.Native.Nat.{ℕ}
+use lib.IntN.{ℤ, pos}
+use Rattle.model.specs.declared.Settings.{Settings}
+use Rattle.model.specs.declared.Place.{Place}
+use Rattle.model.specs.declared.Kind.{Kind}
+use Rattle.model.specs.declared.Kind.the-variants.{Aggregate, Literal}
+use Rattle.model.specs.declared.Next.{Next}
+use Rattle.model.specs.declared.Next.the-variants.{Node, End}
+use Rattle.model.specs.declared.NextAnswer.{NextAnswer}
+use Rattle.model.specs.declared.InsertAnswer.{InsertAnswer}
+use Rattle.model.specs.declared.FindAnswer.{FindAnswer}
+use Rattle.model.specs.declared.WriteAnswer.{WriteAnswer}
+use Rattle.model.specs.declared.ReadNode.{ReadNode}
+
+abbrev pub usualSettings : (pages : ℕ) → Settings
+usualSettings n = record { pages = n; target = 128; tolerance = 409; form = 1 }
+
+-- The number of a kind.
+abbrev pub kindNumber : Kind → ℕ
+kindNumber Aggregate = 1
+kindNumber Literal = 2
+
+-- The numbers of each case of Next: 1 for a node or 0 for the end, then page, offset and kind.
+abbrev pub nextNumbers : Next → List ℕ
+nextNumbers (Node n) = 1 ∷ n .place .page ∷ n .place .offset ∷ kindNumber (n .kind) ∷ []
+nextNumbers End = 0 ∷ 0 ∷ 0 ∷ 0 ∷ []
+
+-- ── refused ──
+
+abbrev pub noPlace : Place
+noPlace = record { page = 0; offset = 0 }
+
+abbrev pub insertRefused : (number : ℕ) → InsertAnswer
+insertRefused n = record { number = n; place = noPlace; splits = 0; lean = pos 0 }
+
+abbrev pub findRefused : (number : ℕ) → FindAnswer
+findRefused n = record { number = n; place = noPlace }
+
+abbrev pub writeRefused : (number : ℕ) → WriteAnswer
+writeRefused n = record { number = n; written = 0 }
+
+abbrev pub readRefused : (number : ℕ) → ReadNode
+readRefused n = record { number = n; kind = 0; label = 0; children = 0; start = 0; len = 0 }
+
+abbrev pub nextRefused : (number : ℕ) → NextAnswer
+nextRefused n = record { number = n; next = End }

@@ -1,0 +1,643 @@
+#!/usr/bin/env python3
+"""A second implementation of the base rules, for the tests: slow, small, made from the rules' text alone.
+
+As a module it offers the calls over an image held in a bytearray: format_image, check, insert, find, climb, read,
+next_node, records and listing. Each answer is a tuple that begins with the number. As a command it replays call
+scripts, compares every answer and the checksum of the image, and exits with 1 on any difference:
+
+    reference.py SCRIPT..
+"""
+
+import sys
+import zlib
+
+PAGE = 4096
+CAPACITY = 4080
+HEADER = 6
+PAGES = 1024
+LEVELS = 24
+CONTENT = 520
+SETTINGS_LENGTH = 272
+CLASSES = 16
+
+AGGREGATE, LITERAL, PROXY, HELPER = 1, 2, 3, 4
+FREE, RECORD, SETTINGS = 0, 1, 2                      # the first byte of a trailer
+APART = 0
+
+# Which kinds may stand in each holder; 0 is the page, that is the place of a record's root.
+MAY_STAND = {
+    0: (AGGREGATE, LITERAL, HELPER),
+    AGGREGATE: (AGGREGATE, LITERAL, PROXY),
+    LITERAL: (),
+    PROXY: (),
+    HELPER: (AGGREGATE, LITERAL, PROXY),
+}
+
+MISFIT, BAD_SETTINGS, BROKEN, LEVEL, BAD_KIND, LONG, ABSENT, CLOSED, GAP, STRAY, SHORT, FULL = range(1, 13)
+
+sys.setrecursionlimit(20000)
+
+
+class Refused(Exception):
+    """A call is refused with this number."""
+
+    def __init__(self, number):
+        super().__init__(number)
+        self.number = number
+
+
+class Node:
+    """A node in a record. A proxy carries the record that it stands for."""
+
+    def __init__(self, kind, label=0, content=b"", children=None, record=None):
+        self.kind = kind
+        self.label = label
+        self.content = bytes(content)
+        self.children = [] if children is None else children
+        self.record = record
+
+
+class Record:
+    def __init__(self, page, settled, root):
+        self.page = page
+        self.settled = settled
+        self.root = root
+
+
+class Settings:
+    def __init__(self, pages, target=128, tolerance=409, form=1, matrix=bytes([2] * 256)):
+        self.pages = pages
+        self.target = target
+        self.tolerance = tolerance
+        self.form = form
+        self.matrix = bytes(matrix)
+
+
+class Store:
+    """What an image holds: its settings and its records by page."""
+
+    def __init__(self, settings, records):
+        self.settings = settings
+        self.records = records
+
+
+class Entry:
+    """A node of the logical tree: its path, its number of children and where it stands."""
+
+    def __init__(self, path, node, record, start):
+        self.path = path
+        self.node = node
+        self.record = record
+        self.start = start
+        self.children = 0
+
+    def place(self):
+        return (self.record.page, self.start)
+
+
+def two(part, at):
+    return part[at] | part[at + 1] << 8
+
+
+def two_bytes(number):
+    return number.to_bytes(2, "little")
+
+
+def require(true, number):
+    if not true:
+        raise Refused(number)
+
+
+def size(node):
+    """Header and all inside it."""
+    if node.kind == PROXY:
+        return HEADER + 2
+    return HEADER + len(node.content) + sum(size(child) for child in node.children)
+
+
+# ---- From the image to the store: the check
+
+def settings_in_range(settings, pages):
+    return (settings.pages == pages and 64 <= settings.target <= 192 and settings.tolerance <= 512
+            and settings.form == 1 and len(settings.matrix) == 256 and all(m in (0, 2) for m in settings.matrix))
+
+
+def page_of(image, page):
+    return bytes(image[page * PAGE:(page + 1) * PAGE])
+
+
+def trailer(page):
+    """Kind, settled byte, length used and back link; what must be zero is."""
+    kind, settled, used, back = page[CAPACITY], page[CAPACITY + 1], two(page, CAPACITY + 2), two(page, CAPACITY + 4)
+    require(used <= CAPACITY and not any(page[used:CAPACITY]) and not any(page[CAPACITY + 6:]), BROKEN)
+    return kind, settled, used, back
+
+
+def read_settings(image):
+    page = page_of(image, 0)
+    require(trailer(page) == (SETTINGS, 0, SETTINGS_LENGTH, 0), BROKEN)
+    settings = Settings(two(page, 0), page[2], two(page, 4), two(page, 6), page[16:SETTINGS_LENGTH])
+    require(page[3] == 0 and not any(page[8:16]), BROKEN)
+    require(settings_in_range(settings, len(image) // PAGE), BROKEN)
+    return settings
+
+
+def read_record(image, number, back, level, records):
+    """The record on a page, its proxies followed; `level` is that of the nodes it shows."""
+    page = page_of(image, number)
+    kind, settled, used, link = trailer(page)
+    require(kind == RECORD and settled <= 1 and link == back, BROKEN)
+    record = records[number] = Record(number, settled == 1, None)
+    roots = read_list(image, page[:used], record, 0, level, records)
+    require(len(roots) == 1, BROKEN)
+    record.root = roots[0]
+    require(not (record.settled and record.root.kind == HELPER), BROKEN)
+    return record
+
+
+def read_list(image, part, record, holder, level, records):
+    """The nodes that fill a part of the record."""
+    nodes = []
+    while part:
+        require(len(part) >= HEADER, BROKEN)
+        length = two(part, 4)
+        require(HEADER <= length <= len(part), BROKEN)
+        nodes.append(read_node(image, part[:length], record, holder, level, records))
+        part = part[length:]
+    return nodes
+
+
+def read_node(image, part, record, holder, level, records):
+    kind, zero, label, inside = part[0], part[1], two(part, 2), part[HEADER:]
+    require(kind in MAY_STAND[holder] and zero == 0, BROKEN)
+    require(label == 0 or kind in (AGGREGATE, LITERAL), BROKEN)
+    require(level <= LEVELS or kind in (PROXY, HELPER), BROKEN)
+    if kind == LITERAL:
+        require(len(inside) <= CONTENT, BROKEN)
+        return Node(LITERAL, label, content=inside)
+    if kind == PROXY:
+        require(len(inside) == 2, BROKEN)
+        number = two(inside, 0)
+        require(2 <= number < len(image) // PAGE and number not in records, BROKEN)
+        return Node(PROXY, record=read_record(image, number, record.page, level, records))
+    children = read_list(image, inside, record, kind, level + (kind == AGGREGATE), records)
+    require(kind == AGGREGATE or len(children) >= 2, BROKEN)
+    return Node(kind, label, children=children)
+
+
+def read_store(image):
+    """The store in an image; refused with 1 or 3."""
+    pages, rest = divmod(len(image), PAGE)
+    require(rest == 0 and 2 <= pages <= PAGES, MISFIT)
+    settings = read_settings(image)
+    records = {}
+    root = read_record(image, 1, 0, 1, records)
+    require(root.settled and root.root.kind == AGGREGATE, BROKEN)
+    for number in range(2, pages):
+        require(number in records or not any(page_of(image, number)), BROKEN)
+    return Store(settings, records)
+
+
+# ---- From the store to the image
+
+def node_bytes(node):
+    if node.kind == PROXY:
+        inside = two_bytes(node.record.page)
+    else:
+        inside = node.content + b"".join(node_bytes(child) for child in node.children)
+    return bytes([node.kind, 0]) + two_bytes(node.label) + two_bytes(HEADER + len(inside)) + inside
+
+
+def page_bytes(kind, settled, used, back):
+    end = bytes([kind, settled]) + two_bytes(len(used)) + two_bytes(back)
+    return used.ljust(CAPACITY, b"\0") + end.ljust(PAGE - CAPACITY, b"\0")
+
+
+def settings_bytes(settings):
+    return (two_bytes(settings.pages) + bytes([settings.target, 0]) + two_bytes(settings.tolerance)
+            + two_bytes(settings.form) + bytes(8) + settings.matrix)
+
+
+def proxies_under(node):
+    """The proxies of a record, from one of its nodes down."""
+    if node.kind == PROXY:
+        yield node
+    for child in node.children:
+        yield from proxies_under(child)
+
+
+def back_links(store):
+    links = {1: 0}
+    for record in store.records.values():
+        for proxy in proxies_under(record.root):
+            links[proxy.record.page] = record.page
+    return links
+
+
+def store_bytes(store):
+    image = bytearray(store.settings.pages * PAGE)
+    image[:PAGE] = page_bytes(SETTINGS, 0, settings_bytes(store.settings), 0)
+    links = back_links(store)
+    for number, record in store.records.items():
+        page = page_bytes(RECORD, int(record.settled), node_bytes(record.root), links[number])
+        image[number * PAGE:(number + 1) * PAGE] = page
+    return image
+
+
+# ---- The logical tree
+
+def list_entries(nodes, record, start, path, number, entries):
+    """Adds the list's logical nodes, numbered from `number`, with all under them; gives the number after the last."""
+    for node in nodes:
+        if node.kind == PROXY:
+            number = record_entries(node.record, path, number, entries)
+        else:
+            entry = Entry(path + (number,), node, record, start)
+            entries.append(entry)
+            entry.children = list_entries(node.children, record, start + HEADER, entry.path, 0, entries)
+            number += 1
+        start += size(node)
+    return number
+
+
+def record_entries(record, path, number, entries):
+    if record.root.kind == HELPER:
+        return list_entries(record.root.children, record, HEADER, path, number, entries)
+    return list_entries([record.root], record, 0, path, number, entries)
+
+
+def document_order(store):
+    """Every node of the logical tree, as entries."""
+    entries = []
+    record_entries(store.records[1], (), 0, entries)
+    for entry in entries:
+        entry.path = entry.path[1:]                   # the root's path is empty
+    return entries
+
+
+def children_shown(nodes, record):
+    """For each logical node of a list: the list, the position and the record of the node itself, or, if it is a
+    record's root, of its proxy."""
+    for at, node in enumerate(nodes):
+        if node.kind == PROXY and node.record.root.kind == HELPER:
+            yield from children_shown(node.record.root.children, node.record)
+        else:
+            yield nodes, at, record
+
+
+# ---- Growth
+
+def free_page(store, start):
+    """The first free page counting up from `start`, page 2 following the last."""
+    for page in list(range(start, store.settings.pages)) + list(range(2, start)):
+        if page not in store.records:
+            return page
+    raise Refused(FULL)
+
+
+def new_record(store, start, settled, root):
+    """Places a record; gives the proxy to it."""
+    record = Record(free_page(store, start), settled, root)
+    store.records[record.page] = record
+    return Node(PROXY, record=record)
+
+
+def is_apart(settings, parent, child):
+    entry = CLASSES * min(parent.label, CLASSES - 1) + min(child.label, CLASSES - 1)
+    return settings.matrix[entry] == APART
+
+
+def choose(nodes, start, point):
+    """The number and the start of the last node starting at or before the point, or of the first node; `start` is that
+    of the first."""
+    chosen, chosen_start = 0, start
+    for number, node in enumerate(nodes):
+        if start <= point:
+            chosen, chosen_start = number, start
+        start += size(node)
+    return chosen, chosen_start
+
+
+def split_point(root, settings):
+    """Step 3: the child numbers of the path from the root down to d, and the start of d minus p."""
+    point = settings.target * size(root) // 256
+    node, start, way = root, 0, []
+    while True:
+        number, start = choose(node.children, start + HEADER, point)
+        way.append(number)
+        node = node.children[number]
+        if not node.children or size(node) < settings.tolerance:
+            return way, start - point
+
+
+def separate(store, start, node, way):
+    """Step 4 from a separator node down; records are placed in document order."""
+    at, deeper = way[0], way[1:]
+    left = group_placed(store, start, node.children[:at])
+    middle, right = [], node.children[at:]
+    if deeper:
+        middle, right = right[:1], right[1:]
+        separate(store, start, middle[0], deeper)
+    node.children = left + middle + group_placed(store, start, right)
+
+
+def group_placed(store, start, group):
+    if not group or (len(group) == 1 and group[0].kind == PROXY):
+        return group
+    return [new_record(store, start, False, group[0] if len(group) == 1 else Node(HELPER, children=group))]
+
+
+def proxy_position(store, record):
+    """The list, the position and the record in which the proxy to a record stands."""
+    def look(node):
+        for at, child in enumerate(node.children):
+            if child.record is record:
+                return node.children, at
+            found = look(child)
+            if found:
+                return found
+        return None
+
+    for holder in store.records.values():
+        found = look(holder.root)
+        if found:
+            return found + (holder,)
+    raise AssertionError("a record without a proxy")
+
+
+def split(store, record):
+    """Steps 4 to 6 for one record; gives the lean and the holding record, or None if the record is settled."""
+    way, lean = split_point(record.root, store.settings)
+    if record.settled:
+        separate(store, record.page, record.root, way)
+        return lean, None
+    del store.records[record.page]
+    separate(store, record.page, record.root, way)
+    record_row = record.root.children if record.root.kind == HELPER else [record.root]
+    siblings, at, holder = proxy_position(store, record)
+    siblings[at:at + 1] = record_row
+    return lean, holder
+
+
+def grow(store, parent, child, node):
+    """Puts the node in as the child of that number of an entry; gives the number of splits and the first lean."""
+    siblings, at, record = parent.node.children, 0, parent.record
+    if child > 0:
+        siblings, at, record = list(children_shown(parent.node.children, parent.record))[child - 1]
+        at += 1
+    if is_apart(store.settings, parent.node, node):
+        node = new_record(store, record.page, True, node)
+    siblings.insert(at, node)
+    leans = []
+    while record is not None and size(record.root) > CAPACITY:
+        lean, record = split(store, record)
+        leans.append(lean)
+    return len(leans), leans[0] if leans else 0
+
+
+# ---- Calls
+
+def answered(call):
+    """Makes a refusal the answer: its number alone."""
+    def run(*arguments):
+        try:
+            return call(*arguments)
+        except Refused as refusal:
+            return (refusal.number,)
+    run.__doc__ = call.__doc__
+    return run
+
+
+def path_entries(path):
+    require(len(path) % 4 == 0, ABSENT)
+    return tuple(int.from_bytes(path[at:at + 4], "little") for at in range(0, len(path), 4))
+
+
+def entry_of_path(entries, path):
+    wanted = path_entries(path)
+    for entry in entries:
+        if entry.path == wanted:
+            return entry
+    raise Refused(ABSENT)
+
+
+def number_of_place(entries, page, offset):
+    for number, entry in enumerate(entries):
+        if entry.place() == (page, offset):
+            return number
+    raise Refused(STRAY)
+
+
+@answered
+def format_image(image, pages, target, tolerance, form, matrix, label):
+    """Gives (number)."""
+    own, rest = divmod(len(image), PAGE)
+    require(rest == 0 and 2 <= own <= PAGES, MISFIT)
+    settings = Settings(pages, target, tolerance, form, matrix)
+    require(settings_in_range(settings, own), BAD_SETTINGS)
+    image[:] = store_bytes(Store(settings, {1: Record(1, True, Node(AGGREGATE, label))}))
+    return (0,)
+
+
+@answered
+def check(image):
+    """Gives (number)."""
+    read_store(image)
+    return (0,)
+
+
+@answered
+def insert(image, path, child, kind, label, content):
+    """Gives (number, page, offset, splits, lean)."""
+    store = read_store(image)
+    require(len(path) <= 4 * (LEVELS - 2), LEVEL)
+    require(kind == LITERAL or (kind == AGGREGATE and not content), BAD_KIND)
+    require(len(content) <= CONTENT, LONG)
+    parent = entry_of_path(document_order(store), path)
+    require(parent.node.kind == AGGREGATE, CLOSED)
+    require(child <= parent.children, GAP)
+    node = Node(kind, label, content)
+    splits, lean = grow(store, parent, child, node)
+    image[:] = store_bytes(store)
+    place = [entry.place() for entry in document_order(store) if entry.node is node][0]
+    return (0,) + place + (splits, lean)
+
+
+@answered
+def find(image, path):
+    """Gives (number, page, offset)."""
+    store = read_store(image)
+    require(len(path) <= 4 * (LEVELS - 1), LEVEL)
+    return (0,) + entry_of_path(document_order(store), path).place()
+
+
+@answered
+def climb(image, page, offset, buffer):
+    """Gives (number, bytes written)."""
+    entries = document_order(read_store(image))
+    entry = entries[number_of_place(entries, page, offset)]
+    path = b"".join(number.to_bytes(4, "little") for number in entry.path)
+    require(len(path) <= len(buffer), SHORT)
+    buffer[:len(path)] = path
+    return (0, len(path))
+
+
+@answered
+def read(image, page, offset):
+    """Gives (number, kind, label, children, content, its start in the image)."""
+    entries = document_order(read_store(image))
+    entry = entries[number_of_place(entries, page, offset)]
+    start = page * PAGE + offset + HEADER if entry.node.content else 0
+    return (0, entry.node.kind, entry.node.label, entry.children, entry.node.content, start)
+
+
+@answered
+def next_node(image, page, offset):
+    """Gives (number, 1 or 0 for the end, page, offset, kind)."""
+    entries = document_order(read_store(image))
+    following = entries[number_of_place(entries, page, offset) + 1:]
+    if not following:
+        return (0, 0, 0, 0, 0)
+    return (0, 1) + following[0].place() + (following[0].node.kind,)
+
+
+@answered
+def records(image, buffer):
+    """Gives (number, bytes written); the pages are in ascending order."""
+    pages = sorted(read_store(image).records)
+    require(2 * len(pages) <= len(buffer), SHORT)
+    buffer[:2 * len(pages)] = b"".join(two_bytes(page) for page in pages)
+    return (0, 2 * len(pages))
+
+
+def listing(image):
+    """The text that the listing program prints."""
+    if len(image) > 15 * PAGE:
+        return "over 15 pages\n"
+    try:
+        store = read_store(image)
+    except Refused as refusal:
+        return "refused %d\n" % refusal.number
+    pages, count = store.settings.pages, len(store.records)
+    lines = ["pages %d free %d records %d" % (pages, pages - 1 - count, count)]
+    for entry in document_order(store):
+        kind = "A" if entry.node.kind == AGGREGATE else "L"
+        lines.append("%d %s %d %s" % (len(entry.path) + 1, kind, entry.node.label, entry.node.content.hex() or "-"))
+    return "\n".join(lines) + "\n"
+
+
+# ---- Replay of call scripts
+
+def from_hex(text):
+    return b"" if text == "-" else bytes.fromhex(text)
+
+
+def to_hex(content):
+    return bytes(content).hex() or "-"
+
+
+def filled(answer, fields):
+    """The answer's fields as a script writes them; a refusal is followed by zeros."""
+    return answer if len(answer) > 1 or fields == 1 else answer + (0,) * (fields - 1)
+
+
+def with_buffer(call, image, arguments, room):
+    buffer = bytearray(b"\xa7" * room)
+    return filled(call(image, *arguments, buffer), 2) + (to_hex(buffer),)
+
+
+def run_format(image, a):
+    return format_image(image, int(a[0]), int(a[1]), int(a[2]), int(a[3]), from_hex(a[4]), int(a[5]))
+
+
+def run_check(image, a):
+    return check(image)
+
+
+def run_insert(image, a):
+    return filled(insert(image, from_hex(a[0]), int(a[1]), int(a[2]), int(a[4]), from_hex(a[5])), 5)
+
+
+def run_find(image, a):
+    return filled(find(image, from_hex(a[0])), 3)
+
+
+def run_climb(image, a):
+    return with_buffer(climb, image, (int(a[0]), int(a[1])), int(a[2]))
+
+
+def run_read(image, a):
+    answer = read(image, int(a[0]), int(a[1]))
+    number, kind, label, children, content, start = answer if len(answer) > 1 else answer + (0, 0, 0, b"", 0)
+    return (number, kind, label, 0, children, to_hex(content), start)
+
+
+def run_next(image, a):
+    return filled(next_node(image, int(a[0]), int(a[1])), 5) + (0,)
+
+
+def run_records(image, a):
+    return with_buffer(records, image, (), int(a[0]))
+
+
+def run_listing(image, a):
+    return (listing(image).encode().hex(),)
+
+
+RUNS = {"format": run_format, "check": run_check, "insert": run_insert, "find": run_find, "climb": run_climb,
+        "read": run_read, "next": run_next, "records": run_records, "listing": run_listing}
+
+
+def checksum(image):
+    return "%08x" % zlib.crc32(image)
+
+
+def replay(lines):
+    """Runs a script. For each call and each C line gives (line number, line, expected, found, image)."""
+    image, kept = bytearray(), bytearray()
+    call = None
+    for number, line in enumerate(lines, 1):
+        line = line.rstrip("\n")
+        word, *rest = line.split(" ")
+        if word == "V":
+            require(rest[:2] == ["1", "0"], BROKEN)
+        elif word == "I":
+            image = bytearray(int(rest[0]))
+        elif word == "B":
+            put = from_hex(rest[1])
+            image[int(rest[0]):int(rest[0]) + len(put)] = put
+        elif word == "C":
+            yield number, line, rest, [checksum(image)], image
+        elif word == "S":
+            kept = bytearray(image)
+        elif word == "R":
+            image = bytearray(kept)
+        elif word == "=":
+            answer = RUNS[call[0]](image, call[1])
+            yield number, " ".join([call[0]] + call[1]), rest, [str(field) for field in answer] + [checksum(image)], image
+        elif word in RUNS:
+            call = (word, rest)
+        elif word != "#" and line:
+            raise ValueError("line %d: %s" % (number, word))
+
+
+def replay_file(name):
+    calls = differences = 0
+    with open(name, encoding="ascii") as script:
+        for number, line, expected, found, _ in replay(script):
+            calls += not line.startswith("C ")
+            if expected != found:
+                differences += 1
+                print("%s line %d: %.200s" % (name, number, line))
+                print("  expected %.200s" % " ".join(expected))
+                print("  found    %.200s" % " ".join(found))
+    print("%s: %d calls, %d differences" % (name, calls, differences))
+    return differences
+
+
+def main(names):
+    return 1 if sum([replay_file(name) for name in names]) else 0
+
+
+if __name__ == "__main__":
+    sys.exit(main(sys.argv[1:]))
