@@ -9,10 +9,10 @@ use borrow.Author.Tests.{ltb-true, ltb-false, leb-true, leb-false}
 use lib.ListN.{length, getD}
 use lib.IntN.{ℤ, pos, negsuc, subℕ}
 use lib.Dec.{leb, ltb, eqb, T}
-use Rattle.model.specs.Row.{Row, nil, agg, lit, rec, _⊕_, size, isNil, lone, loneRec, base, recordSize, Config, height, nodeCount}
+use Rattle.model.specs.Row.{Row, nil, agg, lit, rec, _⊹_, size, isNil, lone, loneRec, base, recordSize, Config, height, nodeCount}
 use Rattle.laws.specs.Fits.{Ranges, Fits, RecordFits, Shape, one, more}
 use Rattle.model.specs.Growth.{Work, Out, onRow, group, twoGroups, separate, goOn, stops, startOf, startOfD, rootRow, withRow, splitPoint, separator}
-use Rattle.laws.specs.Laws.{size-⊕, cond-case, isNil-nil}
+use Rattle.laws.specs.Laws.{size-⊹, cond-case, isNil-nil}
 
 -- ── the tests of step 3 ──
 
@@ -116,11 +116,11 @@ group-shape (rec p s r (agg l₁ x y)) e = more (rec p s r (agg l₁ x y)) (omeg
 group-shape (rec p s r (lit l₁ x y)) e = more (rec p s r (lit l₁ x y)) (omega arith)
 group-shape (rec p s r (rec q s₁ x y)) e = more (rec p s r (rec q s₁ x y)) (omega arith)
 
-pub Fits-⊕ : (a b : Row) → Fits a → Fits b → Fits (a ⊕ b)
-Fits-⊕ nil b f g = g
-Fits-⊕ (agg l cs rest) b f g = (f .0, f .1, Fits-⊕ rest b (f .2) g)
-Fits-⊕ (lit l c rest) b f g = (f .0, f .1, f .2, Fits-⊕ rest b (f .3) g)
-Fits-⊕ (rec p s r rest) b f g = (f .0, f .1, Fits-⊕ rest b (f .2) g)
+pub Fits-⊹ : (a b : Row) → Fits a → Fits b → Fits (a ⊹ b)
+Fits-⊹ nil b f g = g
+Fits-⊹ (agg l cs rest) b f g = (f .0, f .1, Fits-⊹ rest b (f .2) g)
+Fits-⊹ (lit l c rest) b f g = (f .0, f .1, f .2, Fits-⊹ rest b (f .3) g)
+Fits-⊹ (rec p s r rest) b f g = (f .0, f .1, Fits-⊹ rest b (f .2) g)
 
 module _ (st : Config) (near : ℕ) where
   pub group-fits : (g : Row) (w : Work) → Fits g → size g + 6 ≤ 4080 → Fits (group st near g w .0)
@@ -146,11 +146,11 @@ module _ (st : Config) (near : ℕ) where
   module _ (p : ℕ) where
     two-fits : (a b : Row) (w : Work) → Fits a → Fits b → size a + 6 ≤ 4080 → size b + 6 ≤ 4080 → Fits (twoGroups st near p a b w .0)
     unfolding twoGroups
-    two-fits a b w f g h k = Fits-⊕ (group st near a w .0) (group st near b (group st near a w .1) .0) (group-fits a w f h) (group-fits b (group st near a w .1) g k)
+    two-fits a b w f g h k = Fits-⊹ (group st near a w .0) (group st near b (group st near a w .1) .0) (group-fits a w f h) (group-fits b (group st near a w .1) g k)
 
     two-size : (a b : Row) (w : Work) → size (twoGroups st near p a b w .0) ≤ 16
     unfolding twoGroups
-    two-size a b w = rw size-⊕ (omega (arith, group-size a w, group-size b (group st near a w .1)))
+    two-size a b w = rw size-⊹ (omega (arith, group-size a w, group-size b (group st near a w .1)))
 
     -- the separator, without the root's header
     pub separate-size : (at : ℕ) (left row : Row) (w : Work) → isNil row ≡ false → size (separate st near p at left row w .0) + 6 ≤ 22 * depth row
@@ -158,28 +158,28 @@ module _ (st : Config) (near : ℕ) where
     separate-size at left nil w e = absurd (true≢false e)
     separate-size at left (agg l cs rest) w e =
         cond-case (λ (o : Out). size (o .0) + 6 ≤ 22 * depth (agg l cs rest)) (goOn st p at (6 + size cs) rest)
-        (λ e. omega (arith, separate-size (at + (6 + size cs)) (left ⊕ agg l cs nil) rest w (goOn-more st p at (6 + size cs) rest e)))
+        (λ e. omega (arith, separate-size (at + (6 + size cs)) (left ⊹ agg l cs nil) rest w (goOn-more st p at (6 + size cs) rest e)))
         (λ e. cond-case (λ (o : Out). size (o .0) + 6 ≤ 22 * depth (agg l cs rest)) (stops st cs)
         (λ g. omega (arith, two-size left (agg l cs rest) w))
         (λ g.
         let a = group st near left w in
         let b = separate st near p (at + 6) nil cs (a .1) in
-        rw (size-⊕ (a .0) (agg l (b .0) (group st near rest (b .1) .0)))
+        rw (size-⊹ (a .0) (agg l (b .0) (group st near rest (b .1) .0)))
         (omega (arith, group-size left w, group-size rest (b .1), separate-size (at + 6) nil cs (a .1) (stops-false st cs g)))))
     separate-size at left (lit l c rest) w e =
         cond-case (λ (o : Out). size (o .0) + 6 ≤ 22 * depth (lit l c rest)) (goOn st p at (6 + length c) rest)
-        (λ e. omega (arith, separate-size (at + (6 + length c)) (left ⊕ lit l c nil) rest w (goOn-more st p at (6 + length c) rest e)))
+        (λ e. omega (arith, separate-size (at + (6 + length c)) (left ⊹ lit l c nil) rest w (goOn-more st p at (6 + length c) rest e)))
         (λ e. omega (arith, two-size left (lit l c rest) w))
     separate-size at left (rec q s r rest) w e =
         cond-case (λ (o : Out). size (o .0) + 6 ≤ 22 * depth (rec q s r rest)) (goOn st p at 8 rest)
-        (λ e. omega (arith, separate-size (at + 8) (left ⊕ rec q s r nil) rest w (goOn-more st p at 8 rest e)))
+        (λ e. omega (arith, separate-size (at + 8) (left ⊹ rec q s r nil) rest w (goOn-more st p at 8 rest e)))
         (λ e. omega (arith, two-size left (rec q s r rest) w))
 
-pub isNil-⊕ : (a b : Row) → isNil b ≡ false → isNil (a ⊕ b) ≡ false
-isNil-⊕ nil b e = e
-isNil-⊕ (agg l cs rest) b e = refl
-isNil-⊕ (lit l c rest) b e = refl
-isNil-⊕ (rec p s r rest) b e = refl
+pub isNil-⊹ : (a b : Row) → isNil b ≡ false → isNil (a ⊹ b) ≡ false
+isNil-⊹ nil b e = e
+isNil-⊹ (agg l cs rest) b e = refl
+isNil-⊹ (lit l c rest) b e = refl
+isNil-⊹ (rec p s r rest) b e = refl
 
 -- A separator is not empty.
 module _ (st : Config) (near p : ℕ) where
@@ -189,24 +189,24 @@ module _ (st : Config) (near p : ℕ) where
 
   two-some : (a b : Row) (w : Work) → isNil b ≡ false → isNil (twoGroups st near p a b w .0) ≡ false
   unfolding twoGroups
-  two-some a b w h = isNil-⊕ (group st near a w .0) (group st near b (group st near a w .1) .0) (group-some b (group st near a w .1) h)
+  two-some a b w h = isNil-⊹ (group st near a w .0) (group st near b (group st near a w .1) .0) (group-some b (group st near a w .1) h)
 
   separate-some : (at : ℕ) (left row : Row) (w : Work) → isNil row ≡ false → isNil (separate st near p at left row w .0) ≡ false
   unfolding separate
   separate-some at left nil w h = absurd (true≢false h)
   separate-some at left (agg l cs rest) w h =
       cond-case (λ (o : Out). isNil (o .0) ≡ false) (goOn st p at (6 + size cs) rest)
-      (λ e. separate-some (at + (6 + size cs)) (left ⊕ agg l cs nil) rest w (goOn-more st p at (6 + size cs) rest e))
+      (λ e. separate-some (at + (6 + size cs)) (left ⊹ agg l cs nil) rest w (goOn-more st p at (6 + size cs) rest e))
       (λ e. cond-case (λ (o : Out). isNil (o .0) ≡ false) (stops st cs)
       (λ g. two-some left (agg l cs rest) w refl)
-      (λ g. isNil-⊕ (group st near left w .0) _ refl))
+      (λ g. isNil-⊹ (group st near left w .0) _ refl))
   separate-some at left (lit l c rest) w h =
       cond-case (λ (o : Out). isNil (o .0) ≡ false) (goOn st p at (6 + length c) rest)
-      (λ e. separate-some (at + (6 + length c)) (left ⊕ lit l c nil) rest w (goOn-more st p at (6 + length c) rest e))
+      (λ e. separate-some (at + (6 + length c)) (left ⊹ lit l c nil) rest w (goOn-more st p at (6 + length c) rest e))
       (λ e. two-some left (lit l c rest) w refl)
   separate-some at left (rec q s r rest) w h =
       cond-case (λ (o : Out). isNil (o .0) ≡ false) (goOn st p at 8 rest)
-      (λ e. separate-some (at + 8) (left ⊕ rec q s r nil) rest w (goOn-more st p at 8 rest e))
+      (λ e. separate-some (at + 8) (left ⊹ rec q s r nil) rest w (goOn-more st p at 8 rest e))
       (λ e. two-some left (rec q s r rest) w refl)
 
 -- Every record that a split makes fits: S is the size of the record that is split.
@@ -219,8 +219,8 @@ module _ (st : Config) (near p S : ℕ) (tol : st .tolerance ≤ 512) (left-room
       cond-case (λ (o : Out). Fits (o .0)) (goOn st p at (6 + size cs) rest)
       (λ e.
       let t = goOn-true st p at (6 + size cs) rest e in
-      let z = size-⊕ left (agg l cs nil) in
-      separate-fits (at + (6 + size cs)) (left ⊕ agg l cs nil) rest w (Fits-⊕ left (agg l cs nil) f (g .0, g .1, tt)) (g .2)
+      let z = size-⊹ left (agg l cs nil) in
+      separate-fits (at + (6 + size cs)) (left ⊹ agg l cs nil) rest w (Fits-⊹ left (agg l cs nil) f (g .0, g .1, tt)) (g .2)
       (omega arith) (omega arith) (omega arith) (omega arith))
       (λ e.
       let t = goOn-false st p at (6 + size cs) rest e (omega arith) in
@@ -231,7 +231,7 @@ module _ (st : Config) (near p S : ℕ) (tol : st .tolerance ≤ 512) (left-room
       (λ i.
       let x = group st near left w in
       let y = separate st near p (at + 6) nil cs (x .1) in
-      Fits-⊕ (x .0) (agg l (y .0) (group st near rest (y .1) .0)) (group-fits st near left w f (omega arith)) (
+      Fits-⊹ (x .0) (agg l (y .0) (group st near rest (y .1) .0)) (group-fits st near left w f (omega arith)) (
         g .0,
         separate-fits (at + 6) nil cs (x .1) tt (g .1) (omega arith) (omega arith) (omega arith) (omega arith),
         group-fits st near rest (y .1) (g .2) (omega arith),
@@ -240,8 +240,8 @@ module _ (st : Config) (near p S : ℕ) (tol : st .tolerance ≤ 512) (left-room
       cond-case (λ (o : Out). Fits (o .0)) (goOn st p at (6 + length c₁) rest)
       (λ e.
       let t = goOn-true st p at (6 + length c₁) rest e in
-      let z = size-⊕ left (lit l c₁ nil) in
-      separate-fits (at + (6 + length c₁)) (left ⊕ lit l c₁ nil) rest w (Fits-⊕ left (lit l c₁ nil) f (g .0, g .1, g .2, tt)) (g .3)
+      let z = size-⊹ left (lit l c₁ nil) in
+      separate-fits (at + (6 + length c₁)) (left ⊹ lit l c₁ nil) rest w (Fits-⊹ left (lit l c₁ nil) f (g .0, g .1, g .2, tt)) (g .3)
       (omega arith) (omega arith) (omega arith) (omega arith))
       (λ e.
       let t = goOn-false st p at (6 + length c₁) rest e (omega arith) in
@@ -250,8 +250,8 @@ module _ (st : Config) (near p S : ℕ) (tol : st .tolerance ≤ 512) (left-room
       cond-case (λ (o : Out). Fits (o .0)) (goOn st p at 8 rest)
       (λ e.
       let t = goOn-true st p at 8 rest e in
-      let z = size-⊕ left (rec q s r nil) in
-      separate-fits (at + 8) (left ⊕ rec q s r nil) rest w (Fits-⊕ left (rec q s r nil) f (g .0, g .1, tt)) (g .2)
+      let z = size-⊹ left (rec q s r nil) in
+      separate-fits (at + 8) (left ⊹ rec q s r nil) rest w (Fits-⊹ left (rec q s r nil) f (g .0, g .1, tt)) (g .2)
       (omega arith) (omega arith) (omega arith) (omega arith))
       (λ e.
       let t = goOn-false st p at 8 rest e (omega arith) in

@@ -74,7 +74,7 @@ length-record r = go (lone r)
 pub length-recordPage : (h : Held) → recordSize (h .row) ≤ 4080 → length (recordPage h) ≡ 4096
 length-recordPage h f = simp (length-append, length-replicate, length-record) (omega arith)
 
-abbrev AllFit : List Held → Type 0
+abbrev pub AllFit : List Held → Type 0
 AllFit [] = Unit {0}
 AllFit (h ∷ hs) = (recordSize (h .row) ≤ 4080) × AllFit hs
 
@@ -82,13 +82,13 @@ allFit-++ : (a b : List Held) → AllFit a → AllFit b → AllFit (a ++ b)
 allFit-++ [] b f g = g
 allFit-++ (h ∷ a) b f g = (f .0, allFit-++ a b (f .1) g)
 
-fits-records : (h : ℕ) (r : Row) → Fits r → AllFit (records h r)
+pub fits-records : (h : ℕ) (r : Row) → Fits r → AllFit (records h r)
 fits-records h nil f = tt
 fits-records h (agg l cs rest) f = allFit-++ (records h cs) (records h rest) (fits-records h cs (f .1)) (fits-records h rest (f .2))
 fits-records h (lit l c rest) f = fits-records h rest (f .3)
 fits-records h (rec p s r rest) f = (f .0 .fits, allFit-++ (records p r) (records h rest) (fits-records p r (f .1)) (fits-records h rest (f .2)))
 
-length-pageAt : (hs : List Held) → AllFit hs → (q : ℕ) → length (pageAt hs q) ≡ 4096
+pub length-pageAt : (hs : List Held) → AllFit hs → (q : ℕ) → length (pageAt hs q) ≡ 4096
 length-pageAt [] f q = length-replicate {A = ℕ} 4096 0
 length-pageAt (h ∷ hs) f q = cond-case (λ (l : List ℕ). length l ≡ 4096) (eqb q (h .page)) (λ _. length-recordPage h (f .0)) (λ _. length-pageAt hs (f .1) q)
 
@@ -106,7 +106,7 @@ pub length-settings : (st : Config) → length (st .matrix) ≡ 256 → length (
 length-settings st m = simp (length-append, length-replicate, m)
 
 module _ (st : Config) (root : Row) (v : Valid st root) where
-  all-fit : AllFit (records 0 (store root))
+  pub all-fit : AllFit (records 0 (store root))
   all-fit = fits-records 0 (store root) (v .rows)
 
   pub image-page : (q : ℕ) → 1 ≤ q → q < st .pages → pageOf (image st root) q ≡ pageAt (records 0 (store root)) q

@@ -7,12 +7,12 @@ use native.Mathlib.Omega.{arith}
 use borrow.Author.Tests.{ltb-true, ltb-false, leb-true, leb-false}
 use lib.ListN.{length, getD}
 use lib.Dec.{leb, ltb, eqb, T}
-use Rattle.model.specs.Row.{Head, Row, nil, agg, lit, rec, _⊕_, size, isNil, lone, loneRec, base, recordSize, Config, nodeCount, height}
+use Rattle.model.specs.Row.{Head, Row, nil, agg, lit, rec, _⊹_, size, isNil, lone, loneRec, base, recordSize, Config, nodeCount, height}
 use Rattle.laws.specs.Fits.{Ranges, HeadFits, Fits, RecordFits, Shape, one, more, IsByte}
-use Rattle.model.specs.Tree.{Tree, end, branch, leaf, _⊎_, shown, width, breadth, New, newNode, putAt, insertAt}
+use Rattle.model.specs.Tree.{Tree, end, branch, leaf, _⊞_, shown, width, breadth, New, newNode, putAt, insertAt}
 use Rattle.model.specs.Growth.{Work, Out, onRow, group, twoGroups, separate, goOn, stops, startOf, startOfD, rootRow, withRow, splitPoint, separator, ownRecord, freeFrom, kept, close, counted, freed, asRow, place, apart, after, child, inserted, atRest, grow}
-use Rattle.laws.specs.Laws.{size-⊕, cond-case, isNil-nil, shown-after, shown-child, shown-inserted}
-use Rattle.laws.specs.Bound.{depth, SplitGood, split-good, Fits-⊕, isNil-⊕}
+use Rattle.laws.specs.Laws.{size-⊹, cond-case, isNil-nil, shown-after, shown-child, shown-inserted}
+use Rattle.laws.specs.Bound.{depth, SplitGood, split-good, Fits-⊹, isNil-⊹}
 
 -- ── levels ──
 
@@ -21,16 +21,16 @@ levels end = 0
 levels (branch l cs rest) = max (1 + levels cs) (levels rest)
 levels (leaf l c rest) = max 1 (levels rest)
 
-levels-⊎ : (a b : Tree) → levels (a ⊎ b) ≡ max (levels a) (levels b)
-levels-⊎ end b = omega arith
-levels-⊎ (branch l cs rest) b = rw (levels-⊎ rest b) (omega arith)
-levels-⊎ (leaf l c rest) b = rw (levels-⊎ rest b) (omega arith)
+levels-⊞ : (a b : Tree) → levels (a ⊞ b) ≡ max (levels a) (levels b)
+levels-⊞ end b = omega arith
+levels-⊞ (branch l cs rest) b = rw (levels-⊞ rest b) (omega arith)
+levels-⊞ (leaf l c rest) b = rw (levels-⊞ rest b) (omega arith)
 
 pub height-shown : (r : Row) → height r ≡ levels (shown r)
 height-shown nil = refl
 height-shown (agg l cs rest) = rw (height-shown cs, height-shown rest)
 height-shown (lit l c rest) = rw (height-shown rest)
-height-shown (rec p s r rest) = rw (levels-⊎ (shown r) (shown rest), height-shown r, height-shown rest)
+height-shown (rec p s r rest) = rw (levels-⊞ (shown r) (shown rest), height-shown r, height-shown rest)
 
 levels-new : (x : New) (t : Tree) → levels (newNode x t) ≡ max 1 (levels t)
 levels-new x t = cond-case (λ u. levels u ≡ max 1 (levels t)) (eqb (x .kind) 1) (λ _. omega arith) (λ _. refl)
@@ -80,11 +80,11 @@ depth-root st true (rec p s r rest) = omega arith
 
 -- ── the shape of a record's row ──
 
-nodeCount-⊕ : (a b : Row) → nodeCount (a ⊕ b) ≡ nodeCount a + nodeCount b
-nodeCount-⊕ nil b = omega arith
-nodeCount-⊕ (agg l cs rest) b = rw (nodeCount-⊕ rest b) (omega arith)
-nodeCount-⊕ (lit l c rest) b = rw (nodeCount-⊕ rest b) (omega arith)
-nodeCount-⊕ (rec p s r rest) b = rw (nodeCount-⊕ rest b) (omega arith)
+nodeCount-⊹ : (a b : Row) → nodeCount (a ⊹ b) ≡ nodeCount a + nodeCount b
+nodeCount-⊹ nil b = omega arith
+nodeCount-⊹ (agg l cs rest) b = rw (nodeCount-⊹ rest b) (omega arith)
+nodeCount-⊹ (lit l c rest) b = rw (nodeCount-⊹ rest b) (omega arith)
+nodeCount-⊹ (rec p s r rest) b = rw (nodeCount-⊹ rest b) (omega arith)
 
 nodeCount-some : (r : Row) → isNil r ≡ false → 1 ≤ nodeCount r
 nodeCount-some nil e = absurd (true≢false e)
@@ -162,9 +162,9 @@ module _ (st : Config) (k : Ranges st) where
       let b = split-good st k q (o .0) w f (leb-false (recordSize (o .0)) 4080 t) m h in
       let sep = separator st q (o .0) w .0 in
       record {
-        fits = Fits-⊕ sep rest (b .fits) g;
-        grown = omega (arith, size-⊕ sep rest, b .small);
-        keeps = omega (arith, nodeCount-⊕ sep rest, nodeCount-some sep (b .some));
+        fits = Fits-⊹ sep rest (b .fits) g;
+        grown = omega (arith, size-⊹ sep rest, b .small);
+        keeps = omega (arith, nodeCount-⊹ sep rest, nodeCount-some sep (b .some));
       })
 
   -- a record whose row grew, closed

@@ -7,16 +7,16 @@ use native.Mathlib.Omega.{arith}
 use borrow.Author.Tests.{ltb-true, ltb-false, leb-true, leb-false, eqb-true, eqb-false, lt-ltb}
 use lib.ListN.{length}
 use lib.Dec.{leb, ltb, eqb}
-use Rattle.model.specs.Row.{Head, Row, nil, agg, lit, rec, _⊕_, size, isNil, lone, loneRec, recordSize, count, outside, Config}
+use Rattle.model.specs.Row.{Head, Row, nil, agg, lit, rec, _⊹_, size, isNil, lone, loneRec, recordSize, count, outside, Config}
 use Rattle.model.specs.Tree.{width, New}
 use Rattle.model.specs.Growth.{Work, Out, onRow, mark, freeFrom, taken, ownRecord, group, twoGroups, separate, goOn, stops, rootRow, withRow, splitPoint, separator, kept, close, counted, freed, asRow, place, apart, after, child, inserted, atRest, grow}
 use Rattle.laws.specs.Laws.{cond-case}
 
-pub count-⊕ : (q : ℕ) (a b : Row) → count q (a ⊕ b) ≡ count q a + count q b
-count-⊕ q nil b = omega arith
-count-⊕ q (agg l cs rest) b = rw (count-⊕ q rest b) (omega arith)
-count-⊕ q (lit l c rest) b = count-⊕ q rest b
-count-⊕ q (rec p s r rest) b = rw (count-⊕ q rest b) (omega arith)
+pub count-⊹ : (q : ℕ) (a b : Row) → count q (a ⊹ b) ≡ count q a + count q b
+count-⊹ q nil b = omega arith
+count-⊹ q (agg l cs rest) b = rw (count-⊹ q rest b) (omega arith)
+count-⊹ q (lit l c rest) b = count-⊹ q rest b
+count-⊹ q (rec p s r rest) b = rw (count-⊹ q rest b) (omega arith)
 
 abbrev bit : Bool → ℕ
 bit b = cond b 1 0
@@ -85,14 +85,14 @@ module _ (st : Config) where
         let y = group st near b (x .1) in
         let u = tally-group (λ q. e q + count q b) a w (λ full q. omega (arith, t full q)) in
         let v = tally-group (λ q. e q + count q (x .0)) b (x .1) (λ full q. omega (arith, u full q)) in
-        λ full q. omega (arith, v full q, count-⊕ q (x .0) (y .0))
+        λ full q. omega (arith, v full q, count-⊹ q (x .0) (y .0))
 
     tally-separate : (e : ℕ → ℕ) (at : ℕ) (left row : Row) (w : Work) → Tally e (λ q. count q left + count q row) w → Tallies e (separate st near p at left row w)
     unfolding separate
     tally-separate e at left nil w t = tally-group e left w (λ full q. omega (arith, t full q))
     tally-separate e at left (agg l cs rest) w t =
         cond-case (Tallies e) (goOn st p at (6 + size cs) rest)
-        (λ _. tally-separate e (at + (6 + size cs)) (left ⊕ agg l cs nil) rest w (λ full q. omega (arith, t full q, count-⊕ q left (agg l cs nil))))
+        (λ _. tally-separate e (at + (6 + size cs)) (left ⊹ agg l cs nil) rest w (λ full q. omega (arith, t full q, count-⊹ q left (agg l cs nil))))
         (λ _. cond-case (Tallies e) (stops st cs)
         (λ _. tally-two e left (agg l cs rest) w t)
         (λ _.
@@ -102,14 +102,14 @@ module _ (st : Config) where
         let u = tally-group (λ q. e q + count q cs + count q rest) left w (λ full q. omega (arith, t full q)) in
         let v = tally-separate (λ q. e q + count q (a .0) + count q rest) (at + 6) nil cs (a .1) (λ full q. omega (arith, u full q)) in
         let x = tally-group (λ q. e q + count q (a .0) + count q (b .0)) rest (b .1) (λ full q. omega (arith, v full q)) in
-        λ full q. omega (arith, x full q, count-⊕ q (a .0) (agg l (b .0) (c .0)))))
+        λ full q. omega (arith, x full q, count-⊹ q (a .0) (agg l (b .0) (c .0)))))
     tally-separate e at left (lit l c rest) w t =
         cond-case (Tallies e) (goOn st p at (6 + length c) rest)
-        (λ _. tally-separate e (at + (6 + length c)) (left ⊕ lit l c nil) rest w (λ full q. omega (arith, t full q, count-⊕ q left (lit l c nil))))
+        (λ _. tally-separate e (at + (6 + length c)) (left ⊹ lit l c nil) rest w (λ full q. omega (arith, t full q, count-⊹ q left (lit l c nil))))
         (λ _. tally-two e left (lit l c rest) w t)
     tally-separate e at left (rec k s r rest) w t =
         cond-case (Tallies e) (goOn st p at 8 rest)
-        (λ _. tally-separate e (at + 8) (left ⊕ rec k s r nil) rest w (λ full q. omega (arith, t full q, count-⊕ q left (rec k s r nil))))
+        (λ _. tally-separate e (at + 8) (left ⊹ rec k s r nil) rest w (λ full q. omega (arith, t full q, count-⊹ q left (rec k s r nil))))
         (λ _. tally-two e left (rec k s r rest) w t)
 
   tally-separator : (e : ℕ → ℕ) (near : ℕ) (r : Row) (w : Work) → Tally e (names r) w → Tallies e (separator st near r w)
@@ -146,7 +146,7 @@ module _ (st : Config) where
       let w = freed st k (counted st (o .0) (o .1)) in
       let f = tally-freed e (λ q. count q (o .0) + count q rest) k (counted st (o .0) (o .1)) t in
       let u = tally-separator (λ q. e q + count q rest) k (o .0) w (λ full q. omega (arith, f full q)) in
-      λ full q. omega (arith, u full q, count-⊕ q (separator st k (o .0) w .0) rest))
+      λ full q. omega (arith, u full q, count-⊹ q (separator st k (o .0) w .0) rest))
 
   module _ (x : New) where
     count-asRow : (q : ℕ) (rest : Row) → count q (asRow st x rest) ≡ count q rest

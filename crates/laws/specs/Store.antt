@@ -20,7 +20,7 @@ pub record NewFits (x : New) : Type 0 where
   pub byte : IsByte (x .content)
 
 -- a settled record has one node
-settled-lone : (r : Row) → Shape true r → lone r ≡ true
+pub settled-lone : (r : Row) → Shape true r → lone r ≡ true
 settled-lone r (one e) = e
 
 abbrev isBranch : Tree → Bool

@@ -1,5 +1,6 @@
 -- The answers of the calls as values, and what document 01 calls them: numbers, and zeros where a call is refused.
 use mathlib.Core.List.{List, [], _∷_}
+use mathlib.Core.Bool.{Bool, cond}
 use Prim.Native.Nat.{ℕ}
 use lib.IntN.{ℤ, pos}
 use Rattle.model.specs.declared.Settings.{Settings}
@@ -26,6 +27,50 @@ kindNumber Literal = 2
 abbrev pub nextNumbers : Next → List ℕ
 nextNumbers (Node n) = 1 ∷ n .place .page ∷ n .place .offset ∷ kindNumber (n .kind) ∷ []
 nextNumbers End = 0 ∷ 0 ∷ 0 ∷ 0 ∷ []
+
+-- ── the refusal table ──
+
+-- In document 01's words: misfit, settings, broken, level, kind, long, absent, closed, gap, stray, short, full.
+abbrev pub wrongLength : ℕ
+wrongLength = 1
+
+abbrev pub wrongSettings : ℕ
+wrongSettings = 2
+
+abbrev pub notPassed : ℕ
+notPassed = 3
+
+abbrev pub longPath : ℕ
+longPath = 4
+
+abbrev pub wrongKind : ℕ
+wrongKind = 5
+
+abbrev pub longContent : ℕ
+longContent = 6
+
+abbrev pub noNode : ℕ
+noNode = 7
+
+abbrev pub literalParent : ℕ
+literalParent = 8
+
+abbrev pub pastChildren : ℕ
+pastChildren = 9
+
+abbrev pub noPlaceThere : ℕ
+noPlaceThere = 10
+
+abbrev pub shortBuffer : ℕ
+shortBuffer = 11
+
+abbrev pub noFreePage : ℕ
+noFreePage = 12
+
+-- The lowest number that applies, of tests in the order of the table; an accepted call has 0.
+abbrev pub lowest : List (ℕ × Bool) → ℕ
+lowest [] = 0
+lowest (t ∷ ts) = let r = lowest ts in cond (t .1) (t .0) r
 
 -- ── refused ──
 

@@ -7,7 +7,7 @@ use lib.ListN.{length, getD}
 use lib.Dec.{leb, ltb, eqb}
 use lib.IntN.{ℤ, pos, subℕ}
 use Rattle.model.specs.Limits.{capacity}
-use Rattle.model.specs.Row.{Head, Row, nil, agg, lit, rec, _⊕_, size, isNil, lone, loneRec, recordSize, count, outside, Config}
+use Rattle.model.specs.Row.{Head, Row, nil, agg, lit, rec, _⊹_, size, isNil, lone, loneRec, recordSize, count, outside, Config}
 use Rattle.model.specs.Tree.{width, New}
 
 -- What growth carries along: the pages that are not free, how many records were split, the lean of the first split,
@@ -17,6 +17,10 @@ pub record Work : Type 0 where
   pub splits : ℕ
   pub lean : ℤ
   pub full : Bool
+
+-- Nothing used, nothing split.
+abbrev pub noWork : Work
+noWork = record { used = λ q. false; splits = 0; lean = pos 0; full = false }
 
 abbrev pub Out : Type 0
 Out = Row × Work
@@ -82,25 +86,25 @@ module _ (st : Config) where
     twoGroups left right w =
         let a = group near left w in
         let b = group near right (a .1) in
-        (a .0 ⊕ b .0, b .1)
+        (a .0 ⊹ b .0, b .1)
 
     -- The children of a separator node, from the one at `at` on, those before it being `left`: the groups in document order.
     unfoldable pub separate : (at : ℕ) → (left row : Row) → Work → Out
     separate at left nil w = group near left w
     separate at left (agg h cs rest) w =
-        let on = separate (at + (6 + size cs)) (left ⊕ agg h cs nil) rest w in
+        let on = separate (at + (6 + size cs)) (left ⊹ agg h cs nil) rest w in
         let a = group near left w in
         let b = separate (at + 6) nil cs (a .1) in
         let c = group near rest (b .1) in
-        let down : Out = (a .0 ⊕ agg h (b .0) (c .0), c .1) in
+        let down : Out = (a .0 ⊹ agg h (b .0) (c .0), c .1) in
         let here = twoGroups left (agg h cs rest) w in
         cond (goOn p at (6 + size cs) rest) on (cond (stops cs) here down)
     separate at left (lit h c rest) w =
-        let on = separate (at + (6 + length c)) (left ⊕ lit h c nil) rest w in
+        let on = separate (at + (6 + length c)) (left ⊹ lit h c nil) rest w in
         let here = twoGroups left (lit h c rest) w in
         cond (goOn p at (6 + length c) rest) on here
     separate at left (rec q s r rest) w =
-        let on = separate (at + 8) (left ⊕ rec q s r nil) rest w in
+        let on = separate (at + 8) (left ⊹ rec q s r nil) rest w in
         let here = twoGroups left (rec q s r rest) w in
         cond (goOn p at 8 rest) on here
 
@@ -149,7 +153,7 @@ module _ (st : Config) where
   unfoldable pub close : (q : ℕ) → (settled : Bool) → (rest : Row) → Out → Out
   close q true rest o = onRow (λ r. rec q true r rest) (kept q o)
   close q false rest o =
-      let split = onRow (λ r. r ⊕ rest) (separator q (o .0) (freed q (counted (o .0) (o .1)))) in
+      let split = onRow (λ r. r ⊹ rest) (separator q (o .0) (freed q (counted (o .0) (o .1)))) in
       cond (leb (recordSize (o .0)) capacity) (onRow (λ r. rec q false r rest) o) split
 
   -- ── where the new node goes (steps 1 and 2) ──

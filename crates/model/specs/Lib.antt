@@ -4,6 +4,6 @@ pub mod Tree
 pub mod Growth
 pub mod Reading
 pub mod Answers
--- pub mod Calls
--- pub mod Plain
--- pub mod Claims
+pub mod Calls
+pub mod Plain
+pub mod Claims

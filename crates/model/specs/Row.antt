@@ -26,12 +26,12 @@ pub data Row : Type 0 where
 abbrev pub store : Row → Row
 store root = rec 1 true root nil
 
-infixr 66 _⊕_
-abbrev pub _⊕_ : Row → Row → Row
-nil ⊕ b = b
-agg h cs rest ⊕ b = agg h cs (rest ⊕ b)
-lit h c rest ⊕ b = lit h c (rest ⊕ b)
-rec p s r rest ⊕ b = rec p s r (rest ⊕ b)
+infixr 66 _⊹_
+abbrev pub _⊹_ : Row → Row → Row
+nil ⊹ b = b
+agg h cs rest ⊹ b = agg h cs (rest ⊹ b)
+lit h c rest ⊹ b = lit h c (rest ⊹ b)
+rec p s r rest ⊹ b = rec p s r (rest ⊹ b)
 
 -- The bytes that a row takes in its record: a header has 6, a proxy 8.
 abbrev pub size : Row → ℕ

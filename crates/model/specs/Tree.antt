@@ -16,18 +16,18 @@ pub data Tree : Type 0 where
   branch : (head : Head) → (children rest : Tree) → Tree
   leaf : (head : Head) → (content : List ℕ) → (rest : Tree) → Tree
 
-infixr 66 _⊎_
-abbrev pub _⊎_ : Tree → Tree → Tree
-end ⊎ b = b
-branch h cs rest ⊎ b = branch h cs (rest ⊎ b)
-leaf h c rest ⊎ b = leaf h c (rest ⊎ b)
+infixr 66 _⊞_
+abbrev pub _⊞_ : Tree → Tree → Tree
+end ⊞ b = b
+branch h cs rest ⊞ b = branch h cs (rest ⊞ b)
+leaf h c rest ⊞ b = leaf h c (rest ⊞ b)
 
 -- The tree shown: a proxy stands for what its record holds.
 abbrev pub shown : Row → Tree
 shown nil = end
 shown (agg h cs rest) = branch h (shown cs) (shown rest)
 shown (lit h c rest) = leaf h c (shown rest)
-shown (rec p s r rest) = shown r ⊎ shown rest
+shown (rec p s r rest) = shown r ⊞ shown rest
 
 -- The number of nodes of a row, not counting those below them.
 abbrev pub breadth : Tree → ℕ

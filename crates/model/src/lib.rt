@@ -14,11 +14,15 @@ pub struct Settings {
 impl Settings {
     // The bytes of a page, the most bytes of a record, the most levels of the tree.
     pub const PAGE: usize = 4096;
+
     pub const CAPACITY: usize = 4080;
+
     pub const LEVELS: usize = 24;
     // Further limits: pages of an image, content bytes of a literal, matrix entries.
     pub const PAGES: usize = 1024;
+
     pub const CONTENT: usize = 520;
+
     pub const ENTRIES: usize = 256;
     // The usual split matrix: free choice for every pair.
     pub const MATRIX: [u8; 256] = [2u8; 256];

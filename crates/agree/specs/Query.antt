@@ -1,0 +1,94 @@
+-- The calls that change nothing answer as the plain tree does.
+use mathlib.Core.Path.{_≡_, refl, sym, ap, ap₂, subst, _∙_}
+use mathlib.Core.Bool.{Bool, true, false, cond, false≢true, true≢false}
+use mathlib.Core.List.{List, [], _∷_, _++_, map}
+use mathlib.Core.Option.{Option, none, some, Option·map}
+use Prim.Native.Nat.{ℕ, zero, suc, _+_, _*_, _≤_, _<_}
+use native.Mathlib.Omega.{arith}
+use borrow.Author.Tests.{eqb-true, eqb-false}
+use lib.ListN.{length, take, drop, length-append}
+use lib.Dec.{ltb, eqb}
+use Rattle.model.specs.Row.{Row, Config, image}
+use Rattle.model.specs.Tree.{Tree, end, branch, leaf, shown, Node, nodes, named, placeOf, fromPlace}
+use Rattle.model.specs.Reading.{Reads}
+use Rattle.model.specs.Answers.{shortBuffer, writeRefused}
+use Rattle.model.specs.Calls.{holds, onStore, write, pageBytes, ReadValue, readIn, readFrom, asRead, findOf, climbOf, readOf, partOf, nextOf, recordPages, times, IsOrder, recordsOf}
+use Rattle.model.specs.Plain.{Query, check, find, climb, read, next, records, ask, Answer, checked, found, climbed, seen, following, listed, valueOf, queried, feedOf, plainQuery}
+use Rattle.model.specs.declared.Place.{Place}
+use Rattle.model.specs.declared.WriteAnswer.{WriteAnswer}
+use Rattle.laws.specs.Fits.{Valid}
+use Rattle.laws.specs.Laws.{cond-case}
+use Rattle.reads.specs.Reading.{reads-valid}
+use Rattle.places.specs.Member.{Mem}
+use Rattle.places.specs.Order.{one-root}
+use Rattle.places.specs.Named.{in-tree}
+use Rattle.places.specs.From.{from-stands}
+use Rattle.places.specs.Content.{content-at}
+use Rattle.agree.specs.Open.{opens, passes}
+use Rattle.agree.specs.Pieces.{literal-content, same-length}
+
+-- ── the content that Read hands over ──
+
+module _ (img : List ℕ) (st : Config) (root : Row) (r : Reads img st root) (x : Place) where
+  -- A node's content stands where its place says.
+  part : (n : Node) → Mem n (nodes (shown root)) → placeOf root (n .path) ≡ some x
+      → take (length (n .content)) (drop (cond (eqb (length (n .content)) 0) 0 (4096 * x .page + x .offset + 6)) img) ≡ n .content
+  part n m e = go (eqb (length (n .content)) 0) refl
+    where
+      none-there : (c : List ℕ) → length c ≡ 0 → c ≡ []
+      none-there [] z = refl
+      none-there (b ∷ c) z = absurd (omega arith)
+
+      go : (b : Bool) → eqb (length (n .content)) 0 ≡ b → take (length (n .content)) (drop (cond b 0 (4096 * x .page + x .offset + 6)) img) ≡ n .content
+      go true z = rw (none-there (n .content) (eqb-true _ _ z))
+      go false z =
+          let v = reads-valid img st root r in
+          let kind = literal-content (shown root) n m (λ k. eqb-false (length (n .content)) 0 z (ap length k)) in
+          rw (r .same) (content-at st root v (n .path) n x (in-tree (shown root) n (one-root st root v) m) e kind)
+
+  same-value : valueOf img (asRead x (readIn (shown root) (placeOf root) x)) ≡ readIn (shown root) (placeOf root) x
+  unfolding readIn
+  same-value = go (fromPlace (placeOf root) x (nodes (shown root))) refl
+    where
+      v : ReadValue → ReadValue
+      v a = valueOf img (asRead x a)
+
+      go : (ns : List Node) → fromPlace (placeOf root) x (nodes (shown root)) ≡ ns
+          → v (readFrom (shown root) (placeOf root) ns) ≡ readFrom (shown root) (placeOf root) ns
+      go [] e = refl
+      go (n ∷ ns) e =
+          let m = from-stands (placeOf root) x (nodes (shown root)) ns n e in
+          λ i. record { number = 0; kind = n .kind; label = n .head .label; children = n .children; content = part n (m .0) (m .1) i }
+
+-- ── the pages that Records writes ──
+
+length-pageBytes : (ps : List ℕ) → length (pageBytes ps) ≡ 2 * length ps
+length-pageBytes [] = refl
+length-pageBytes (p ∷ ps) = omega (arith, length-pageBytes ps)
+
+module _ (order : (img buffer : List ℕ) → List ℕ) (img : List ℕ) (st : Config) (root : Row) (r : Reads img st root)
+  (o : (buffer : List ℕ) → IsOrder root (order img buffer)) where
+
+  same-records : (buffer : List ℕ) → queried order img (records buffer) ≡ plainQuery (feedOf img (ask (records buffer))) (shown root) (records buffer)
+  unfolding recordsOf
+  same-records buffer =
+      let n : length (pageBytes (order img buffer)) ≡ 2 * length (recordPages root)
+          = length-pageBytes (order img buffer) ∙ ap (λ (k : ℕ). 2 * k) (same-length (order img buffer) (recordPages root) (o buffer)) in
+      rw (opens img st root r) (ap listed (go (pageBytes (order img buffer)) (2 * length (recordPages root)) n))
+    where
+      go : (b : List ℕ) (k : ℕ) → length b ≡ k → write b buffer .0 ≡ cond (ltb (length buffer) k) (writeRefused shortBuffer) (record { number = 0; written = k })
+      go b k e = subst (λ (m : ℕ). write b buffer .0 ≡ cond (ltb (length buffer) m) (writeRefused shortBuffer) (record { number = 0; written = m })) e (by (ltb (length buffer) (length b)))
+        where
+          by : (c : Bool) → cond {A = WriteAnswer × List ℕ} c (writeRefused shortBuffer, buffer) (record { number = 0; written = length b }, b ++ drop (length b) buffer) .0 ≡ cond c (writeRefused shortBuffer) (record { number = 0; written = length b })
+          by true = refl
+          by false = refl
+
+  -- The answer to a query is the plain tree's.
+  pub same-query : (q : Query) → queried order img q ≡ plainQuery (feedOf img (ask q)) (shown root) q
+  unfolding findOf climbOf readOf nextOf
+  same-query check = ap checked (passes img st root r)
+  same-query (find path) = rw (opens img st root r)
+  same-query (climb x buffer) = rw (opens img st root r)
+  same-query (read x) = rw (opens img st root r) (ap seen (same-value img st root r x))
+  same-query (next x) = rw (opens img st root r)
+  same-query (records buffer) = same-records buffer

@@ -1,0 +1,1 @@
+// The theorems about nodes, their paths and their places, in specs/.

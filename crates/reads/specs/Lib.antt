@@ -1,0 +1,5 @@
+pub mod Valid
+pub mod Length
+pub mod Steps
+pub mod Decode
+pub mod Reading

@@ -1,0 +1,1 @@
+// The theorems about reading an image, in specs/.

@@ -1,0 +1,120 @@
+-- The starred lines of the bench sheet: calls on image bytes, computed from the definitions.
+use mathlib.Core.Path.{_≡_, refl}
+use mathlib.Core.Bool.{cond}
+use mathlib.Core.List.{List, [], _∷_, _++_}
+use mathlib.Core.Option.{Option, none, some}
+use Prim.Native.Nat.{ℕ, zero, suc, _+_, _*_}
+use lib.ListN.{length, take, drop, replicate}
+use lib.IntN.{ℤ, pos, negsuc}
+use Rattle.model.specs.Row.{Row, nil, agg, lit, _⊹_, header, bytes, image, inRange, valid}
+use Rattle.model.specs.Tree.{placeAt}
+use Rattle.model.specs.Growth.{grow, inserted, after, kept, close, separator, separate, group, twoGroups, freeFrom, startOf, startOfD, splitPoint}
+use Rattle.model.specs.Reading.{lengthOk, twoAt, pageOf, nodesIn, sameBytes, reading}
+use Rattle.model.specs.Answers.{usualSettings, noPlace, findRefused, insertRefused}
+use Rattle.model.specs.Calls.{config, insertNumber, findIn, formatNumber, opened, formatOf, insertOf, findOf}
+use Rattle.model.specs.declared.InsertAnswer.{InsertAnswer}
+
+-- An image of n pages with the usual settings, formatted with root label 7.
+abbrev fresh : (pages : ℕ) → List ℕ
+fresh n = formatOf (replicate (4096 * n) 0) (usualSettings n) (replicate 256 2) 7 .1
+
+-- A literal of n zero bytes put in at child k of the root: the answer, and the image after it.
+abbrev put : (img : List ℕ) → (k n : ℕ) → InsertAnswer × List ℕ
+put img k n = insertOf img [] k 2 9 (replicate n 0)
+
+-- So many literals of 520 bytes put in from child k on.
+abbrev filled : (count k : ℕ) → (img : List ℕ) → List ℕ
+filled zero k img = img
+filled (suc n) k img = filled n (suc k) (put img k 520 .1)
+
+-- The length used of a page, and its first bytes.
+abbrev used : (img : List ℕ) → (page : ℕ) → ℕ
+used img q = twoAt (pageOf img q) 4082
+
+abbrev answer : (page offset splits : ℕ) → (lean : ℤ) → InsertAnswer
+answer p o s l = record { number = 0; place = record { page = p; offset = o }; splits = s; lean = l }
+
+-- The listing's image.
+abbrev listing : List ℕ
+listing = insertOf (insertOf (fresh 3) [] 0 2 9 (0x41 ∷ 0x42 ∷ []) .1) [] 0 1 300 [] .1
+
+-- Seven literals of 520 bytes in five pages, and eight of them.
+abbrev seven : List ℕ
+seven = filled 7 0 (fresh 5)
+
+abbrev eight : InsertAnswer × List ℕ
+eight = put seven 7 520
+
+-- The root record of seven literals of 520 bytes and one of n, as a row.
+abbrev lits : ℕ → Row
+lits zero = nil
+lits (suc n) = lit (record { label = 9 }) (replicate 520 0) (lits n)
+
+abbrev withLast : ℕ → Row
+withLast n = agg (record { label = 7 }) (lits 7 ⊹ lit (record { label = 9 }) (replicate n 0) nil) nil
+
+-- n aggregates, each the one child of the one before, below the root.
+abbrev chain : (n : ℕ) → (img : List ℕ) → List ℕ
+chain zero img = img
+chain (suc n) img = let r = chain n img in insertOf r (replicate (4 * n) 0) 0 1 1 [] .1
+
+-- A record's bytes: a helper over so many literals of 520 zero bytes.
+abbrev helperOf : (count : ℕ) → List ℕ
+helperOf k = header 4 0 (6 + k * 526) ++ bytes (lits k)
+
+pub record BenchSheet : Type 0 where
+  -- Page 1 of the listing's image begins so; length 20.
+  pub listed : take 20 (pageOf listing 1)
+      ≡ 0x01 ∷ 0x00 ∷ 0x07 ∷ 0x00 ∷ 0x14 ∷ 0x00 ∷ 0x01 ∷ 0x00 ∷ 0x2c ∷ 0x01 ∷ 0x06 ∷ 0x00 ∷ 0x02 ∷ 0x00 ∷ 0x09 ∷ 0x00 ∷ 0x08 ∷ 0x00 ∷ 0x41 ∷ 0x42 ∷ []
+  pub listedUsed : used listing 1 ≡ 20
+  -- Root and seven 520-byte literals: 3,688 bytes. A last literal of 386 bytes gives 4,080 and no split.
+  pub sevenUsed : used seven 1 ≡ 3688
+  pub last386 : put seven 7 386 .0 ≡ answer 1 3688 0 (pos 0)
+  pub last386Used : used (put seven 7 386 .1) 1 ≡ 4080
+  -- With 387 bytes instead: S 4,081, p 2,040, d starts at 1,584, lean -456.
+  pub last387p : splitPoint (config (usualSettings 5) (replicate 256 2)) 4081 ≡ 2040
+  pub last387d : startOfD (config (usualSettings 5) (replicate 256 2)) (withLast 387) ≡ 1584
+  pub last387 : put seven 7 387 .0 ≡ answer 3 2110 1 (negsuc 455)
+  -- With 520 instead: p 2,107, lean -523; page 2 has three literals (1,584 bytes), page 3 five (2,636), the root is 22 bytes.
+  pub last520p : splitPoint (config (usualSettings 5) (replicate 256 2)) 4214 ≡ 2107
+  pub last520 : eight .0 ≡ answer 3 2110 1 (negsuc 522)
+  pub last520Used : (used (eight .1) 1 ≡ 22) × (used (eight .1) 2 ≡ 1584) × (used (eight .1) 3 ≡ 2636)
+  pub last520Pages : (take 1584 (pageOf (eight .1) 2) ≡ helperOf 3) × (take 2636 (pageOf (eight .1) 3) ≡ helperOf 5)
+  -- The same in a 3-page image: 12.
+  pub full : put (filled 7 0 (fresh 3)) 7 520 .0 ≡ insertRefused 12
+  -- Three more appended in five pages: page 3 splits to pages 3 and 4, the root is 30 bytes, one split reported.
+  pub more : put (filled 2 8 (eight .1)) 10 520 .0 ≡ answer 4 2110 1 (negsuc 522)
+  pub moreUsed : (used (filled 3 8 (eight .1)) 1 ≡ 30) × (used (filled 3 8 (eight .1)) 2 ≡ 1584) × (used (filled 3 8 (eight .1)) 3 ≡ 1584)
+      × (used (filled 3 8 (eight .1)) 4 ≡ 2636)
+  -- Content 520 goes in; 521 gives 6; 521 under a path of 23 gives 4.
+  pub content520 : put (fresh 3) 0 520 .0 ≡ answer 1 6 0 (pos 0)
+  pub content521 : put (fresh 3) 0 521 .0 ≡ insertRefused 6
+  pub deep521 : insertOf (fresh 3) (replicate 92 0) 0 2 9 (replicate 521 0) .0 ≡ insertRefused 4
+  -- In a chain of 24 nodes, Find with 23 zeros gives the last; with 24 it gives 4.
+  pub chain23 : findOf (chain 23 (fresh 3)) (replicate 92 0) ≡ record { number = 0; place = record { page = 1; offset = 138 } }
+  pub chain24 : findOf (chain 23 (fresh 3)) (replicate 96 0) ≡ findRefused 4
+
+pub bench-sheet : BenchSheet
+unfolding image inRange valid placeAt grow inserted after kept close separator separate group twoGroups freeFrom startOf lengthOk nodesIn sameBytes reading insertNumber findIn formatNumber opened formatOf insertOf findOf
+bench-sheet = record {
+  listed = refl;
+  listedUsed = refl;
+  sevenUsed = refl;
+  last386 = refl;
+  last386Used = refl;
+  last387p = refl;
+  last387d = refl;
+  last387 = refl;
+  last520p = refl;
+  last520 = refl;
+  last520Used = (refl, refl, refl);
+  last520Pages = (refl, refl);
+  full = refl;
+  more = refl;
+  moreUsed = (refl, refl, refl, refl);
+  content520 = refl;
+  content521 = refl;
+  deep521 = refl;
+  chain23 = refl;
+  chain24 = refl;
+}

@@ -1,0 +1,1 @@
+// The bench sheet's starred lines, proved from the definitions in specs/.
