@@ -2,17 +2,19 @@
 use mathlib.Core.Path.{_≡_}
 use mathlib.Core.Logic.{_↔_}
 use mathlib.Core.Bool.{Bool, true, false, cond}
-use mathlib.Core.List.{List, [], _∷_, _++_}
+use mathlib.Core.List.{List, [], _∷_, _++_, map}
 use mathlib.Core.Option.{Option, none, some}
 use Prim.Native.Nat.{ℕ, _+_, _≤_, _<_, max}
 use lib.ListN.{length, drop}
 use lib.IntN.{ℤ, pos, negsuc, subℕ}
 use Rattle.model.specs.Limits.{capacity}
-use Rattle.model.specs.Row.{Row, store, Held, records, recordSize, Config, every, isByte}
-use Rattle.model.specs.Tree.{Tree, Node, shown}
+use Rattle.model.specs.Row.{Row, store, size, lone, Held, records, recordSize, Config, every, isByte, inRange, headFits, fits, height, valid}
+use Rattle.model.specs.Tree.{Tree, shown, Node, nodes, named, New, insertAt, placeOf}
+use Rattle.model.specs.Growth.{Work, splitPoint, startOfD, rootRow, separator}
 use Rattle.model.specs.Reading.{Reads, lengthOk, reading}
 use Rattle.model.specs.Answers.{notPassed, wrongLength, noFreePage}
-use Rattle.model.specs.Calls.{namedBy, opened, onStore, insertNumber, newOf, checkOf, insertOf, findOf, climbOf, IsOrder}
+use Rattle.model.specs.Calls.{pathOf, namedBy, opened, onStore, insertNumber, newOf, grown, checkOf, insertOf, findOf, climbOf, IsOrder}
+use Rattle.model.specs.declared.Place.{Place}
 use Rattle.model.specs.Plain.{Call, format, insert, ask, Typed, answerOf, imageAfter, growthOn, feedOf, plainAnswer, plainAfter}
 
 -- ── one reading ──
@@ -23,11 +25,57 @@ pub record CheckExact (img : List ℕ) : Type 0 where
   pub misfit : (checkOf img ≡ wrongLength) ↔ (lengthOk (length img) ≡ false)
   pub broken : (checkOf img ≡ notPassed) ↔ ((lengthOk (length img) ≡ true) × (reading img ≡ none))
 
--- ── demand 3 ──
+-- ── growth ──
 
+-- The size of the largest of some records.
 abbrev pub largest : List Held → ℕ
 largest [] = 0
 largest (h ∷ hs) = max (recordSize (h .row)) (largest hs)
+
+-- From -525 to 132.
+abbrev pub InLean : ℤ → Type 0
+InLean (pos n) = n ≤ 132
+InLean (negsuc n) = n < 525
+
+-- A split of a record r: the separator is at most 506 bytes, each record that it holds at most 4,080, and the lean is in range.
+pub record SplitHolds (st : Config) (near : ℕ) (r : Row) (w : Work) : Type 0 where
+  pub separated : size (separator st near r w .0) ≤ 506
+  pub records : largest (records near (separator st near r w .0)) ≤ capacity
+  pub lean : InLean (subℕ (startOfD st r) (splitPoint st (recordSize r)))
+
+-- For every target and tolerance together: of each record that growth can make too large, since an insert adds at most 526 bytes and
+-- a tree has at most 24 levels. So one split of a record suffices.
+abbrev pub Split : Type 0
+Split = (st : Config) (near : ℕ) (r : Row) (w : Work) → inRange st ≡ true → fits r ≡ true → capacity < recordSize r → recordSize r ≤ capacity + 526
+    → height (rootRow st (lone r) r) ≤ 23 → SplitHolds st near r w
+
+-- What a node is, wherever it stands.
+abbrev pub look : Node → New
+look n = record { kind = n .kind; head = n .head; content = n .content }
+
+-- The nodes b in document order are the nodes a with one more.
+pub record OneMore (x : New) (a b : List Node) : Type 0 where
+  pub before : List New
+  pub after : List New
+  pub old : map look a ≡ before ++ after
+  pub new : map look b ≡ before ++ x ∷ after
+
+-- An accepted insert: the store stays valid and shows the plain tree's insert; the path of the new node names it and gives its place;
+-- no other node's kind, label, content or order changes; the lean is in range, and 0 without a split.
+pub record GrowthHolds (st : Config) (root : Row) (path : List ℕ) (k : ℕ) (x : New) : Type 0 where
+  pub keeps : valid st (grown st root path k x .0) ≡ true
+  pub shows : shown (grown st root path k x .0) ≡ insertAt x k 0 (pathOf path) (shown root)
+  pub named : (n : Node) × (named (shown (grown st root path k x .0)) (pathOf path ++ k ∷ []) ≡ some n) × (look n ≡ x) × (n .children ≡ 0)
+  pub placed : (y : Place) × (placeOf (grown st root path k x .0) (pathOf path ++ k ∷ []) ≡ some y)
+  pub others : OneMore x (nodes (shown root)) (nodes (shown (grown st root path k x .0)))
+  pub lean : InLean (grown st root path k x .1 .lean)
+  pub unsplit : grown st root path k x .1 .splits ≡ 0 → grown st root path k x .1 .lean ≡ pos 0
+
+abbrev pub Growth : Type 0
+Growth = (st : Config) (root : Row) (path : List ℕ) (k : ℕ) (x : New) → valid st root ≡ true → headFits (x .head) ≡ true → every isByte (x .content) ≡ true
+    → insertNumber (shown root) path k x (grown st root path k x .1 .full) ≡ 0 → GrowthHolds st root path k x
+
+-- ── demand 3 ──
 
 -- The size of an image's largest record.
 abbrev pub largestOn : (img : List ℕ) → ℕ
