@@ -1,4 +1,3 @@
-#!/usr/bin/env python3
 """A second implementation of the base rules, for the tests: slow, small, made from the rules' text alone.
 
 As a module it offers the calls over an image held in a bytearray: format_image, check, insert, find, climb, read,
@@ -373,9 +372,8 @@ def split(store, record):
         return lean, None
     del store.records[record.page]
     separate(store, record.page, record.root, way)
-    record_row = record.root.children if record.root.kind == HELPER else [record.root]
     siblings, at, holder = proxy_position(store, record)
-    siblings[at:at + 1] = record_row
+    siblings[at:at + 1] = record.root.children if record.root.kind == HELPER else [record.root]
     return lean, holder
 
 
@@ -537,8 +535,8 @@ def to_hex(content):
 
 
 def filled(answer, fields):
-    """The answer's fields as a script writes them; a refusal is followed by zeros."""
-    return answer if len(answer) > 1 or fields == 1 else answer + (0,) * (fields - 1)
+    """So many fields: a refusal is followed by zeros."""
+    return answer + (0,) * (fields - len(answer))
 
 
 def with_buffer(call, image, arguments, room):
@@ -567,9 +565,8 @@ def run_climb(image, a):
 
 
 def run_read(image, a):
-    answer = read(image, int(a[0]), int(a[1]))
-    number, kind, label, children, content, start = answer if len(answer) > 1 else answer + (0, 0, 0, b"", 0)
-    return (number, kind, label, 0, children, to_hex(content), start)
+    number, kind, label, children, content, start = filled(read(image, int(a[0]), int(a[1])), 6)
+    return (number, kind, label, 0, children, to_hex(content or b""), start)
 
 
 def run_next(image, a):
@@ -600,7 +597,8 @@ def replay(lines):
         line = line.rstrip("\n")
         word, *rest = line.split(" ")
         if word == "V":
-            require(rest[:2] == ["1", "0"], BROKEN)
+            if rest[:2] != ["1", "0"]:
+                raise ValueError("not a script of version 1 for the base rules")
         elif word == "I":
             image = bytearray(int(rest[0]))
         elif word == "B":
@@ -613,10 +611,10 @@ def replay(lines):
         elif word == "R":
             image = bytearray(kept)
         elif word == "=":
-            answer = RUNS[call[0]](image, call[1])
-            yield number, " ".join([call[0]] + call[1]), rest, [str(field) for field in answer] + [checksum(image)], image
+            answer = RUNS[call[0]](image, call[1:])
+            yield number, " ".join(call), rest, [str(field) for field in answer] + [checksum(image)], image
         elif word in RUNS:
-            call = (word, rest)
+            call = [word] + rest
         elif word != "#" and line:
             raise ValueError("line %d: %s" % (number, word))
 
@@ -636,6 +634,9 @@ def replay_file(name):
 
 
 def main(names):
+    if not names:
+        print("usage: reference.py SCRIPT..", file=sys.stderr)
+        return 2
     return 1 if sum([replay_file(name) for name in names]) else 0
 
 

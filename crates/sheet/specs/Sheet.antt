@@ -1,12 +1,12 @@
 -- The starred lines of the bench sheet: calls on image bytes, computed from the definitions.
-use mathlib.Core.Path.{_≡_, refl}
-use mathlib.Core.Bool.{cond}
+use mathlib.Core.Path.{_≡_, refl, ap, _∙_}
+use mathlib.Core.Bool.{false}
 use mathlib.Core.List.{List, [], _∷_, _++_}
 use mathlib.Core.Option.{Option, none, some}
 use Prim.Native.Nat.{ℕ, zero, suc, _+_, _*_}
 use lib.ListN.{length, take, drop, replicate}
 use lib.IntN.{ℤ, pos, negsuc}
-use Rattle.model.specs.Row.{Row, nil, agg, lit, _⊹_, header, bytes, image, inRange, valid}
+use Rattle.model.specs.Row.{Row, nil, agg, lit, rec, _⊹_, header, bytes, Config, image, inRange, valid}
 use Rattle.model.specs.Tree.{placeAt}
 use Rattle.model.specs.Growth.{grow, inserted, after, kept, close, separator, separate, group, twoGroups, freeFrom, startOf, startOfD, splitPoint}
 use Rattle.model.specs.Reading.{lengthOk, twoAt, pageOf, nodesIn, sameBytes, reading}
@@ -33,6 +33,9 @@ used img q = twoAt (pageOf img q) 4082
 
 abbrev answer : (page offset splits : ℕ) → (lean : ℤ) → InsertAnswer
 answer p o s l = record { number = 0; place = record { page = p; offset = o }; splits = s; lean = l }
+
+abbrev usual : (pages : ℕ) → Config
+usual n = config (usualSettings n) (replicate 256 2)
 
 -- The listing's image.
 abbrev listing : List ℕ
@@ -72,11 +75,11 @@ pub record BenchSheet : Type 0 where
   pub last386 : put seven 7 386 .0 ≡ answer 1 3688 0 (pos 0)
   pub last386Used : used (put seven 7 386 .1) 1 ≡ 4080
   -- With 387 bytes instead: S 4,081, p 2,040, d starts at 1,584, lean -456.
-  pub last387p : splitPoint (config (usualSettings 5) (replicate 256 2)) 4081 ≡ 2040
-  pub last387d : startOfD (config (usualSettings 5) (replicate 256 2)) (withLast 387) ≡ 1584
+  pub last387p : splitPoint (usual 5) 4081 ≡ 2040
+  pub last387d : startOfD (usual 5) (withLast 387) ≡ 1584
   pub last387 : put seven 7 387 .0 ≡ answer 3 2110 1 (negsuc 455)
   -- With 520 instead: p 2,107, lean -523; page 2 has three literals (1,584 bytes), page 3 five (2,636), the root is 22 bytes.
-  pub last520p : splitPoint (config (usualSettings 5) (replicate 256 2)) 4214 ≡ 2107
+  pub last520p : splitPoint (usual 5) 4214 ≡ 2107
   pub last520 : eight .0 ≡ answer 3 2110 1 (negsuc 522)
   pub last520Used : (used (eight .1) 1 ≡ 22) × (used (eight .1) 2 ≡ 1584) × (used (eight .1) 3 ≡ 2636)
   pub last520Pages : (take 1584 (pageOf (eight .1) 2) ≡ helperOf 3) × (take 2636 (pageOf (eight .1) 3) ≡ helperOf 5)
@@ -94,27 +97,130 @@ pub record BenchSheet : Type 0 where
   pub chain23 : findOf (chain 23 (fresh 3)) (replicate 92 0) ≡ record { number = 0; place = record { page = 1; offset = 138 } }
   pub chain24 : findOf (chain 23 (fresh 3)) (replicate 96 0) ≡ findRefused 4
 
-pub bench-sheet : BenchSheet
+-- ── the images, one call after another ──
+
+-- Naming this unfolds every definition that the calls compute with.
+computed : Unit {0}
 unfolding image inRange valid placeAt grow inserted after kept close separator separate group twoGroups freeFrom startOf lengthOk nodesIn sameBytes reading insertNumber findIn formatNumber opened formatOf insertOf findOf
+computed = tt
+
+abbrev rootOf : Row → Row
+rootOf children = agg (record { label = 7 }) children nil
+
+abbrev helper : (page count : ℕ) → (rest : Row) → Row
+helper q k rest = rec q false (lits k) rest
+
+abbrev sevenImage : (pages : ℕ) → List ℕ
+sevenImage n = image (usual n) (rootOf (lits 7))
+
+abbrev eightImage : List ℕ
+eightImage = image (usual 5) (rootOf (helper 2 3 (helper 3 5 nil)))
+
+abbrev tenImage : List ℕ
+tenImage = image (usual 5) (rootOf (helper 2 3 (helper 3 7 nil)))
+
+abbrev elevenImage : List ℕ
+elevenImage = image (usual 5) (rootOf (helper 2 3 (helper 3 3 (helper 4 5 nil))))
+
+abbrev chainRow : ℕ → Row
+chainRow zero = nil
+chainRow (suc n) = agg (record { label = 1 }) (chainRow n) nil
+
+seven-is : filled 7 0 (fresh 5) ≡ sevenImage 5
+unfolding computed
+seven-is = refl
+
+seven-in-three : filled 7 0 (fresh 3) ≡ sevenImage 3
+unfolding computed
+seven-in-three = refl
+
+eight-is : put (sevenImage 5) 7 520 ≡ (answer 3 2110 1 (negsuc 522), eightImage)
+unfolding computed
+eight-is = refl
+
+ten-is : filled 2 8 eightImage ≡ tenImage
+unfolding computed
+ten-is = refl
+
+eleven-is : put tenImage 10 520 ≡ (answer 4 2110 1 (negsuc 522), elevenImage)
+unfolding computed
+eleven-is = refl
+
+chain-is : chain 23 (fresh 3) ≡ image (usual 3) (rootOf (chainRow 23))
+unfolding computed
+chain-is = refl
+
+-- ── the lines on them ──
+
+last386-is : put (sevenImage 5) 7 386 ≡ (answer 1 3688 0 (pos 0), image (usual 5) (withLast 386))
+unfolding computed
+last386-is = refl
+
+last387-is : put (sevenImage 5) 7 387 .0 ≡ answer 3 2110 1 (negsuc 455)
+unfolding computed
+last387-is = refl
+
+full-is : put (sevenImage 3) 7 520 .0 ≡ insertRefused 12
+unfolding computed
+full-is = refl
+
+sizes : (used (sevenImage 5) 1 ≡ 3688) × (used (image (usual 5) (withLast 386)) 1 ≡ 4080) × (used eightImage 1 ≡ 22) × (used eightImage 2 ≡ 1584) × (used eightImage 3 ≡ 2636)
+    × (used elevenImage 1 ≡ 30) × (used elevenImage 2 ≡ 1584) × (used elevenImage 3 ≡ 1584) × (used elevenImage 4 ≡ 2636)
+unfolding image
+sizes = (refl, refl, refl, refl, refl, refl, refl, refl, refl)
+
+pages : (take 1584 (pageOf eightImage 2) ≡ helperOf 3) × (take 2636 (pageOf eightImage 3) ≡ helperOf 5)
+unfolding image
+pages = (refl, refl)
+
+found : (findOf (image (usual 3) (rootOf (chainRow 23))) (replicate 92 0) ≡ record { number = 0; place = record { page = 1; offset = 138 } })
+    × (findOf (image (usual 3) (rootOf (chainRow 23))) (replicate 96 0) ≡ findRefused 4)
+unfolding computed
+found = (refl, refl)
+
+-- Eight and eleven literals, from the first image on.
+eight-all : eight ≡ (answer 3 2110 1 (negsuc 522), eightImage)
+eight-all = ap (λ (img : List ℕ). put img 7 520) seven-is ∙ eight-is
+
+eleven-all : put (filled 2 8 (eight .1)) 10 520 ≡ (answer 4 2110 1 (negsuc 522), elevenImage)
+eleven-all = ap (λ (z : InsertAnswer × List ℕ). put (filled 2 8 (z .1)) 10 520) eight-all ∙ ap (λ (img : List ℕ). put img 10 520) ten-is ∙ eleven-is
+
+on-eight : (q n : ℕ) → used eightImage q ≡ n → used (eight .1) q ≡ n
+on-eight q n e = ap (λ (z : InsertAnswer × List ℕ). used (z .1) q) eight-all ∙ e
+
+on-eleven : (q n : ℕ) → used elevenImage q ≡ n → used (filled 3 8 (eight .1)) q ≡ n
+on-eleven q n e = ap (λ (z : InsertAnswer × List ℕ). used (z .1) q) eleven-all ∙ e
+
+plain : (take 20 (pageOf listing 1)
+    ≡ 0x01 ∷ 0x00 ∷ 0x07 ∷ 0x00 ∷ 0x14 ∷ 0x00 ∷ 0x01 ∷ 0x00 ∷ 0x2c ∷ 0x01 ∷ 0x06 ∷ 0x00 ∷ 0x02 ∷ 0x00 ∷ 0x09 ∷ 0x00 ∷ 0x08 ∷ 0x00 ∷ 0x41 ∷ 0x42 ∷ [])
+    × (used listing 1 ≡ 20) × (startOfD (usual 5) (withLast 387) ≡ 1584) × (put (fresh 3) 0 520 .0 ≡ answer 1 6 0 (pos 0)) × (put (fresh 3) 0 521 .0 ≡ insertRefused 6)
+    × (insertOf (fresh 3) (replicate 92 0) 0 2 9 (replicate 521 0) .0 ≡ insertRefused 4)
+unfolding computed
+plain = (refl, refl, refl, refl, refl, refl)
+
+pub bench-sheet : BenchSheet
 bench-sheet = record {
-  listed = refl;
-  listedUsed = refl;
-  sevenUsed = refl;
-  last386 = refl;
-  last386Used = refl;
+  listed = plain .0;
+  listedUsed = plain .1;
+  sevenUsed = ap (λ (img : List ℕ). used img 1) seven-is ∙ sizes .0;
+  last386 = ap (λ (img : List ℕ). put img 7 386 .0) seven-is ∙ ap (λ (z : InsertAnswer × List ℕ). z .0) last386-is;
+  last386Used = ap (λ (img : List ℕ). used (put img 7 386 .1) 1) seven-is ∙ ap (λ (z : InsertAnswer × List ℕ). used (z .1) 1) last386-is ∙ sizes .1;
   last387p = refl;
-  last387d = refl;
-  last387 = refl;
+  last387d = plain .2;
+  last387 = ap (λ (img : List ℕ). put img 7 387 .0) seven-is ∙ last387-is;
   last520p = refl;
-  last520 = refl;
-  last520Used = (refl, refl, refl);
-  last520Pages = (refl, refl);
-  full = refl;
-  more = refl;
-  moreUsed = (refl, refl, refl, refl);
-  content520 = refl;
-  content521 = refl;
-  deep521 = refl;
-  chain23 = refl;
-  chain24 = refl;
+  last520 = ap (λ (z : InsertAnswer × List ℕ). z .0) eight-all;
+  last520Used = (on-eight 1 22 (sizes .2), on-eight 2 1584 (sizes .3), on-eight 3 2636 (sizes .4));
+  last520Pages = (
+    ap (λ (z : InsertAnswer × List ℕ). take 1584 (pageOf (z .1) 2)) eight-all ∙ pages .0,
+    ap (λ (z : InsertAnswer × List ℕ). take 2636 (pageOf (z .1) 3)) eight-all ∙ pages .1,
+  );
+  full = ap (λ (img : List ℕ). put img 7 520 .0) seven-in-three ∙ full-is;
+  more = ap (λ (z : InsertAnswer × List ℕ). z .0) eleven-all;
+  moreUsed = (on-eleven 1 30 (sizes .5), on-eleven 2 1584 (sizes .6), on-eleven 3 1584 (sizes .7), on-eleven 4 2636 (sizes .8));
+  content520 = plain .3;
+  content521 = plain .4;
+  deep521 = plain .5;
+  chain23 = ap (λ (img : List ℕ). findOf img (replicate 92 0)) chain-is ∙ found .0;
+  chain24 = ap (λ (img : List ℕ). findOf img (replicate 96 0)) chain-is ∙ found .1;
 }
