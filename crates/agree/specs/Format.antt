@@ -32,8 +32,7 @@ in-range n st e = go (lengthOk n) (inRange st) (eqb (st .pages) (n / 4096)) e
     go false b c e = absurd (omega arith)
 
 module _ (order : (img buffer : List ℕ) → List ℕ) (img : List ℕ) (st : Config) (root : Row) (r : Reads img st root)
-  (s : Settings) (m : List ℕ) (label : ℕ) (h : label < 65536) where
-
+    (s : Settings) (m : List ℕ) (label : ℕ) (h : label < 65536) where
   pub format-step : Step order img (shown root) (format s m label)
   unfolding formatOf
   format-step = record { answer = ap formatted (number (eqb n 0) refl); full = tt; after = then (eqb n 0) refl }

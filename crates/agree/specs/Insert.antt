@@ -71,8 +71,7 @@ bytes-say (b ∷ c) e = let h = both (isByte b) (every isByte c) e in (ltb-true 
 -- ── an insert ──
 
 module _ (order : (img buffer : List ℕ) → List ℕ) (img : List ℕ) (st : Config) (root : Row) (r : Reads img st root)
-  (path : List ℕ) (child kind label : ℕ) (content : List ℕ) (typed : Typed (insert path child kind label content)) where
-
+    (path : List ℕ) (child kind label : ℕ) (content : List ℕ) (typed : Typed (insert path child kind label content)) where
   x : New
   x = newOf kind label content
 

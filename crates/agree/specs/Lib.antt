@@ -6,3 +6,4 @@ pub mod Stand
 pub mod Format
 pub mod Insert
 pub mod Demand
+pub mod Navigate

@@ -13,7 +13,7 @@ use Rattle.model.specs.Tree.{Tree, end, branch, leaf, shown, Node, nodes, named
 use Rattle.model.specs.Reading.{Reads}
 use Rattle.model.specs.Answers.{shortBuffer, writeRefused}
 use Rattle.model.specs.Calls.{holds, onStore, write, pageBytes, ReadValue, readIn, readFrom, asRead, findOf, climbOf, readOf, partOf, nextOf, recordPages, times, IsOrder, recordsOf}
-use Rattle.model.specs.Plain.{Query, check, find, climb, read, next, records, ask, Answer, checked, found, climbed, seen, following, listed, valueOf, queried, feedOf, plainQuery}
+use Rattle.model.specs.Plain.{Query, check, find, climb, read, next, records, ask, Answer, checked, found, climbed, seen, following, listed, valueOf, queried, feedOf, handedOf, plainRecords, plainQuery}
 use Rattle.model.specs.declared.Place.{Place}
 use Rattle.model.specs.declared.WriteAnswer.{WriteAnswer}
 use Rattle.laws.specs.Fits.{Valid}
@@ -62,33 +62,25 @@ module _ (img : List ℕ) (st : Config) (root : Row) (r : Reads img st root) (x 
 
 -- ── the pages that Records writes ──
 
-length-pageBytes : (ps : List ℕ) → length (pageBytes ps) ≡ 2 * length ps
+pub length-pageBytes : (ps : List ℕ) → length (pageBytes ps) ≡ 2 * length ps
 length-pageBytes [] = refl
 length-pageBytes (p ∷ ps) = omega (arith, length-pageBytes ps)
 
 module _ (order : (img buffer : List ℕ) → List ℕ) (img : List ℕ) (st : Config) (root : Row) (r : Reads img st root)
-  (o : (buffer : List ℕ) → IsOrder root (order img buffer)) where
-
-  same-records : (buffer : List ℕ) → queried order img (records buffer) ≡ plainQuery (feedOf img (ask (records buffer))) (shown root) (records buffer)
+    (o : (buffer : List ℕ) → IsOrder root (order img buffer)) where
+  same-records : (buffer : List ℕ) → recordsOf (order img buffer) img buffer ≡ plainRecords (length (recordPages root)) (order img buffer) buffer
   unfolding recordsOf
   same-records buffer =
       let n : length (pageBytes (order img buffer)) ≡ 2 * length (recordPages root)
           = length-pageBytes (order img buffer) ∙ ap (λ (k : ℕ). 2 * k) (same-length (order img buffer) (recordPages root) (o buffer)) in
-      rw (opens img st root r) (ap listed (go (pageBytes (order img buffer)) (2 * length (recordPages root)) n))
-    where
-      go : (b : List ℕ) (k : ℕ) → length b ≡ k → write b buffer .0 ≡ cond (ltb (length buffer) k) (writeRefused shortBuffer) (record { number = 0; written = k })
-      go b k e = subst (λ (m : ℕ). write b buffer .0 ≡ cond (ltb (length buffer) m) (writeRefused shortBuffer) (record { number = 0; written = m })) e (by (ltb (length buffer) (length b)))
-        where
-          by : (c : Bool) → cond {A = WriteAnswer × List ℕ} c (writeRefused shortBuffer, buffer) (record { number = 0; written = length b }, b ++ drop (length b) buffer) .0 ≡ cond c (writeRefused shortBuffer) (record { number = 0; written = length b })
-          by true = refl
-          by false = refl
+      rw (opens img st root r, n)
 
   -- The answer to a query is the plain tree's.
-  pub same-query : (q : Query) → queried order img q ≡ plainQuery (feedOf img (ask q)) (shown root) q
+  pub same-query : (q : Query) → queried order img q ≡ plainQuery (feedOf img (ask q)) (handedOf order img (ask q)) (shown root) q
   unfolding findOf climbOf readOf nextOf
   same-query check = ap checked (passes img st root r)
   same-query (find path) = rw (opens img st root r)
   same-query (climb x buffer) = rw (opens img st root r)
   same-query (read x) = rw (opens img st root r) (ap seen (same-value img st root r x))
   same-query (next x) = rw (opens img st root r)
-  same-query (records buffer) = same-records buffer
+  same-query (records buffer) = rw (opens img st root r) (ap listed (same-records buffer))

@@ -15,7 +15,7 @@ use Rattle.model.specs.Reading.{Reads, lengthOk, reading}
 use Rattle.model.specs.Answers.{notPassed, wrongLength, noFreePage}
 use Rattle.model.specs.Calls.{pathOf, namedBy, opened, onStore, insertNumber, newOf, grown, checkOf, insertOf, findOf, climbOf, IsOrder}
 use Rattle.model.specs.declared.Place.{Place}
-use Rattle.model.specs.Plain.{Call, format, insert, ask, Typed, answerOf, imageAfter, growthOn, feedOf, plainAnswer, plainAfter}
+use Rattle.model.specs.Plain.{Call, format, insert, ask, Typed, answerOf, imageAfter, growthOn, feedOf, handedOf, plainAnswer, plainAfter}
 
 -- ── one reading ──
 
@@ -106,7 +106,7 @@ FullExactly img t (ask q) = Unit {0}
 
 -- What holds of one call in a list.
 pub record Step (order : (img buffer : List ℕ) → List ℕ) (img : List ℕ) (t : Tree) (c : Call) : Type 0 where
-  pub answer : answerOf order img c ≡ plainAnswer (feedOf img c) (growthOn img c .splits) (growthOn img c .lean) t c
+  pub answer : answerOf order img c ≡ plainAnswer (feedOf img c) (handedOf order img c) t c
   pub full : FullExactly img t c
   pub after : Stands (imageAfter img c) (plainAfter (feedOf img c) t c)
 

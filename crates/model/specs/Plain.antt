@@ -1,17 +1,17 @@
 -- Lists of calls, and the plain tree: a machine that answers them from a tree alone, fed with what document 01 lets it be fed with.
 use mathlib.Core.Path.{_≡_}
-use mathlib.Core.Bool.{Bool, true, false, cond, not}
+use mathlib.Core.Bool.{Bool, true, false, cond}
 use mathlib.Core.List.{List, [], _∷_, _++_}
 use mathlib.Core.Option.{Option, none, some}
 use Prim.Native.Nat.{ℕ, _+_, _*_, _<_}
-use lib.ListN.{length}
-use lib.Dec.{ltb, eqb}
-use lib.IntN.{ℤ, pos}
+use lib.ListN.{length, drop}
+use lib.Dec.{ltb}
+use lib.IntN.{ℤ}
 use Rattle.model.specs.Row.{every, isByte}
 use Rattle.model.specs.Tree.{Tree, end, branch, insertAt, placeOf}
 use Rattle.model.specs.Growth.{Work, noWork}
 use Rattle.model.specs.Answers.{shortBuffer, insertRefused, writeRefused}
-use Rattle.model.specs.Calls.{accept, placeOr, pathOf, ReadValue, insertNumber, formatNumber, config, findIn, climbIn, readIn, nextIn, Opened, opened, onStore, formatOf, checkOf, newOf, grown, insertOf, findOf, climbOf, readOf, partOf, nextOf, recordPages, recordsOf}
+use Rattle.model.specs.Calls.{accept, placeOr, pathOf, ReadValue, insertNumber, formatNumber, config, findIn, climbIn, readIn, nextIn, Opened, opened, onStore, formatOf, checkOf, newOf, grown, insertOf, findOf, climbOf, readOf, partOf, nextOf, recordPages, pageBytes, recordsOf}
 use Rattle.model.specs.declared.Settings.{Settings}
 use Rattle.model.specs.declared.Place.{Place}
 use Rattle.model.specs.declared.NextAnswer.{NextAnswer}
@@ -40,7 +40,7 @@ Typed (format s m label) = label < 65536
 Typed (insert path child kind label content) = (label < 65536) × (every isByte content ≡ true)
 Typed (ask q) = Unit {0}
 
--- An answer: number and fields; for Climb the buffer too, for Read the content as bytes.
+-- An answer: number and fields; for Climb and Records the buffer too, for Read the content as bytes.
 pub data Answer : Type 0 where
   formatted : (number : ℕ) → Answer
   inserted : InsertAnswer → Answer
@@ -49,7 +49,7 @@ pub data Answer : Type 0 where
   climbed : WriteAnswer × List ℕ → Answer
   seen : ReadValue → Answer
   following : NextAnswer → Answer
-  listed : WriteAnswer → Answer
+  listed : WriteAnswer × List ℕ → Answer
 
 -- ── the calls on the image ──
 
@@ -64,7 +64,7 @@ module _ (order : (img buffer : List ℕ) → List ℕ) where
   queried img (climb x buffer) = climbed (climbOf img x buffer)
   queried img (read x) = seen (valueOf img (readOf img x))
   queried img (next x) = following (nextOf img x)
-  queried img (records buffer) = listed (recordsOf (order img buffer) img buffer .0)
+  queried img (records buffer) = listed (recordsOf (order img buffer) img buffer)
 
   abbrev pub answerOf : (img : List ℕ) → Call → Answer
   answerOf img (format s m label) = formatted (formatOf img s m label .0)
@@ -103,25 +103,38 @@ abbrev pub feedOf : (img : List ℕ) → Call → Feed
 feedOf img c =
     record { imageLength = length img; place = placesOn img; placeAfter = placesOn (imageAfter img c); full = growthOn img c .full; recordCount = recordsOn img }
 
+-- What the machine only hands through: split count and lean, which are the growth rules', and the order of Records, which is open.
+pub record Handed : Type 0 where
+  pub splits : ℕ
+  pub lean : ℤ
+  pub order : (buffer : List ℕ) → List ℕ
+
+abbrev pub handedOf : (order : (img buffer : List ℕ) → List ℕ) → (img : List ℕ) → Call → Handed
+handedOf order img c = record { splits = growthOn img c .splits; lean = growthOn img c .lean; order = order img }
+
 -- ── the machine ──
 
-abbrev pub plainQuery : Feed → Tree → Query → Answer
-plainQuery f t check = checked 0
-plainQuery f t (find path) = found (findIn t (f .place) path)
-plainQuery f t (climb x buffer) = climbed (climbIn t (f .place) x buffer)
-plainQuery f t (read x) = seen (readIn t (f .place) x)
-plainQuery f t (next x) = following (nextIn t (f .place) x)
-plainQuery f t (records buffer) =
-    listed (cond (ltb (length buffer) (2 * f .recordCount)) (writeRefused shortBuffer) (record { number = 0; written = 2 * f .recordCount }))
+abbrev pub plainRecords : (count : ℕ) → (pages buffer : List ℕ) → WriteAnswer × List ℕ
+plainRecords n pages buffer =
+    let refused : WriteAnswer × List ℕ = (writeRefused shortBuffer, buffer) in
+    let written : WriteAnswer × List ℕ = (record { number = 0; written = 2 * n }, pageBytes pages ++ drop (2 * n) buffer) in
+    cond (ltb (length buffer) (2 * n)) refused written
 
--- Split count and lean are the growth rules': the machine hands them through.
-abbrev pub plainAnswer : Feed → (splits : ℕ) → (lean : ℤ) → Tree → Call → Answer
-plainAnswer f splits lean t (format s m label) = formatted (formatNumber (f .imageLength) (config s m))
-plainAnswer f splits lean t (insert path child kind label content) =
+abbrev pub plainQuery : Feed → Handed → Tree → Query → Answer
+plainQuery f h t check = checked 0
+plainQuery f h t (find path) = found (findIn t (f .place) path)
+plainQuery f h t (climb x buffer) = climbed (climbIn t (f .place) x buffer)
+plainQuery f h t (read x) = seen (readIn t (f .place) x)
+plainQuery f h t (next x) = following (nextIn t (f .place) x)
+plainQuery f h t (records buffer) = listed (plainRecords (f .recordCount) (h .order buffer) buffer)
+
+abbrev pub plainAnswer : Feed → Handed → Tree → Call → Answer
+plainAnswer f h t (format s m label) = formatted (formatNumber (f .imageLength) (config s m))
+plainAnswer f h t (insert path child kind label content) =
     let n = insertNumber t path child (newOf kind label content) (f .full) in
-    let new : InsertAnswer = record { number = 0; place = placeOr (f .placeAfter (pathOf path ++ child ∷ [])); splits = splits; lean = lean } in
+    let new : InsertAnswer = record { number = 0; place = placeOr (f .placeAfter (pathOf path ++ child ∷ [])); splits = h .splits; lean = h .lean } in
     inserted (accept n new (insertRefused n))
-plainAnswer f splits lean t (ask q) = plainQuery f t q
+plainAnswer f h t (ask q) = plainQuery f h t q
 
 abbrev pub plainAfter : Feed → Tree → Call → Tree
 plainAfter f t (format s m label) = accept (formatNumber (f .imageLength) (config s m)) (branch (record { label = label }) end end) t

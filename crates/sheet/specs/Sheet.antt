@@ -6,7 +6,7 @@ use mathlib.Core.Option.{Option, none, some}
 use Prim.Native.Nat.{ℕ, zero, suc, _+_, _*_}
 use lib.ListN.{length, take, drop, replicate}
 use lib.IntN.{ℤ, pos, negsuc}
-use Rattle.model.specs.Row.{Row, nil, agg, lit, rec, _⊹_, header, bytes, Config, image, inRange, valid}
+use Rattle.model.specs.Row.{Row, nil, agg, lit, rec, _⊹_, recordSize, header, bytes, Config, image, inRange, valid}
 use Rattle.model.specs.Tree.{placeAt}
 use Rattle.model.specs.Growth.{grow, inserted, after, kept, close, separator, separate, group, twoGroups, freeFrom, startOf, startOfD, splitPoint}
 use Rattle.model.specs.Reading.{lengthOk, twoAt, pageOf, nodesIn, sameBytes, reading}
@@ -75,6 +75,7 @@ pub record BenchSheet : Type 0 where
   pub last386 : put seven 7 386 .0 ≡ answer 1 3688 0 (pos 0)
   pub last386Used : used (put seven 7 386 .1) 1 ≡ 4080
   -- With 387 bytes instead: S 4,081, p 2,040, d starts at 1,584, lean -456.
+  pub last387S : recordSize (withLast 387) ≡ 4081
   pub last387p : splitPoint (usual 5) 4081 ≡ 2040
   pub last387d : startOfD (usual 5) (withLast 387) ≡ 1584
   pub last387 : put seven 7 387 .0 ≡ answer 3 2110 1 (negsuc 455)
@@ -205,6 +206,7 @@ bench-sheet = record {
   sevenUsed = ap (λ (img : List ℕ). used img 1) seven-is ∙ sizes .0;
   last386 = ap (λ (img : List ℕ). put img 7 386 .0) seven-is ∙ ap (λ (z : InsertAnswer × List ℕ). z .0) last386-is;
   last386Used = ap (λ (img : List ℕ). used (put img 7 386 .1) 1) seven-is ∙ ap (λ (z : InsertAnswer × List ℕ). used (z .1) 1) last386-is ∙ sizes .1;
+  last387S = refl;
   last387p = refl;
   last387d = plain .2;
   last387 = ap (λ (img : List ℕ). put img 7 387 .0) seven-is ∙ last387-is;

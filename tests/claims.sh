@@ -1,0 +1,31 @@
+#!/usr/bin/env bash
+# Each row of the tables in docs/CLAIMS.md names what carries it, as `file#name`, or says `open: ...`; each name must stand in its file.
+set -euo pipefail
+cd "$(dirname "$0")/.."
+table=docs/CLAIMS.md
+bad=0 rows=0 names=0
+while IFS= read -r row; do
+  case "$row" in '| '*) ;; *) continue ;; esac
+  case "$row" in '| Claim '*|'|---'*|'| ---'*) continue ;; esac
+  rows=$((rows + 1))
+  carriers=$(grep -o '`[^`]*#[^`]*`' <<<"$row" | tr -d '`' || true)
+  if [ -z "$carriers" ] && ! grep -q 'open: ' <<<"$row"; then
+    echo "claims: no carrier and not open: $row"
+    bad=1
+  fi
+  while IFS= read -r carrier; do
+    [ -n "$carrier" ] || continue
+    names=$((names + 1))
+    file=${carrier%%#*} name=${carrier#*#}
+    if [ ! -f "$file" ]; then
+      echo "claims: no file $file"
+      bad=1
+    elif ! grep -qE "(^|[^[:alnum:]_·′-])$(sed 's/[.[\*^$()+?{|]/\\&/g' <<<"$name")([^[:alnum:]_·′-]|$)" "$file"; then
+      echo "claims: $file does not have $name"
+      bad=1
+    fi
+  done <<<"$carriers"
+done <"$table"
+[ "$rows" -gt 0 ] || { echo "claims: no rows"; bad=1; }
+[ "$bad" -eq 0 ] || exit 1
+echo "claims: $rows rows, $names names, all there"
