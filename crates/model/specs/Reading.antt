@@ -21,7 +21,7 @@ lengthOk n = eqb (n % pageSize) 0 && leb 2 (n / pageSize) && leb (n / pageSize) 
 
 -- ── decoding ──
 
-abbrev pub twoAt : List ℕ → ℕ → ℕ
+unfoldable pub twoAt : (bytes : List ℕ) → (at : ℕ) → ℕ
 twoAt s i = getD s i 0 + 256 * getD s (i + 1) 0
 
 abbrev pub configOn : List ℕ → Config

@@ -96,7 +96,7 @@ abbrev pub recordBytes : Row → List ℕ
 recordBytes r = cond (lone r) (bytes r) (header 4 0 (6 + size r) ++ bytes r)
 
 -- The fixed table of what may stand where: five entries a holder, one for each kind; holder 0 is a record's page.
-abbrev pub standing : List ℕ
+unfoldable pub standing : List ℕ
 standing =
     0 ∷ 1 ∷ 1 ∷ 0 ∷ 1
     ∷ 0 ∷ 1 ∷ 1 ∷ 1 ∷ 0
@@ -104,8 +104,8 @@ standing =
     ∷ 0 ∷ 0 ∷ 0 ∷ 0 ∷ 0
     ∷ 0 ∷ 1 ∷ 1 ∷ 1 ∷ 0 ∷ []
 
-abbrev pub mayStand : (holder kind : ℕ) → Bool
-mayStand holder kind = eqb (getD standing (5 * holder + kind) 0) 1
+unfoldable pub mayStand : (holder kind : ℕ) → Bool
+mayStand holder kind = eqb (getD standing (holder * 5 + kind) 0) 1
 
 -- Every node of a row, and of the records below it, stands where the table lets it: `holder` is the kind that the row stands in.
 abbrev pub byTable : (holder : ℕ) → Row → Bool

@@ -28,7 +28,7 @@ take-first p a b c n e = simp append-assoc (take-at p (a ++ (b ++ c)) n e)
 -- ── the settings ──
 
 pub config-image : (st : Config) (root : Row) → Valid st root → configOn (image st root) ≡ st
-unfolding image
+unfolding image twoAt
 config-image st root v =
     let p = two-bytes (st .pages) (omega (arith, v .ranges .many)) in
     let t = two-bytes (st .tolerance) (omega (arith, v .ranges .tol)) in
@@ -55,6 +55,7 @@ module _ (h : Held) (f : recordSize (h .row) ≤ 4080) where
       go false = refl
 
   used-page : twoAt (recordPage h) 4082 ≡ recordSize (h .row)
+  unfolding twoAt
   used-page = rw (in-trailer 2, in-trailer 3) (two-bytes (recordSize (h .row)) (omega arith))
 
   take-page : take (recordSize (h .row)) (recordPage h) ≡ recordBytes (h .row)
@@ -86,16 +87,16 @@ module _ (img : List ℕ) where
     drop-node b = drop-append-add (first b) (inside ++ after) n ∙ drop-at inside after n e
 
     agg-in : nodesIn (suc k) img (first 1 ++ (inside ++ after)) ≡ agg l (nodesIn k img inside) (nodesIn k img after)
-    unfolding nodesIn
+    unfolding nodesIn twoAt
     agg-in = rw (two-bytes (l .label) (f .label), two-bytes (6 + n) (omega arith), take-node 1, drop-node 1)
 
     lit-in : nodesIn (suc k) img (first 2 ++ (inside ++ after)) ≡ lit l inside (nodesIn k img after)
-    unfolding nodesIn
+    unfolding nodesIn twoAt
     lit-in = rw (two-bytes (l .label) (f .label), two-bytes (6 + n) (omega arith), take-node 2, drop-node 2)
 
   rec-in : (k p : ℕ) (s : Bool) (r : Row) (page after : List ℕ) → p < 65536 → pageOf img p ≡ page → eqb (getD page 4081 0) 1 ≡ s
       → nodesIn k img (rowOn page) ≡ r → nodesIn (suc k) img (header 3 0 8 ++ (two p ++ after)) ≡ rec p s r (nodesIn k img after)
-  unfolding nodesIn
+  unfolding nodesIn twoAt
   rec-in k p s r page after h e t i = rw (two-bytes p h, e, t, i)
 
   row-in : (k h : ℕ) (row : Row) → steps row ≤ k → size row ≤ 4080 → Fits row → Stored (pageOf img) h row

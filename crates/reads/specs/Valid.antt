@@ -7,7 +7,7 @@ use native.Mathlib.Omega.{arith}
 use borrow.Author.Tests.{ltb-true, lt-ltb, leb-true, le-leb, eqb-true, eq-eqb, ne-eqb, not-true}
 use lib.ListN.{length}
 use lib.Dec.{leb, eqb}
-use Rattle.model.specs.Row.{Row, nil, agg, lit, rec, store, lone, nodeCount, recordSize, isAgg, height, count, outside, placed, Config, every, isByte, isEntry, inRange, headFits, recordFits, fits, valid, mayStand, byTable}
+use Rattle.model.specs.Row.{Row, nil, agg, lit, rec, store, lone, nodeCount, recordSize, isAgg, height, count, outside, placed, Config, every, isByte, isEntry, inRange, headFits, recordFits, fits, valid, standing, mayStand, byTable}
 use Rattle.laws.specs.Fits.{IsByte, Shape, one, more, RecordFits, Fits, Ranges, Placed, Valid}
 use Rattle.laws.specs.Laws.{cond-case, isNil-nil}
 
@@ -185,6 +185,7 @@ valid-holds st root v =
 
 -- a record's root alone stands on its page where it may stand in an aggregate
 lone-table : (r : Row) → lone r ≡ true → byTable 1 r ≡ true → byTable 0 r ≡ true
+unfolding mayStand standing
 lone-table nil e t = absurd (false≢true e)
 lone-table (agg h cs rest) e t = rw (isNil-nil rest e, both (byTable 1 cs) (byTable 1 rest) t .0)
 lone-table (lit h c rest) e t = rw (isNil-nil rest e)
@@ -193,6 +194,7 @@ lone-table (rec p s r rest) e t = absurd (false≢true e)
 -- Whatever fits stands by the table where aggregates, literals and proxies may stand: in an aggregate (1) or a helper (4).
 fits-table : (holder : ℕ) → mayStand holder 1 ≡ true → mayStand holder 2 ≡ true → mayStand holder 3 ≡ true → (r : Row) → Fits r
     → byTable holder r ≡ true
+unfolding mayStand standing
 fits-table k a b c nil f = refl
 fits-table k a b c (agg h cs rest) f = rw (a, fits-table 1 refl refl refl cs (f .1)) (fits-table k a b c rest (f .2))
 fits-table k a b c (lit h x rest) f = rw b (fits-table k a b c rest (f .3))
@@ -202,4 +204,5 @@ fits-table k a b c (rec p s r rest) f =
     rw (c, inside) (fits-table k a b c rest (f .2))
 
 pub by-table : (r : Row) → Fits r → byTable 1 r ≡ true
+unfolding mayStand standing
 by-table r f = fits-table 1 refl refl refl r f

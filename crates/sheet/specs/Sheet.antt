@@ -102,7 +102,7 @@ pub record BenchSheet : Type 0 where
 
 -- Naming this unfolds every definition that the calls compute with.
 computed : Unit {0}
-unfolding image inRange valid placeAt grow inserted after kept close separator separate group twoGroups freeFrom startOf lengthOk nodesIn sameBytes reading insertNumber findIn formatNumber opened formatOf insertOf findOf
+unfolding image inRange valid placeAt twoAt grow inserted after kept close separator separate group twoGroups freeFrom startOf lengthOk nodesIn sameBytes reading insertNumber findIn formatNumber opened formatOf insertOf findOf
 computed = tt
 
 abbrev rootOf : Row → Row
@@ -167,11 +167,11 @@ full-is = refl
 
 sizes : (used (sevenImage 5) 1 ≡ 3688) × (used (image (usual 5) (withLast 386)) 1 ≡ 4080) × (used eightImage 1 ≡ 22) × (used eightImage 2 ≡ 1584) × (used eightImage 3 ≡ 2636)
     × (used elevenImage 1 ≡ 30) × (used elevenImage 2 ≡ 1584) × (used elevenImage 3 ≡ 1584) × (used elevenImage 4 ≡ 2636)
-unfolding image
+unfolding image twoAt
 sizes = (refl, refl, refl, refl, refl, refl, refl, refl, refl)
 
 pages : (take 1584 (pageOf eightImage 2) ≡ helperOf 3) × (take 2636 (pageOf eightImage 3) ≡ helperOf 5)
-unfolding image
+unfolding image twoAt
 pages = (refl, refl)
 
 found : (findOf (image (usual 3) (rootOf (chainRow 23))) (replicate 92 0) ≡ record { number = 0; place = record { page = 1; offset = 138 } })
