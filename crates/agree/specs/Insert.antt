@@ -6,10 +6,10 @@ use mathlib.Core.List.{List, [], _∷_, _++_}
 use mathlib.Core.Option.{Option, none, some}
 use Prim.Native.Nat.{ℕ, _+_, _*_, _≤_, _<_}
 use native.Mathlib.Omega.{arith}
-use borrow.Author.Tests.{eqb-true, eqb-false, ltb-true, ltb-false}
+use borrow.Author.Tests.{eqb-true, eqb-false, ltb-false}
 use lib.ListN.{length}
 use lib.Dec.{ltb, eqb}
-use Rattle.model.specs.Row.{Row, Config, image, every, isByte}
+use Rattle.model.specs.Row.{Row, Config, image}
 use Rattle.model.specs.Tree.{Tree, shown, New, insertAt, placeOf}
 use Rattle.model.specs.Growth.{Work, Out, grow}
 use Rattle.model.specs.Reading.{Reads}
@@ -18,10 +18,9 @@ use Rattle.model.specs.Calls.{accept, pathOf, placeOr, namedBy, kindBad, isNone
 use Rattle.model.specs.Plain.{Call, insert, Typed, inserted, imageAfter, growthOn, placesOn, feedOf, plainAnswer, plainAfter}
 use Rattle.model.specs.Claims.{Stands, FullExactly, Step}
 use Rattle.model.specs.declared.InsertAnswer.{InsertAnswer}
-use Rattle.laws.specs.Fits.{Valid, IsByte}
 use Rattle.laws.specs.Laws.{shown-grow}
 use Rattle.laws.specs.Store.{NewFits, valid-grow}
-use Rattle.reads.specs.Valid.{both, valid-holds}
+use Rattle.reads.specs.Valid.{bytes-say, valid-holds}
 use Rattle.reads.specs.Reading.{reads-valid}
 use Rattle.agree.specs.Open.{opens}
 use Rattle.agree.specs.Paths.{path-length}
@@ -42,12 +41,17 @@ last-test false false false false false false true = (λ z. (refl, refl), λ z. 
 last-test false false false false false false false = (λ z. absurd (omega arith), λ z. absurd (false≢true (z .1)))
 
 -- No test of an accepted insert applies.
-record Accepted (path : List ℕ) (x : New) (full : Bool) : Type 0 where
-  short : length path ≤ 88
-  small : length (x .content) ≤ 520
-  room : full ≡ false
+pub record Accepted (t : Tree) (path : List ℕ) (k : ℕ) (x : New) (full : Bool) : Type 0 where
+  pub short : length path ≤ 88
+  pub kind : kindBad x ≡ false
+  pub small : length (x .content) ≤ 520
+  pub named : isNone (namedBy t path) ≡ false
+  pub aggregate : isLiteral (namedBy t path) ≡ false
+  pub within : childrenBelow k (namedBy t path) ≡ false
+  pub room : full ≡ false
 
-no-test : (a b c d e f g : Bool) → lowest ((4, a) ∷ (5, b) ∷ (6, c) ∷ (7, d) ∷ (8, e) ∷ (9, f) ∷ (12, g) ∷ []) ≡ 0 → (a ≡ false) × (c ≡ false) × (g ≡ false)
+no-test : (a b c d e f g : Bool) → lowest ((4, a) ∷ (5, b) ∷ (6, c) ∷ (7, d) ∷ (8, e) ∷ (9, f) ∷ (12, g) ∷ []) ≡ 0
+    → (a ≡ false) × (b ≡ false) × (c ≡ false) × (d ≡ false) × (e ≡ false) × (f ≡ false) × (g ≡ false)
 no-test true b c d e f g z = absurd (omega arith)
 no-test false true c d e f g z = absurd (omega arith)
 no-test false false true d e f g z = absurd (omega arith)
@@ -55,18 +59,14 @@ no-test false false false true e f g z = absurd (omega arith)
 no-test false false false false true f g z = absurd (omega arith)
 no-test false false false false false true g z = absurd (omega arith)
 no-test false false false false false false true z = absurd (omega arith)
-no-test false false false false false false false z = (refl, refl, refl)
+no-test false false false false false false false z = (refl, refl, refl, refl, refl, refl, refl)
 
-accepted : (t : Tree) (path : List ℕ) (k : ℕ) (x : New) (full : Bool) → insertNumber t path k x full ≡ 0 → Accepted path x full
+pub accepted : (t : Tree) (path : List ℕ) (k : ℕ) (x : New) (full : Bool) → insertNumber t path k x full ≡ 0 → Accepted t path k x full
 unfolding insertNumber
 accepted t path k x full z =
     let p = namedBy t path in
     let u = no-test (ltb 88 (length path)) (kindBad x) (ltb 520 (length (x .content))) (isNone p) (isLiteral p) (childrenBelow k p) full z in
-    record { short = ltb-false _ _ (u .0); small = ltb-false _ _ (u .1); room = u .2 }
-
-bytes-say : (c : List ℕ) → every isByte c ≡ true → IsByte c
-bytes-say [] e = tt
-bytes-say (b ∷ c) e = let h = both (isByte b) (every isByte c) e in (ltb-true _ _ (h .0), bytes-say c (h .1))
+    record { short = ltb-false _ _ (u .0); kind = u .1; small = ltb-false _ _ (u .2); named = u .3; aggregate = u .4; within = u .5; room = u .6 }
 
 -- ── an insert ──
 

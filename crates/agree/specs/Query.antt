@@ -72,7 +72,7 @@ module _ (order : (img buffer : List ℕ) → List ℕ) (img : List ℕ) (st : C
   unfolding recordsOf
   same-records buffer =
       let n : length (pageBytes (order img buffer)) ≡ 2 * length (recordPages root)
-          = length-pageBytes (order img buffer) ∙ ap (λ (k : ℕ). 2 * k) (same-length (order img buffer) (recordPages root) (o buffer)) in
+      = length-pageBytes (order img buffer) ∙ ap (λ (k : ℕ). 2 * k) (same-length (order img buffer) (recordPages root) (o buffer)) in
       rw (opens img st root r, n)
 
   -- The answer to a query is the plain tree's.

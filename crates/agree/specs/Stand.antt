@@ -23,7 +23,7 @@ use Rattle.places.specs.From.{from-found}
 use Rattle.agree.specs.Open.{opens, passes}
 use Rattle.agree.specs.Paths.{Spelled, spelled, path-levels}
 
-largest-fits : (hs : List Held) → AllFit hs → largest hs ≤ 4080
+pub largest-fits : (hs : List Held) → AllFit hs → largest hs ≤ 4080
 largest-fits [] f = omega arith
 largest-fits (h ∷ hs) f = omega (arith, f .0, largest-fits hs (f .1))
 

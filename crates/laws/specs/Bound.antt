@@ -7,11 +7,12 @@ use native.Mathlib.Omega.{arith}
 use native.Mathlib.Nat.{mul-le-mul-right, mul-le-mul-left}
 use borrow.Author.Tests.{ltb-true, ltb-false, leb-true, leb-false}
 use lib.ListN.{length, getD}
-use lib.IntN.{ℤ, pos, negsuc, subℕ}
+use lib.IntN.{subℕ}
 use lib.Dec.{leb, ltb, eqb, T}
 use Rattle.model.specs.Row.{Row, nil, agg, lit, rec, _⊹_, size, isNil, lone, loneRec, base, recordSize, Config, height, nodeCount}
 use Rattle.laws.specs.Fits.{Ranges, Fits, RecordFits, Shape, one, more}
 use Rattle.model.specs.Growth.{Work, Out, onRow, group, twoGroups, separate, goOn, stops, startOf, startOfD, rootRow, withRow, splitPoint, separator}
+use Rattle.model.specs.Claims.{InLean}
 use Rattle.laws.specs.Laws.{size-⊹, cond-case, isNil-nil}
 
 -- ── the tests of step 3 ──
@@ -266,11 +267,6 @@ module _ (st : Config) (k : Ranges st) (S : ℕ) (over : 4080 < S) (most : S ≤
 
   p-high : splitPoint st S ≤ 3454
   p-high = omega (arith, mul-le-mul-right S (k .high))
-
--- from -525 to 132
-abbrev pub InLean : ℤ → Type 0
-InLean (pos n) = n ≤ 132
-InLean (negsuc n) = n < 525
 
 in-lean : (a p : ℕ) → a ≤ p + 132 → p ≤ a + 525 → InLean (subℕ a p)
 in-lean a p h k = cond-case InLean (ltb a p) (λ e. omega (arith, ltb-true a p e)) (λ e. omega (arith, ltb-false a p e))

@@ -65,13 +65,13 @@ tall (agg l cs rest) f h = omega arith
 tall (lit l c rest) f h = omega arith
 tall (rec p s r rest) f h = omega (arith, tall r (f .1) (shape-nodeCount (f .0 .shape)))
 
-depth-height : (r : Row) → Fits r → depth r ≤ height r
+pub depth-height : (r : Row) → Fits r → depth r ≤ height r
 depth-height nil f = omega arith
 depth-height (agg l cs rest) f = omega (arith, depth-height cs (f .1), depth-height rest (f .2))
 depth-height (lit l c rest) f = omega (arith, depth-height rest (f .3))
 depth-height (rec p s r rest) f = omega (arith, tall r (f .1) (shape-nodeCount (f .0 .shape)), depth-height rest (f .2))
 
-depth-root : (st : Config) (b : Bool) (r : Row) → depth (rootRow st b r) ≤ depth r
+pub depth-root : (st : Config) (b : Bool) (r : Row) → depth (rootRow st b r) ≤ depth r
 depth-root st false r = omega arith
 depth-root st true nil = omega arith
 depth-root st true (agg l cs rest) = omega arith
@@ -99,18 +99,18 @@ lone-one (lit l c rest) e = omega (arith, ap nodeCount (isNil-nil rest e))
 lone-one (rec p s r rest) e = absurd (false≢true e)
 
 -- What growth makes of a row: it fits, is at most 526 bytes larger, and has no fewer nodeCount.
-record Grew (row : Row) (o : Out) : Type 0 where
-  fits : Fits (o .0)
-  grown : size (o .0) ≤ size row + 526
-  keeps : nodeCount row ≤ nodeCount (o .0)
-  root : lone row ≡ true → lone (o .0) ≡ true
+pub record Grew (row : Row) (o : Out) : Type 0 where
+  pub fits : Fits (o .0)
+  pub grown : size (o .0) ≤ size row + 526
+  pub keeps : nodeCount row ≤ nodeCount (o .0)
+  pub root : lone row ≡ true → lone (o .0) ≡ true
 
 -- a record's row after growth: its shape and its size
 shape-kept : {s : Bool} (r r′ : Row) → Shape s r → nodeCount r ≤ nodeCount r′ → (lone r ≡ true → lone r′ ≡ true) → Shape s r′
 shape-kept r r′ (one e) n k = one (k e)
 shape-kept r r′ (more r₁ h) n k = more r′ (omega arith)
 
-base-kept : {s : Bool} (r r′ : Row) → Shape s r → nodeCount r ≤ nodeCount r′ → (lone r ≡ true → lone r′ ≡ true) → base r′ ≤ base r
+pub base-kept : {s : Bool} (r r′ : Row) → Shape s r → nodeCount r ≤ nodeCount r′ → (lone r ≡ true → lone r′ ≡ true) → base r′ ≤ base r
 base-kept r r′ (one e) n k = rw (e, k e) (omega arith)
 base-kept r r′ (more r₁ h) n k = go (lone r) refl
   where
@@ -200,17 +200,17 @@ module _ (st : Config) (k : Ranges st) where
         (λ _. asRow-good rest w f)
 
     -- a row that grew by a node, or in one of its records
-    record Longer (row : Row) (o : Out) : Type 0 where
-      fits : Fits (o .0)
-      grown : size (o .0) ≤ size row + 526
-      keeps : nodeCount row ≤ nodeCount (o .0)
+    pub record Longer (row : Row) (o : Out) : Type 0 where
+      pub fits : Fits (o .0)
+      pub grown : size (o .0) ≤ size row + 526
+      pub keeps : nodeCount row ≤ nodeCount (o .0)
 
-    after-height : (l : Head) (page i : ℕ) (row : Row) (w : Work) → height row ≤ 23 → height (after st x l page i row w .0) ≤ 23
+    pub after-height : (l : Head) (page i : ℕ) (row : Row) (w : Work) → height row ≤ 23 → height (after st x l page i row w .0) ≤ 23
     after-height l page i row w h =
         let o = after st x l page i row w .0 in
         omega (arith, height-shown o, ap levels (shown-after st x l page i row w), levels-putAt x (suc i) (shown row), height-shown row)
 
-    after-good : (l : Head) (page i : ℕ) (row : Row) (w : Work) → Fits row → height row ≤ 23 → Longer row (after st x l page i row w)
+    pub after-good : (l : Head) (page i : ℕ) (row : Row) (w : Work) → Fits row → height row ≤ 23 → Longer row (after st x l page i row w)
     unfolding after
     after-good l page i nil w f h = record { fits = tt; grown = omega arith; keeps = omega arith }
     after-good l page zero (agg m cs rest) w f h =
@@ -240,21 +240,21 @@ module _ (st : Config) (k : Ranges st) where
         let a = after-good l page (i - width r) rest w (f .2) (omega arith) in
         record { fits = (f .0, f .1, a .fits); grown = omega arith; keeps = omega arith })
 
-    child-good : (l : Head) (page n : ℕ) (row : Row) (w : Work) → Fits row → height row ≤ 23 → Longer row (child st x l page n row w)
+    pub child-good : (l : Head) (page n : ℕ) (row : Row) (w : Work) → Fits row → height row ≤ 23 → Longer row (child st x l page n row w)
     child-good l page zero row w f h = let a = place-good l page row w f in record { fits = a .fits; grown = a .grown; keeps = omega arith }
     child-good l page (suc i) row w f h = after-good l page i row w f h
 
-    child-height : (l : Head) (page n : ℕ) (row : Row) (w : Work) → height row ≤ 23 → height (child st x l page n row w .0) ≤ 23
+    pub child-height : (l : Head) (page n : ℕ) (row : Row) (w : Work) → height row ≤ 23 → height (child st x l page n row w .0) ≤ 23
     child-height l page n row w h =
         let o = child st x l page n row w .0 in
         omega (arith, height-shown o, ap levels (shown-child st x l page n row w), levels-putAt x n (shown row), height-shown row)
 
-    inserted-height : (n page i : ℕ) (path : List ℕ) (row : Row) (w : Work) → height row ≤ 23 → length path ≤ 21 → height (inserted st x n page i path row w .0) ≤ 23
+    pub inserted-height : (n page i : ℕ) (path : List ℕ) (row : Row) (w : Work) → height row ≤ 23 → length path ≤ 21 → height (inserted st x n page i path row w .0) ≤ 23
     inserted-height n page i path row w h p =
         let o = inserted st x n page i path row w .0 in
         omega (arith, height-shown o, ap levels (shown-inserted st x n page i path row w), levels-insertAt x n i path (shown row), height-shown row)
 
-    inserted-good : (n page i : ℕ) (path : List ℕ) (row : Row) (w : Work) → Fits row → height row ≤ 23 → length path ≤ 21 → Grew row (inserted st x n page i path row w)
+    pub inserted-good : (n page i : ℕ) (path : List ℕ) (row : Row) (w : Work) → Fits row → height row ≤ 23 → length path ≤ 21 → Grew row (inserted st x n page i path row w)
     unfolding inserted
     inserted-good n page i path nil w f h p = record { fits = tt; grown = omega arith; keeps = omega arith; root = λ t. t }
     inserted-good n page zero [] (agg m cs rest) w f h p =

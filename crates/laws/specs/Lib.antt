@@ -5,3 +5,4 @@ pub mod Pages
 pub mod Keeps
 pub mod Store
 pub mod Image
+pub mod Lean

@@ -35,7 +35,7 @@ tests-hold a (b ∷ bs) e =
 
 -- ── the settings ──
 
-ranges-say : (st : Config) → inRange st ≡ true → Ranges st
+pub ranges-say : (st : Config) → inRange st ≡ true → Ranges st
 unfolding inRange
 ranges-say st e =
     let others =
@@ -68,7 +68,7 @@ ranges-hold st r =
 
 -- ── records ──
 
-bytes-say : (c : List ℕ) → every isByte c ≡ true → IsByte c
+pub bytes-say : (c : List ℕ) → every isByte c ≡ true → IsByte c
 bytes-say [] e = tt
 bytes-say (b ∷ c) e = let h = both (isByte b) (every isByte c) e in (ltb-true b 256 (h .0), bytes-say c (h .1))
 
@@ -96,7 +96,7 @@ record-says s r e =
 record-holds : (s : Bool) (r : Row) → RecordFits s r → recordFits s r ≡ true
 record-holds s r f = rw (le-leb (recordSize r) 4080 (f .fits)) (shape-holds (f .shape))
 
-fits-says : (r : Row) → fits r ≡ true → Fits r
+pub fits-says : (r : Row) → fits r ≡ true → Fits r
 fits-says nil e = tt
 fits-says (agg h cs rest) e =
     let t = tests-hold (headFits h) (fits cs ∷ fits rest ∷ []) e in

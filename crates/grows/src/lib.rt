@@ -1,0 +1,1 @@
+// What is claimed of splits and of growth, proved, in specs/.

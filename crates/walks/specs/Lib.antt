@@ -1,0 +1,4 @@
+pub mod Rec
+pub mod Tests
+pub mod Walk
+pub mod Check
