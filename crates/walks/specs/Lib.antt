@@ -1,4 +1,6 @@
 pub mod Rec
+pub mod Facts
 pub mod Tests
 pub mod Walk
 pub mod Check
+pub mod Steps
