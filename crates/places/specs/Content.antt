@@ -59,7 +59,7 @@ module _ (img : List ℕ) where
   -- ── rows ──
 
   -- a record's row stands on its page, past a helper's header
-  on-page : (h : Held) → pageOf img (h .page) ≡ recordPage h → (post : List ℕ) × (drop (4096 * h .page + base (h .row)) img ≡ bytes (h .row) ++ post)
+  pub on-page : (h : Held) → pageOf img (h .page) ≡ recordPage h → (post : List ℕ) × (drop (4096 * h .page + base (h .row)) img ≡ bytes (h .row) ++ post)
   on-page h e =
       let r = h .row in
       let free = replicate {A = ℕ} (4080 - recordSize r) 0 in

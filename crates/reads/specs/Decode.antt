@@ -16,7 +16,7 @@ use Rattle.reads.specs.Valid.{names-own}
 use Rattle.reads.specs.Length.{length-image}
 use Rattle.reads.specs.Steps.{steps, named-inside, few-steps}
 
-two-bytes : (n : ℕ) → n < 65536 → n % 256 + 256 * (n / 256 % 256) ≡ n
+pub two-bytes : (n : ℕ) → n < 65536 → n % 256 + 256 * (n / 256 % 256) ≡ n
 two-bytes n h = omega arith
 
 getD-past : (p q : List ℕ) (n i : ℕ) → length p ≡ n → getD (p ++ q) (n + i) 0 ≡ getD q i 0
@@ -41,20 +41,20 @@ config-image st root v =
 
 module _ (h : Held) (f : recordSize (h .row) ≤ 4080) where
   -- byte i of the trailer
-  in-trailer : (i : ℕ) → getD (recordPage h) (4080 + i) 0 ≡ getD (trailer 1 (cond (h .settled) 1 0) (recordSize (h .row)) (h .holder)) i 0
+  pub in-trailer : (i : ℕ) → getD (recordPage h) (4080 + i) 0 ≡ getD (trailer 1 (cond (h .settled) 1 0) (recordSize (h .row)) (h .holder)) i 0
   in-trailer i =
       let front = recordBytes (h .row) ++ replicate (4080 - recordSize (h .row)) 0 in
       let n : length front ≡ 4080 = simp (length-append, length-replicate, length-record) (omega arith) in
       getD-past front (trailer 1 (cond (h .settled) 1 0) (recordSize (h .row)) (h .holder)) 4080 i n
 
-  settled-page : eqb (getD (recordPage h) 4081 0) 1 ≡ h .settled
+  pub settled-page : eqb (getD (recordPage h) 4081 0) 1 ≡ h .settled
   settled-page = rw (in-trailer 1) (go (h .settled))
     where
       go : (b : Bool) → eqb (cond b 1 0) 1 ≡ b
       go true = refl
       go false = refl
 
-  used-page : twoAt (recordPage h) 4082 ≡ recordSize (h .row)
+  pub used-page : twoAt (recordPage h) 4082 ≡ recordSize (h .row)
   unfolding twoAt
   used-page = rw (in-trailer 2, in-trailer 3) (two-bytes (recordSize (h .row)) (omega arith))
 

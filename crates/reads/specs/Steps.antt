@@ -18,7 +18,7 @@ steps (lit l c rest) = 1 + steps rest
 steps (rec p s r rest) = 1 + steps r + steps rest
 
 -- The records below a row.
-abbrev recordCount : Row → ℕ
+abbrev pub recordCount : Row → ℕ
 recordCount nil = 0
 recordCount (agg l cs rest) = recordCount cs + recordCount rest
 recordCount (lit l c rest) = recordCount rest
@@ -84,12 +84,19 @@ module _ (st : Config) (root : Row) (v : Valid st root) where
           let t = neither (leb q 1) (leb (st .pages) q) f in
           omega (arith, leb-false q 1 (t .0), leb-false (st .pages) q (t .1))
 
+  pub few-records : recordCount (store root) ≤ st .pages
+  few-records =
+      omega (
+        arith,
+        count-sum (st .pages) (store root) (λ q h. named-inside q h .1),
+        sum-at-most (st .pages) (λ q. count q (store root)) (once st root v),
+      )
+
   pub few-steps : steps root ≤ 4096 * st .pages
   few-steps =
       omega (
         arith,
         steps-bound (store root) (v .rows),
-        count-sum (st .pages) (store root) (λ q h. named-inside q h .1),
-        sum-at-most (st .pages) (λ q. count q (store root)) (once st root v),
+        few-records,
         v .ranges .few,
       )

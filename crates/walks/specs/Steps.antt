@@ -121,12 +121,12 @@ module _ (img : List ℕ) where
   unfolding entersOf namesOf
   entered p page w e =
       let a = inner (ltb p 2) (leb 1024 p) (ltb (length img) (4096 * p + 4096)) (eqb (getD img (4096 * p + 4080) 0) 1) (ltb 4080 (twoAt img (4096 * p + 4080 + 2)))
-            (eqb (twoAt img (4096 * p + 4080 + 4)) page) (rootFits img p) (ltb (w .left) 2) _ e in
-      record
-      { low = leb-false 1024 p (a .0)
-      ; inside = ltb-false (length img) (4096 * p + 4096) (a .1)
-      ; room = ltb-false (w .left) 2 (a .3)
-      ; used = ltb-false 4080 (twoAt img (4096 * p + 4080 + 2)) (a .2)
+      (eqb (twoAt img (4096 * p + 4080 + 4)) page) (rootFits img p) (ltb (w .left) 2) _ e in
+      record {
+        low = leb-false 1024 p (a .0);
+        inside = ltb-false (length img) (4096 * p + 4096) (a .1);
+        room = ltb-false (w .left) 2 (a .3);
+        used = ltb-false 4080 (twoAt img (4096 * p + 4080 + 2)) (a .2);
       }
     where
       inner : (b₁ b₂ b₃ b₄ b₅ b₆ b₇ b₈ x : Bool)
