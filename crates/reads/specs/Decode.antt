@@ -19,7 +19,7 @@ use Rattle.reads.specs.Steps.{steps, named-inside, few-steps}
 pub two-bytes : (n : ℕ) → n < 65536 → n % 256 + 256 * (n / 256 % 256) ≡ n
 two-bytes n h = omega arith
 
-getD-past : (p q : List ℕ) (n i : ℕ) → length p ≡ n → getD (p ++ q) (n + i) 0 ≡ getD q i 0
+pub getD-past : (p q : List ℕ) (n i : ℕ) → length p ≡ n → getD (p ++ q) (n + i) 0 ≡ getD q i 0
 getD-past p q n i e = rw (← e) (getD-append-add p q i 0)
 
 take-first : (p a b c : List ℕ) (n : ℕ) → length p ≡ n → take n (p ++ a ++ b ++ c) ≡ p
@@ -58,7 +58,7 @@ module _ (h : Held) (f : recordSize (h .row) ≤ 4080) where
   unfolding twoAt
   used-page = rw (in-trailer 2, in-trailer 3) (two-bytes (recordSize (h .row)) (omega arith))
 
-  take-page : take (recordSize (h .row)) (recordPage h) ≡ recordBytes (h .row)
+  pub take-page : take (recordSize (h .row)) (recordPage h) ≡ recordBytes (h .row)
   take-page = rw append-assoc (take-at (recordBytes (h .row)) _ (recordSize (h .row)) (length-record (h .row)))
 
 -- a helper's header is known by its kind, 4

@@ -5,3 +5,9 @@ pub mod Marks
 pub mod Walk
 pub mod Check
 pub mod Steps
+pub mod Nodes
+pub mod Pages
+pub mod Scan
+pub mod Fresh
+pub mod Walked
+pub mod Complete

@@ -1,0 +1,84 @@
+// Formatting: the settings' ranges, and the two pages of a store with a root aggregate alone.
+use model::Settings;
+use octets::{clear, copy_in, put16};
+ghost use mathlib.Core.Path.{_≡_};
+ghost use mathlib.Core.Bool.{true};
+ghost use mathlib.Core.List.{List, []};
+ghost use Prim.Native.Nat.{ℕ, _*_, _≤_, _<_};
+ghost use lib.ListN.{length, replicate};
+ghost use Rattle.model.specs.Row as row;
+ghost use Rattle.model.specs.Calls.{config};
+ghost use Rattle.format.specs.First.{matrixFits, numbersFit, firstRoot, firstPage, rootPage, zeros, Numbers};
+
+// Whether every entry of the matrix is 0 or 2.
+pub fn matrix_fits(matrix: &[u8]) -> bool
+    ensures { λ r. ⌜ r ≡ matrixFits (now (matrix .entry)) ⌝ }
+{
+    let mut ok = true;
+    let mut i = 0;
+    while i < matrix.len() {
+        if matrix[i] != 0 {
+            if matrix[i] != 2 {
+                ok = false;
+            }
+        }
+        i = i + 1;
+    }
+    ok
+}
+
+// Whether target, tolerance and form are in range, and the page count is the image's.
+pub fn numbers_fit(settings: Settings, pages: usize) -> bool
+    ensures { λ r. ⌜ r ≡ numbersFit settings pages ⌝ }
+{
+    if settings.pages != pages {
+        return false;
+    }
+    if settings.target < 64 {
+        return false;
+    }
+    if 192 < settings.target {
+        return false;
+    }
+    if 512 < settings.tolerance {
+        return false;
+    }
+    settings.form == 1
+}
+
+// Page 0, zero before.
+fn put_settings(page: &mut [u8], settings: Settings, matrix: &[u8])
+    requires { ⌜ (now page ≡ zeros 4096) × Numbers (config settings (now matrix)) ⌝ }
+    ensures { λ _. ⌜ now (page .exit) ≡ firstPage (config settings (now (matrix .entry))) ⌝ }
+{
+    put16(page, 0, settings.pages);
+    put16(page, 2, settings.target);
+    put16(page, 4, settings.tolerance);
+    put16(page, 6, settings.form);
+    copy_in(matrix, page, 16);
+    put16(page, 4080, 2);
+    put16(page, 4082, 272);
+}
+
+// Page 1, zero before: a root aggregate without children.
+fn put_root(page: &mut [u8], label: u16)
+    requires { ⌜ now page ≡ zeros 4096 ⌝ }
+    ensures { λ _. ⌜ now (page .exit) ≡ rootPage label ⌝ }
+{
+    put16(page, 0, 1);
+    put16(page, 2, label as usize);
+    put16(page, 4, 6);
+    put16(page, 4080, 257);
+    put16(page, 4082, 6);
+}
+
+// The image of a store with a root aggregate alone, whatever bytes it had.
+pub fn write_first(image: &mut [u8], settings: Settings, matrix: &[u8], label: u16)
+    requires { ⌜ (length (now image) ≡ 4096 * settings .pages) × (row.inRange (config settings (now matrix)) ≡ true) ⌝ }
+    ensures { λ _. ⌜ now (image .exit) ≡ row.image (config settings (now (matrix .entry))) (firstRoot label) ⌝ }
+{
+    let n = image.len();
+    clear(image, 0, n);
+    put_settings(&mut image[0..4096], settings, matrix);
+    put_root(&mut image[4096..8192], label);
+}
