@@ -65,3 +65,21 @@ check-exact img = record {
     neither true none z = (refl, refl)
     neither true (some s) z = absurd (omega arith)
     neither false r z = absurd (omega arith)
+
+-- An image that does not pass is refused by the check's number, whatever the call.
+pub refuses : (img : List ℕ) (n : ℕ) → checkOf img ≡ n → (n ≡ 0 → ⊥) → opened img ≡ refused n
+unfolding checkOf
+refuses img n e z = go (opened img) e
+  where
+    go : (o : Opened) → onStore o (λ n. n) (λ st root. 0) ≡ n → o ≡ refused n
+    go (refused m) e = ap refused e
+    go (holds st root) e = absurd (z (sym e))
+
+-- What does not pass is refused by its length or as broken.
+pub not-passing : (img : List ℕ) → (checkOf img ≡ 0 → ⊥) → checkOf img ≡ cond {A = ℕ} (lengthOk (length img)) 3 1
+not-passing img z = check-is img ∙ go (lengthOk (length img)) (reading img) (λ e. z (check-is img ∙ e))
+  where
+    go : (b : Bool) (r : Option (Config × Row)) → (code (opening b r) ≡ 0 → ⊥) → code (opening b r) ≡ cond {A = ℕ} b 3 1
+    go true none z = refl
+    go true (some s) z = absurd (z refl)
+    go false r z = refl

@@ -80,7 +80,7 @@ depth-root st true (rec p s r rest) = omega arith
 
 -- ── the shape of a record's row ──
 
-nodeCount-⊹ : (a b : Row) → nodeCount (a ⊹ b) ≡ nodeCount a + nodeCount b
+pub nodeCount-⊹ : (a b : Row) → nodeCount (a ⊹ b) ≡ nodeCount a + nodeCount b
 nodeCount-⊹ nil b = omega arith
 nodeCount-⊹ (agg l cs rest) b = rw (nodeCount-⊹ rest b) (omega arith)
 nodeCount-⊹ (lit l c rest) b = rw (nodeCount-⊹ rest b) (omega arith)

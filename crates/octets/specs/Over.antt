@@ -1,12 +1,12 @@
 -- Writes to a list of bytes, and their laws. Every write of the store is one `over`.
 use mathlib.Core.Path.{_≡_, refl, sym, ap, _∙_}
 use mathlib.Core.List.{List, [], _∷_, _++_, append-assoc, append-nil}
-use Prim.Native.Nat.{ℕ, zero, suc, _+_, _-_, _*_, _/_, _%_, _<_, _≤_}
+use Prim.Native.Nat.{ℕ, suc, _+_, _-_, _/_, _%_, _<_, _≤_}
 use native.Mathlib.Omega.{arith}
-use lib.ListN.{length, take, drop, getD, set, replicate, length-append, length-take, length-drop, length-replicate, drop-of-length-le, take-append-drop, replicate-append-replicate}
 use native.Mathlib.Nat.{add-zero, zero-add, add-assoc}
 use native.Mathlib.Numerals.{add-one}
-use lib.Seq.{take-append-le, drop-append-le, take-append-add, drop-append-add, take-at, drop-at, set-at, drop-cons, take-suc, take-all, length-take-le, take-take, drop-drop, take-add, sets, sets-eq}
+use lib.ListN.{length, take, drop, getD, set, replicate, length-append, length-take, length-drop, length-replicate, drop-of-length-le, take-append-drop, replicate-append-replicate}
+use lib.Seq.{take-append-le, drop-append-le, take-append-add, drop-append-add, take-at, drop-at, set-at, drop-cons, take-suc, take-all, length-take-le, drop-drop, sets-eq}
 use Rattle.model.specs.Row.{two}
 
 -- l with the elements from index at replaced by xs

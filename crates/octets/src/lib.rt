@@ -1,11 +1,12 @@
 // Reads and writes of bytes in a slice: the leaves.
 ghost use mathlib.Core.Path.{_≡_};
-ghost use Prim.Native.Nat.{ℕ, _+_, _≤_, _<_};
+ghost use Prim.Native.Nat.{_+_, _≤_, _<_};
 ghost use lib.ListN.{length, replicate};
 ghost use Rattle.model.specs.Row as row;
 ghost use Rattle.model.specs.Reading.{twoAt};
 ghost use Rattle.octets.specs.Over.{over};
 
+// A byte as a number of the machine.
 pub fn wide(x: u8) -> usize
     ensures { λ r. ⌜ (r ≡ x) × (r < 256) ⌝ }
 {

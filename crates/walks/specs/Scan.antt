@@ -5,7 +5,7 @@ use mathlib.Core.List.{List, [], _∷_, map}
 use Prim.Native.Nat.{ℕ, zero, suc, _+_, _-_, _≤_, _<_}
 use native.Mathlib.Omega.{arith}
 use lib.Dec.{leb, eqb}
-use borrow.Author.Tests.{eqb-true, eqb-false, ne-eqb, leb-false}
+use borrow.Author.Tests.{ne-eqb, leb-false}
 use Rattle.model.specs.Row.{Row, nil, agg, lit, rec, store, Held, records, recordPage, pageAt, image, count, Config}
 use Rattle.model.specs.Reading.{pageOf}
 use Rattle.model.specs.Calls.{times}
@@ -17,32 +17,9 @@ use Rattle.places.specs.Pages.{pages-count, pages-once}
 use Rattle.walks.specs.Tests.{stateOf}
 use Rattle.walks.specs.Check.{scanFrom}
 use Rattle.walks.specs.Pages.{free-state, record-state}
+use Rattle.walks.specs.Sums.{sum, sum-add, only, sum-only}
 
--- ── sums over k pages from p on ──
-
-abbrev sum : (ℕ → ℕ) → (k p : ℕ) → ℕ
-sum f zero p = 0
-sum f (suc k) p = f p + sum f k (suc p)
-
-sum-add : (f g : ℕ → ℕ) (k p : ℕ) → sum (λ q. f q + g q) k p ≡ sum f k p + sum g k p
-sum-add f g zero p = refl
-sum-add f g (suc k) p = omega (arith, sum-add f g k (suc p))
-
-abbrev only : ℕ → ℕ → ℕ
-only x q = cond (eqb q x) 1 0
-
-sum-past : (x k p : ℕ) → x < p → sum (only x) k p ≡ 0
-sum-past x zero p h = refl
-sum-past x (suc k) p h = rw (ne-eqb p x (λ e. omega arith)) (omega (arith, sum-past x k (suc p) (omega arith)))
-
-sum-only : (x k p : ℕ) → p ≤ x → x < p + k → sum (only x) k p ≡ 1
-sum-only x zero p a b = absurd (omega arith)
-sum-only x (suc k) p a b = go (eqb p x) refl
-    (λ e. sum-past x k (suc p) (omega arith)) (λ e. sum-only x k (suc p) (omega arith) (omega arith))
-  where
-    go : (c : Bool) → eqb p x ≡ c → (p ≡ x → sum (only x) k (suc p) ≡ 0) → (p < x → sum (only x) k (suc p) ≡ 1) → cond c 1 0 + sum (only x) k (suc p) ≡ 1
-    go true e f g = omega (arith, f (eqb-true p x e))
-    go false e f g = omega (arith, g (omega (arith, eqb-false p x e)))
+-- ── sums ──
 
 sum-none : (k p : ℕ) → sum (λ q. 0) k p ≡ 0
 sum-none zero p = refl

@@ -1,5 +1,5 @@
--- `leaf::clear`: after j turns j zeros stand from `at`.
-use mathlib.Core.Path.{_≡_, refl, sym, ap, _∙_}
+-- After j turns j zeros stand from `at`.
+use mathlib.Core.Path.{_≡_, refl, sym}
 use Prim.Native.Nat.{_≤_, _-_}
 use native.Mathlib.Nat.{le-antisymm}
 use native.Mathlib.Omega.{arith}

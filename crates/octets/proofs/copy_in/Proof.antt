@@ -1,4 +1,4 @@
--- `leaf::copy_in`: after j turns the first j bytes of src stand from `at`.
+-- After j turns the first j bytes of src stand from `at`.
 use mathlib.Core.Path.{_≡_, refl, sym}
 use Prim.Native.Nat.{_≤_, _-_}
 use native.Mathlib.Omega.{arith}

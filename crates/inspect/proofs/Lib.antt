@@ -1,0 +1,5 @@
+pub mod Calls
+pub mod Walks
+pub mod All
+pub mod Scans
+pub mod Checks

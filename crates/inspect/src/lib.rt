@@ -1,0 +1,497 @@
+// The check of an image: the length, page 0, all trailers and free pages, then the walk from page 1 through the proxies.
+use octets::two;
+use octets::wide;
+ghost use mathlib.Core.Path.{_≡_};
+ghost use mathlib.Core.Bool.{true};
+ghost use Prim.Native.Nat.{_+_, _-_, _*_, _≤_, _<_};
+ghost use lib.ListN.{length};
+ghost use Rattle.model.specs.Row.{mayStand};
+ghost use Rattle.model.specs.Reading.{lengthOk};
+ghost use Rattle.walks.specs.Tests.{sizeOf, twoChildren, shapeOf, headOf, isMarked, marked, namesOf, rootFits, allZero, matrixOk, stateOf, numbersOk, settingsOk, firstOk};
+ghost use Rattle.walks.specs.Walk.{state, entersOf, nodeOf, listOf, proxyOf};
+ghost use Rattle.walks.specs.Check.{scanFrom, trailersOf, walkOk, checkBy};
+
+// Row: the holder, 0 a record's page. Column: the kind.
+pub const MAY_STAND: [u8; 25] = [
+    // a record's page
+    0,
+    1,
+    1,
+    0,
+    1,
+    // an aggregate
+    0,
+    1,
+    1,
+    1,
+    0,
+    // a literal, a proxy
+    0,
+    0,
+    0,
+    0,
+    0,
+    0,
+    0,
+    0,
+    0,
+    0,
+    // a helper
+    0,
+    1,
+    1,
+    1,
+    0,
+];
+
+// ── nodes ──
+
+// The size of the node that the part starts with, 0 where no whole node stands there.
+pub fn size_of(part: &[u8]) -> usize
+    ensures { λ r. ⌜ r ≡ sizeOf (now (part .entry)) ⌝ }
+{
+    if part.len() < 6 {
+        return 0;
+    }
+    let n = two(part, 4);
+    if n < 6 {
+        return 0;
+    }
+    if part.len() < n {
+        return 0;
+    }
+    n
+}
+
+// Whether a node of a kind may stand in a holder.
+pub fn may_stand(holder: usize, kind: usize) -> bool
+    requires { ⌜ (holder < 5) × (kind < 5) ⌝ }
+    ensures { λ r. ⌜ r ≡ mayStand holder kind ⌝ }
+{
+    MAY_STAND[holder * 5 + kind] == 1
+}
+
+// Whether a list of nodes starts with a whole node and goes on after it.
+pub fn two_children(rest: &[u8]) -> bool
+    ensures { λ r. ⌜ r ≡ twoChildren (now (rest .entry)) ⌝ }
+{
+    let n = size_of(rest);
+    if n == 0 {
+        return false;
+    }
+    n < rest.len()
+}
+
+// What a node's kind asks of it.
+pub fn shaped(part: &[u8], kind: usize) -> bool
+    requires { ⌜ 6 ≤ length (now part) ⌝ }
+    ensures { λ r. ⌜ r ≡ shapeOf (now (part .entry)) kind ⌝ }
+{
+    if kind == 3 {
+        return two(part, 2) == 0;
+    }
+    if kind == 4 {
+        if two(part, 2) != 0 {
+            return false;
+        }
+        return two_children(&part[6..]);
+    }
+    if kind == 2 {
+        return part.len() <= 526;
+    }
+    true
+}
+
+// The kind of the node that the part is, 0 where it is not well formed by itself or may not stand in the holder.
+pub fn head(part: &[u8], holder: usize) -> usize
+    requires { ⌜ holder < 5 ⌝ }
+    ensures { λ r. ⌜ r ≡ headOf (now (part .entry)) holder ⌝ }
+{
+    if part.len() < 6 {
+        return 0;
+    }
+    let kind = wide(part[0]);
+    if 4 < kind {
+        return 0;
+    }
+    if !may_stand(holder, kind) {
+        return 0;
+    }
+    if part[1] != 0 {
+        return 0;
+    }
+    if two(part, 4) != part.len() {
+        return 0;
+    }
+    if !shaped(part, kind) {
+        return 0;
+    }
+    kind
+}
+
+// ── marks: a bit for each page ──
+
+pub fn is_marked(marks: &[u8; 128], p: usize) -> bool
+    requires { ⌜ p < 1024 ⌝ }
+    ensures { λ r. ⌜ r ≡ isMarked (now (marks .entry)) p ⌝ }
+{
+    let i = p / 8;
+    let k = p % 8;
+    (marks[i] >> k) % 2 == 1
+}
+
+pub fn set_mark(marks: &mut [u8; 128], p: usize)
+    requires { ⌜ p < 1024 ⌝ }
+    ensures { λ _. ⌜ now (marks .exit) ≡ marked (now (marks .entry)) p ⌝ }
+{
+    let i = p / 8;
+    let k = p % 8;
+    let m = marks[i];
+    marks[i] = m | (1 << k);
+}
+
+// ── the walk ──
+
+// Whether page p by its trailer holds a record whose proxy stands in the record of a page.
+pub fn names(image: &[u8], p: usize, page: usize) -> bool
+    ensures { λ r. ⌜ r ≡ namesOf (now (image .entry)) p page ⌝ }
+{
+    if p < 2 {
+        return false;
+    }
+    if 1024 <= p {
+        return false;
+    }
+    if image.len() < 4096 * p + 4096 {
+        return false;
+    }
+    let t = 4096 * p + 4080;
+    if image[t] != 1 {
+        return false;
+    }
+    if 4080 < two(image, t + 2) {
+        return false;
+    }
+    two(image, t + 4) == page
+}
+
+// A settled record's root is no helper.
+pub fn root_fits(image: &[u8], p: usize) -> bool
+    requires { ⌜ (p < 1024) × (4096 * p + 4096 ≤ length (now image)) ⌝ }
+    ensures { λ r. ⌜ r ≡ rootFits (now (image .entry)) p ⌝ }
+{
+    if image[4096 * p + 4081] != 1 {
+        return true;
+    }
+    image[4096 * p] != 4
+}
+
+// Whether the walk can go on in page p. `left` is one more than the record pages still to be reached.
+pub fn enters(image: &[u8], p: usize, page: usize, left: usize, marks: &[u8; 128]) -> bool
+    ensures { λ r. ⌜ r ≡ entersOf (now (image .entry)) p page (state left (now (marks .entry))) ⌝ }
+{
+    if !names(image, p, page) {
+        return false;
+    }
+    if !root_fits(image, p) {
+        return false;
+    }
+    if left < 2 {
+        return false;
+    }
+    !is_marked(marks, p)
+}
+
+// The record that a proxy in the record of a page names. The result, here and below, is what is left, 0 where the walk is refused.
+fn proxy_check<'a>(
+    image: &'a [u8],
+    p: usize,
+    page: usize,
+    level: usize,
+    left: usize,
+    marks: &mut [u8; 128],
+) -> usize
+    requires { ⌜ level ≤ 25 ⌝ }
+    ensures { λ r. ⌜ state r (now (marks .exit)) ≡ proxyOf (now (image .entry)) p page level (state left (now (marks .entry))) .walk ⌝ }
+{
+    if !enters(image, p, page, left, marks) {
+        return 0;
+    }
+    let a = 4096 * p;
+    let n = two(image, a + 4082);
+    let e = a + n;
+    set_mark(marks, p);
+    node_check(image, &image[a..e], p, 0, level, left - 1, marks)
+}
+
+// The node that the part is.
+fn node_check<'a>(
+    image: &'a [u8],
+    part: &'a [u8],
+    page: usize,
+    holder: usize,
+    level: usize,
+    left: usize,
+    marks: &mut [u8; 128],
+) -> usize
+    requires { ⌜ (holder < 5) × (level ≤ 25) ⌝ }
+    ensures { λ r. ⌜ state r (now (marks .exit)) ≡ nodeOf (now (image .entry)) (now (part .entry)) page holder level (state left (now (marks .entry))) .walk ⌝ }
+{
+    let kind = head(part, holder);
+    if kind == 0 {
+        return 0;
+    }
+    if kind == 3 {
+        if part.len() != 8 {
+            return 0;
+        }
+        return proxy_check(image, two(part, 6), page, level, left, marks);
+    }
+    if kind == 4 {
+        return list_check(image, &part[6..], page, 4, level, left, marks);
+    }
+    if 24 < level {
+        return 0;
+    }
+    if kind == 2 {
+        return left;
+    }
+    list_check(image, &part[6..], page, 1, level + 1, left, marks)
+}
+
+// The nodes that the part holds, one after another.
+fn list_check<'a>(
+    image: &'a [u8],
+    part: &'a [u8],
+    page: usize,
+    holder: usize,
+    level: usize,
+    left: usize,
+    marks: &mut [u8; 128],
+) -> usize
+    requires { ⌜ (holder < 5) × (level ≤ 25) ⌝ }
+    ensures { λ r. ⌜ state r (now (marks .exit)) ≡ listOf (now (image .entry)) (now (part .entry)) page holder level (state left (now (marks .entry))) .walk ⌝ }
+{
+    let mut cur = left;
+    let mut at = 0;
+    while at < part.len() {
+        if cur == 0 {
+            return 0;
+        }
+        let rest = &part[at..];
+        let n = size_of(rest);
+        if n == 0 {
+            return 0;
+        }
+        cur = node_check(image, &rest[..n], page, holder, level, cur, marks);
+        at = at + n;
+    }
+    cur
+}
+
+// ── pages ──
+
+// Whether every byte is zero. With no early exit the loop is done many bytes at a time.
+pub fn zeros(s: &[u8]) -> bool
+    ensures { λ r. ⌜ r ≡ allZero (now (s .entry)) ⌝ }
+{
+    let mut ok = true;
+    let mut i = 0;
+    while i < s.len() {
+        if s[i] != 0 {
+            ok = false;
+        }
+        i = i + 1;
+    }
+    ok
+}
+
+// Whether every entry of a split matrix is 0 or 2.
+pub fn matrix_ok(s: &[u8]) -> bool
+    ensures { λ r. ⌜ r ≡ matrixOk (now (s .entry)) ⌝ }
+{
+    let mut ok = true;
+    let mut i = 0;
+    while i < s.len() {
+        if s[i] != 0 {
+            if s[i] != 2 {
+                ok = false;
+            }
+        }
+        i = i + 1;
+    }
+    ok
+}
+
+// What a page by its trailer and its tail is: 0 against the rules, 1 free, 2 a record's.
+pub fn page_state(page: &[u8]) -> usize
+    requires { ⌜ length (now page) ≡ 4096 ⌝ }
+    ensures { λ r. ⌜ r ≡ stateOf (now (page .entry)) ⌝ }
+{
+    if page[4080] == 0 {
+        if zeros(page) {
+            return 1;
+        }
+        return 0;
+    }
+    if page[4080] != 1 {
+        return 0;
+    }
+    if 1 < page[4081] {
+        return 0;
+    }
+    let used = two(page, 4082);
+    if 4080 < used {
+        return 0;
+    }
+    if !zeros(&page[used..4080]) {
+        return 0;
+    }
+    if !zeros(&page[4086..4096]) {
+        return 0;
+    }
+    2
+}
+
+// The numbers of page 0: page count, target, a zero byte, tolerance, form.
+fn numbers_ok(page: &[u8], pages: usize) -> bool
+    requires { ⌜ length (now page) ≡ 4096 ⌝ }
+    ensures { λ r. ⌜ r ≡ numbersOk (now (page .entry)) pages ⌝ }
+{
+    if two(page, 0) != pages {
+        return false;
+    }
+    if page[2] < 64 {
+        return false;
+    }
+    if 192 < page[2] {
+        return false;
+    }
+    if page[3] != 0 {
+        return false;
+    }
+    if 512 < two(page, 4) {
+        return false;
+    }
+    two(page, 6) == 1
+}
+
+// Whether page 0 holds settings, for an image of so many pages.
+pub fn settings_ok(page: &[u8], pages: usize) -> bool
+    requires { ⌜ length (now page) ≡ 4096 ⌝ }
+    ensures { λ r. ⌜ r ≡ settingsOk (now (page .entry)) pages ⌝ }
+{
+    if !numbers_ok(page, pages) {
+        return false;
+    }
+    if !zeros(&page[8..16]) {
+        return false;
+    }
+    if !matrix_ok(&page[16..272]) {
+        return false;
+    }
+    if !zeros(&page[272..4080]) {
+        return false;
+    }
+    if two(page, 4080) != 2 {
+        return false;
+    }
+    if two(page, 4082) != 272 {
+        return false;
+    }
+    zeros(&page[4084..4096])
+}
+
+// Whether page 1 holds a settled record with no holder.
+pub fn first_ok(page: &[u8]) -> bool
+    requires { ⌜ length (now page) ≡ 4096 ⌝ }
+    ensures { λ r. ⌜ r ≡ firstOk (now (page .entry)) ⌝ }
+{
+    if page_state(page) != 2 {
+        return false;
+    }
+    if page[4081] != 1 {
+        return false;
+    }
+    two(page, 4084) == 0
+}
+
+// One more than the record pages from 2 on, 0 where one of the pages is against the rules.
+pub fn scan_pages(image: &[u8], pages: usize) -> usize
+    requires { ⌜ (4096 * pages ≤ length (now image)) × (2 ≤ pages) × (pages ≤ 1024) ⌝ }
+    ensures { λ r. ⌜ r ≡ scanFrom (now (image .entry)) (pages - 2) 2 0 ⌝ }
+{
+    let mut n = 0;
+    let mut p = 2;
+    while p < pages {
+        let a = 4096 * p;
+        let e = a + 4096;
+        let k = page_state(&image[a..e]);
+        if k == 0 {
+            return 0;
+        }
+        if k == 2 {
+            n = n + 1;
+        }
+        p = p + 1;
+    }
+    n + 1
+}
+
+// ── the whole image ──
+
+// Before the walk: as scan_pages, and 0 too where page 0 or page 1 is against the rules.
+pub fn trailers(image: &[u8]) -> usize
+    requires { ⌜ lengthOk (length (now image)) ≡ true ⌝ }
+    ensures { λ r. ⌜ r ≡ trailersOf (now (image .entry)) ⌝ }
+{
+    let pages = image.len() / 4096;
+    if !settings_ok(&image[0..4096], pages) {
+        return 0;
+    }
+    if !first_ok(&image[4096..8192]) {
+        return 0;
+    }
+    scan_pages(image, pages)
+}
+
+// Whether the walk from page 1, whose root is an aggregate, reaches every record page one time.
+pub fn walk_ok(image: &[u8], left: usize) -> bool
+    requires { ⌜ (lengthOk (length (now image)) ≡ true) × (trailersOf (now image) ≡ 0 → ⊥) ⌝ }
+    ensures { λ r. ⌜ r ≡ walkOk (now (image .entry)) left ⌝ }
+{
+    if image[4096] != 1 {
+        return false;
+    }
+    let used = two(image, 8178);
+    let e = 4096 + used;
+    let mut marks = [0u8; 128];
+    node_check(image, &image[4096..e], 1, 0, 1, left, &mut marks) == 1
+}
+
+// Whether an image may have so many bytes: whole pages, 2 to 1,024.
+pub fn length_ok(n: usize) -> bool
+    ensures { λ r. ⌜ r ≡ lengthOk n ⌝ }
+{
+    if n % 4096 != 0 {
+        return false;
+    }
+    if n / 4096 < 2 {
+        return false;
+    }
+    n / 4096 <= 1024
+}
+
+// Check: 0 where the image passes, 1 by its length, 3 where it is broken.
+pub fn check(image: &[u8]) -> u32
+    ensures { λ r. ⌜ r ≡ checkBy (now (image .entry)) ⌝ }
+{
+    if !length_ok(image.len()) {
+        return 1;
+    }
+    let left = trailers(image);
+    if left == 0 {
+        return 3;
+    }
+    if walk_ok(image, left) { 0 } else { 3 }
+}

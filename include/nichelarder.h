@@ -1,0 +1,79 @@
+/* Nichelarder: a proved tree store in a block of memory that the caller lends.
+ *
+ * An image is 2 to 1,024 pages of 4,096 bytes. Page 0 holds the settings, page 1 the root record, every other page is free or holds one
+ * record. The store keeps one ordered tree: an aggregate has a label and children, a literal a label and 0 to 520 content bytes.
+ * A path is a list of child numbers from 0, four bytes each, low byte first; the empty path is the root. A place is a page and a byte
+ * offset at which a node starts; it lasts until the next accepted insert or format.
+ *
+ * Each function returns 0, or the number of the first refusal that applies. A refused call writes zeros to its answer numbers and changes no
+ * byte of the image or of a byte buffer. Any bytes and any numbers may be handed over, but
+ *  - no pointer may be null, also where its length is 0;
+ *  - a length is the number of bytes that the pointer leads to;
+ *  - a buffer that is lent for writing overlaps neither the image nor another buffer of the same call.
+ * The functions keep no state and allocate nothing: they may be called from several threads on different images.
+ */
+#ifndef NICHELARDER_H
+#define NICHELARDER_H
+
+#include <stddef.h>
+#include <stdint.h>
+
+#ifdef __cplusplus
+extern "C" {
+#endif
+
+#define NL_PAGE 4096u     /* bytes of a page */
+#define NL_CAPACITY 4080u /* most bytes of a record */
+#define NL_LEVELS 24u     /* most levels of the tree */
+#define NL_PAGES 1024u    /* most pages of an image */
+#define NL_CONTENT 520u   /* most content bytes of a literal */
+#define NL_PATH 92u       /* most bytes of a path: a buffer this long takes every climb */
+
+#define NL_AGGREGATE 1u
+#define NL_LITERAL 2u
+
+enum nl_refusal {
+    NL_OK = 0,
+    NL_LENGTH = 1,    /* the image's length is not 2 to 1,024 pages: lend the whole image and nothing more */
+    NL_SETTINGS = 2,  /* a setting is out of range, or the page count is not the image's */
+    NL_BROKEN = 3,    /* the image does not pass the check: it is damaged, or was never formatted */
+    NL_LEVEL = 4,     /* the path has over 23 entries (92 bytes); over 22 (88 bytes) for an insert */
+    NL_KIND = 5,      /* insert: the kind is not 1 or 2, or an aggregate has content */
+    NL_LONG = 6,      /* insert: the content has over 520 bytes */
+    NL_ABSENT = 7,    /* the path names no node, or is not whole entries */
+    NL_CLOSED = 8,    /* insert: the parent is a literal */
+    NL_GAP = 9,       /* insert: the child number is above the number of children */
+    NL_STRAY = 10,    /* no node starts at the place: it is from before an insert or a format, or made up */
+    NL_SHORT = 11,    /* the lent buffer is too short: nothing was written */
+    NL_FULL = 12      /* insert: a page is needed and none is free */
+};
+
+/* Makes any bytes an image with a root aggregate alone. matrix: 256 entries, 16 * class of parent + class of child, each 0 (apart) or 2
+ * (free choice); a label's class is the label below 15, else 15. Usual: target 128, tolerance 409, form 1, matrix all 2.
+ * Refusals 1, 2. */
+uint32_t nl_format(uint8_t *image, size_t image_len, uint32_t pages, uint32_t target, uint32_t tolerance, uint32_t form,
+                   const uint8_t *matrix, size_t matrix_len, uint16_t root_label);
+
+/* Refusals 1, 3. */
+uint32_t nl_check(const uint8_t *image, size_t image_len);
+
+/* Path to place: page, offset. Refusals 1, 3, 4, 7. */
+uint32_t nl_find(const uint8_t *image, size_t image_len, const uint8_t *path, size_t path_len, uint32_t place[2]);
+
+/* Place to path: written to the front of the lent buffer, the rest unchanged; the bytes written go to *written. Refusals 1, 3, 10, 11. */
+uint32_t nl_climb(const uint8_t *image, size_t image_len, uint32_t page, uint32_t offset, uint8_t *path, size_t path_len, uint32_t *written);
+
+/* Of the node at a place: kind, label, number of children, start of the content in the image, its length. Refusals 1, 3, 10. */
+uint32_t nl_read(const uint8_t *image, size_t image_len, uint32_t page, uint32_t offset, uint32_t answer[5]);
+
+/* The following node in document order: 1 and its page, offset, kind; or 0 0 0 0 at the end. Refusals 1, 3, 10. */
+uint32_t nl_next(const uint8_t *image, size_t image_len, uint32_t page, uint32_t offset, uint32_t answer[4]);
+
+/* All record pages, two bytes each, low byte first, in any order, to the front of the lent buffer. Refusals 1, 3, 11. */
+uint32_t nl_records(const uint8_t *image, size_t image_len, uint8_t *pages, size_t pages_len, uint32_t *written);
+
+#ifdef __cplusplus
+}
+#endif
+
+#endif

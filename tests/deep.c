@@ -1,0 +1,36 @@
+/* The deepest image, a chain through 1,022 record pages, passes every call; run under a small stack. */
+#include <stdio.h>
+#include <stdlib.h>
+
+#include "../bench/images.h"
+#include "../include/nichelarder.h"
+
+static int wrong(const char *what) {
+    printf("deep: %s\n", what);
+    return 1;
+}
+
+int main(void) {
+    size_t len = 4194304;
+    uint8_t *image = malloc(len), path[4];
+    uint32_t place[2], written, answer[5], following[4];
+    if (!image) return 2;
+    make_worst(image, 1024);
+    if (nl_check(image, len)) return wrong("check");
+    if (nl_read(image, len, 1, 0, answer) || answer[2] != 677u * 1023u) return wrong("read");
+    /* the first child stands in the last record of the chain, the last child in the first */
+    for (uint32_t k = 0; k < 677u * 1023u; k += 677u * 1023u - 1u) {
+        for (int i = 0; i < 4; i++) path[i] = (uint8_t)(k >> (8 * i));
+        if (nl_find(image, len, path, 4, place)) return wrong("find");
+        if (place[0] != (k ? 1u : 1023u)) return wrong("find gives another place");
+        uint8_t back[92] = {0};
+        if (nl_climb(image, len, place[0], place[1], back, sizeof back, &written) || written != 4 || memcmp(back, path, 4)) return wrong("climb");
+        if (nl_next(image, len, place[0], place[1], following) || following[0] != (k ? 0u : 1u)) return wrong("next");
+    }
+    /* from the last node of the deepest record up one, and from the root all the way down */
+    if (nl_next(image, len, 1023, 4062, following) || following[1] != 1022 || following[2] != 14) return wrong("next, upwards");
+    if (nl_next(image, len, 1, 0, following) || following[1] != 1023 || following[2] != 6) return wrong("next, downwards");
+    free(image);
+    puts("deep: passed");
+    return 0;
+}

@@ -1,0 +1,149 @@
+"""Writes a call script with the reference's answers: stores grown at random, asked about from every side, and damaged in many ways.
+
+    make_scripts.py SEED STORES DAMAGED > SCRIPT
+
+STORES images are grown; after each, calls that need no insert are asked, then DAMAGED variants of the image are checked (and, now and then,
+asked). The same seed gives the same script.
+"""
+
+import random
+import sys
+
+import reference as ref
+
+SHAPES = [(2, 6), (3, 12), (5, 60), (8, 160), (13, 400), (40, 900)]
+
+
+def grow_store(rng):
+    """A random image: its pages, settings and shape vary."""
+    pages, inserts = rng.choice(SHAPES)
+    pages = max(2, pages + rng.randrange(-1, 3))
+    matrix = bytearray(b"\x02" * 256)
+    if rng.random() < 0.4:
+        for _ in range(rng.choice((1, 20, 200))):
+            matrix[rng.randrange(256)] = 0
+    image = bytearray(pages * ref.PAGE)
+    ref.format_image(image, pages, rng.choice((64, 100, 128, 192)), rng.choice((0, 20, 200, 409, 512)), 1, bytes(matrix), rng.choice((3, 14, 15, 300)))
+    deep, long = rng.random(), rng.random()
+    for _ in range(rng.randrange(inserts + 1)):
+        entries = ref.document_order(ref.read_store(image))
+        parents = [e for e in entries if e.node.kind == ref.AGGREGATE and len(e.path) <= 22]
+        parent = parents[-1] if rng.random() < deep * 0.5 else rng.choice(parents)
+        child = rng.choice((0, parent.children, rng.randrange(parent.children + 1)))
+        path = b"".join(n.to_bytes(4, "little") for n in parent.path)
+        kind = rng.choice((1, 2))
+        size = rng.choice((0, 1, 30, 200, 520)) if rng.random() < long else rng.randrange(40)
+        content = bytes([rng.randrange(256)]) * size if kind == 2 else b""
+        ref.insert(image, path, child, kind, rng.choice((0, 3, 14, 15, 300, 65535)), content)
+    return image
+
+
+def put_image(image, out):
+    """The image as lines: its length, then each run of bytes that are not zero."""
+    out.append("I %d" % len(image))
+    at = 0
+    while at < len(image):
+        if not image[at]:
+            at += 1
+            continue
+        end = at
+        while end < len(image) and any(image[end:end + 8]) and end - at < 3000:
+            end += 1
+        out.append("B %d %s" % (at, image[at:end].hex()))
+        at = end
+    out.append("C " + ref.checksum(image))
+
+
+def ask(call, image, out):
+    """A call and its answer."""
+    words = call.split(" ")
+    answer = ref.RUNS[words[0]](image, words[1:])
+    out.append(call)
+    out.append("= " + " ".join([str(field) for field in answer] + [ref.checksum(image)]))
+
+
+def some_place(rng, entries):
+    if entries and rng.random() < 0.75:
+        return rng.choice(entries).place()
+    return rng.choice((0, 1, 2, rng.randrange(12), 1023, 1024, 65537)), rng.choice((0, 6, rng.randrange(4096), 4080, 65536 + 6))
+
+
+def some_path(rng, entries):
+    numbers = list(rng.choice(entries).path) if entries else []
+    if rng.random() < 0.3:
+        numbers = numbers + [rng.choice((0, 0, 1, 5, 2**32 - 1))] * rng.choice((1, 1, 2, 24))
+    path = b"".join(n.to_bytes(4, "little") for n in numbers)
+    if rng.random() < 0.1:
+        path += bytes(rng.randrange(1, 4))
+    return path
+
+
+def ask_all(rng, image, count, out):
+    try:
+        entries = ref.document_order(ref.read_store(image))
+    except ref.Refused:
+        entries = []
+    ask("check", image, out)
+    for _ in range(count):
+        ask("find " + ref.to_hex(some_path(rng, entries)), image, out)
+        ask("climb %d %d %d" % (some_place(rng, entries) + (rng.choice((0, 4, 8, 92, 100)),)), image, out)
+        ask("read %d %d" % some_place(rng, entries), image, out)
+        ask("next %d %d" % some_place(rng, entries), image, out)
+    if entries:
+        ask("next %d %d" % entries[-1].place(), image, out)
+    ask("records %d" % rng.choice((0, 1, 2, 7, 64)), image, out)
+
+
+def damage(rng, image, out):
+    """Puts a few bytes wrong, mostly where the check has something to say."""
+    for _ in range(rng.choice((1, 1, 1, 2, 3))):
+        page = ref.PAGE * rng.randrange(len(image) // ref.PAGE)
+        used = image[page + 4082] + 256 * image[page + 4083]
+        at = page + rng.choice((rng.randrange(4096), 4080 + rng.randrange(16), 4080 + rng.randrange(6), rng.randrange(8), rng.randrange(max(1, used)),
+                                rng.randrange(272), max(0, used - 1), min(used, 4079)))
+        value = rng.choice((0, 1, 2, 3, 4, 6, 8, 255, rng.randrange(256), image[at] ^ (1 << rng.randrange(8)), (image[at] + 1) % 256, (image[at] - 1) % 256))
+        image[at] = value
+        out.append("B %d %02x" % (at, value))
+
+
+def formats(rng, out):
+    """Format over any bytes, in and out of range."""
+    pages = rng.randrange(2, 5)
+    image = bytearray(rng.choice((pages * ref.PAGE, pages * ref.PAGE, pages * ref.PAGE - 1, ref.PAGE, 0)))
+    if image:
+        image[rng.randrange(len(image))] = 9
+    put_image(image, out)
+    matrix = bytearray(b"\x02" * rng.choice((256, 256, 256, 255, 257, 0)))
+    if matrix and rng.random() < 0.5:
+        matrix[rng.randrange(len(matrix))] = rng.choice((0, 1, 2, 3, 255))
+    numbers = (rng.choice((pages, pages, pages, pages + 1, 65536 + pages)), rng.choice((63, 64, 128, 192, 193, 128 + 256)), rng.choice((0, 409, 512, 513, 65536)),
+               rng.choice((1, 1, 1, 0, 2, 257)))
+    ask("format %d %d %d %d %s %d" % (numbers + (ref.to_hex(matrix), rng.choice((0, 7, 65535)))), image, out)
+
+
+def main(seed, stores, damaged):
+    rng = random.Random(seed)
+    out = []
+    for store in range(stores):
+        print("store %d of %d" % (store + 1, stores), file=sys.stderr)
+        formats(rng, out)
+        image = grow_store(rng)
+        put_image(image, out)
+        out.append("S")
+        ask_all(rng, image, 6, out)
+        for number in range(damaged):
+            out.append("R")
+            hurt = bytearray(image)
+            damage(rng, hurt, out)
+            if number % 40 == 0:
+                ask_all(rng, hurt, 1, out)
+            else:
+                ask("check", hurt, out)
+        out.append("R")
+    longest = max(len(line) + 1 for line in out)
+    print("V 1 0 %d" % max(longest, 100))
+    print("\n".join(out))
+
+
+if __name__ == "__main__":
+    main(*[int(word) for word in sys.argv[1:4]])

@@ -1,0 +1,193 @@
+/* Replays call scripts on the library: every answer field, the lent buffer and the checksum of the image after every call are compared.
+ * Usage: replay SCRIPT..   The format of a script is described in tests/README.md. */
+#include <stdio.h>
+#include <stdlib.h>
+#include <string.h>
+
+#include "../include/nichelarder.h"
+
+static uint8_t *image, *kept;
+static size_t image_len, kept_len;
+static uint32_t crc_table[256];
+
+static void make_crc(void) {
+    for (uint32_t i = 0; i < 256; i++) {
+        uint32_t c = i;
+        for (int k = 0; k < 8; k++) c = c & 1 ? 0xEDB88320u ^ (c >> 1) : c >> 1;
+        crc_table[i] = c;
+    }
+}
+
+static uint32_t crc(const uint8_t *p, size_t n) {
+    uint32_t c = 0xFFFFFFFFu;
+    for (size_t i = 0; i < n; i++) c = crc_table[(c ^ p[i]) & 255] ^ (c >> 8);
+    return c ^ 0xFFFFFFFFu;
+}
+
+static void *room(size_t n) {
+    void *p = malloc(n ? n : 1);
+    if (!p) {
+        fputs("replay: no memory\n", stderr);
+        exit(2);
+    }
+    return p;
+}
+
+static int digit(char c) { return c <= '9' ? c - '0' : c - 'a' + 10; }
+
+/* Bytes in hexadecimal, `-` for none. */
+static uint8_t *bytes(const char *s, size_t *n) {
+    size_t len = strcmp(s, "-") ? strlen(s) / 2 : 0;
+    uint8_t *b = room(len);
+    for (size_t i = 0; i < len; i++) b[i] = (uint8_t)(16 * digit(s[2 * i]) + digit(s[2 * i + 1]));
+    *n = len;
+    return b;
+}
+
+static char *hex(char *at, const uint8_t *b, size_t n) {
+    if (!n) *at++ = '-';
+    for (size_t i = 0; i < n; i++) at += sprintf(at, "%02x", b[i]);
+    *at = 0;
+    return at;
+}
+
+static int by_number(const void *a, const void *b) {
+    const uint8_t *x = a, *y = b;
+    return (x[0] + 256 * x[1]) - (y[0] + 256 * y[1]);
+}
+
+static unsigned long number(const char *s) { return strtoul(s, 0, 10); }
+
+/* Makes the call of a line, of w words, and writes what it answers; 0 if the library has no such call. */
+static int call(char **w, int words, char *out) {
+    size_t a, b;
+    if (!strcmp(w[0], "format") && words == 7) {
+        uint8_t *m = bytes(w[5], &a);
+        uint32_t r = nl_format(image, image_len, number(w[1]), number(w[2]), number(w[3]), number(w[4]), m, a, (uint16_t)number(w[6]));
+        sprintf(out, "%u", r);
+        free(m);
+    } else if (!strcmp(w[0], "check")) {
+        sprintf(out, "%u", nl_check(image, image_len));
+#ifdef NL_HAS_INSERT
+    } else if (!strcmp(w[0], "insert")) {
+        uint32_t answer[3] = {77, 77, 77};
+        int32_t lean = 77;
+        uint8_t *p = bytes(w[1], &a), *c = bytes(w[6], &b);
+        uint32_t r = nl_insert(image, image_len, p, a, number(w[2]), number(w[3]), (uint16_t)number(w[5]), c, b, answer, &lean);
+        sprintf(out, "%u %u %u %u %d", r, answer[0], answer[1], answer[2], (int)lean);
+        free(p);
+        free(c);
+#endif
+    } else if (!strcmp(w[0], "find")) {
+        uint32_t place[2] = {77, 77};
+        uint8_t *p = bytes(w[1], &a);
+        uint32_t r = nl_find(image, image_len, p, a, place);
+        sprintf(out, "%u %u %u", r, place[0], place[1]);
+        free(p);
+    } else if (!strcmp(w[0], "climb") || !strcmp(w[0], "records")) {
+        int climb = w[0][0] == 'c';
+        size_t n = number(w[climb ? 3 : 1]);
+        uint8_t *p = room(n);
+        uint32_t written = 77, r;
+        memset(p, 0xa7, n);
+        if (climb)
+            r = nl_climb(image, image_len, number(w[1]), number(w[2]), p, n, &written);
+        else {
+            r = nl_records(image, image_len, p, n, &written);
+            if (written <= n) qsort(p, written / 2, 2, by_number);
+        }
+        out += sprintf(out, "%u %u ", r, written);
+        hex(out, p, n);
+        free(p);
+    } else if (!strcmp(w[0], "read")) {
+        uint32_t v[5] = {77, 77, 77, 77, 77};
+        uint32_t r = nl_read(image, image_len, number(w[1]), number(w[2]), v);
+        out += sprintf(out, "%u %u %u 0 %u ", r, v[0], v[1], v[2]);
+        b = (size_t)v[3] + v[4] <= image_len ? v[4] : 0;
+        out = hex(out, image + (b ? v[3] : 0), b);
+        sprintf(out, " %u", v[3]);
+    } else if (!strcmp(w[0], "next")) {
+        uint32_t v[4] = {77, 77, 77, 77};
+        uint32_t r = nl_next(image, image_len, number(w[1]), number(w[2]), v);
+        sprintf(out, "%u %u %u %u %u 0", r, v[0], v[1], v[2], v[3]);
+    } else
+        return 0;
+    return 1;
+}
+
+static long calls, bad, skipped;
+
+static void line(char *s, char *out, char *want, int *waiting) {
+    char *w[10];
+    int words = 0;
+    if (s[0] == '#' || !s[0]) return;
+    if (s[0] == '=' && s[1] == ' ') {
+        if (!*waiting) return;
+        *waiting = 0;
+        sprintf(out + strlen(out), " %08x", crc(image, image_len));
+        calls++;
+        if (strcmp(out, s + 2)) {
+            if (bad++ < 5) printf("differs: %.300s\n wanted: %.300s\n    got: %.300s\n", want, s + 2, out);
+        }
+        return;
+    }
+    sprintf(want, "%.400s", s);
+    for (char *t = strtok(s, " "); t && words < 10; t = strtok(0, " ")) w[words++] = t;
+    if (!strcmp(w[0], "V")) return;
+    if (!strcmp(w[0], "I")) {
+        free(image);
+        image_len = number(w[1]);
+        image = room(image_len);
+        memset(image, 0, image_len);
+    } else if (!strcmp(w[0], "B")) {
+        size_t n;
+        uint8_t *b = bytes(w[2], &n);
+        memcpy(image + number(w[1]), b, n);
+        free(b);
+    } else if (!strcmp(w[0], "C")) {
+        if (crc(image, image_len) != strtoul(w[1], 0, 16)) bad++, printf("differs: the image before %s\n", want);
+    } else if (!strcmp(w[0], "S")) {
+        free(kept);
+        kept = room(image_len);
+        memcpy(kept, image, kept_len = image_len);
+    } else if (!strcmp(w[0], "R")) {
+        free(image);
+        image = room(kept_len);
+        memcpy(image, kept, image_len = kept_len);
+    } else if (call(w, words, out))
+        *waiting = 1;
+    else
+        skipped++;
+}
+
+static int replay(const char *name) {
+    FILE *f = fopen(name, "r");
+    unsigned long longest = 0;
+    if (!f || fscanf(f, "V 1 %*u %lu", &longest) != 1) {
+        fprintf(stderr, "replay: %s is no script\n", name);
+        return 2;
+    }
+    rewind(f);
+    longest += 400000;
+    char *s = room(longest), *out = room(longest), *want = room(512);
+    int waiting = 0;
+    calls = bad = skipped = 0;
+    image = room(0);
+    while (fgets(s, (int)longest, f)) {
+        s[strcspn(s, "\n")] = 0;
+        line(s, out, want, &waiting);
+    }
+    fclose(f);
+    free(s);
+    free(out);
+    free(want);
+    printf("%s: %ld calls, %ld differences, %ld lines skipped\n", name, calls, bad, skipped);
+    return bad || !calls;
+}
+
+int main(int argc, char **argv) {
+    int failed = argc < 2;
+    make_crc();
+    for (int i = 1; i < argc; i++) failed |= replay(argv[i]);
+    return failed ? 1 : 0;
+}
