@@ -1,0 +1,4 @@
+pub mod Nth
+pub mod Rowed
+pub mod Entries
+pub mod Find
