@@ -1,12 +1,12 @@
 -- The store that format leaves, page by page.
-use mathlib.Core.Path.{_≡_, refl, sym, ap, ap₂, _∙_}
-use mathlib.Core.Bool.{Bool, true, false, cond, _&&_}
-use mathlib.Core.List.{List, [], _∷_, _++_, append-assoc, append-nil}
-use Prim.Native.Nat.{ℕ, zero, suc, _+_, _*_, _-_, _/_, _%_, _≤_, _<_}
+use mathlib.Core.Path.{_≡_, refl, sym, ap, _∙_}
+use mathlib.Core.Bool.{Bool, true, false, cond}
+use mathlib.Core.List.{List, [], _∷_, _++_, append-assoc}
+use Prim.Native.Nat.{ℕ, _+_, _-_, _/_, _%_, _≤_, _<_}
 use native.Mathlib.Omega.{arith}
-use lib.ListN.{length, take, drop, replicate, length-append, length-replicate, replicate-append-replicate}
-use lib.Dec.{leb, ltb, eqb}
-use Rattle.model.specs.Row.{Head, Row, nil, agg, store, two, header, Held, trailer, settingsPage, recordPage, Config, every, isEntry, inRange, image}
+use lib.ListN.{length, replicate, length-append, length-replicate, replicate-append-replicate}
+use lib.Dec.{ltb, eqb}
+use Rattle.model.specs.Row.{Row, nil, agg, two, header, trailer, settingsPage, recordPage, Config, every, isEntry}
 use Rattle.octets.specs.Over.{over, over-right, over-left, over-all}
 use Rattle.model.specs.declared.Settings.{Settings}
 
@@ -48,7 +48,7 @@ pub length-zeros : (n : ℕ) → length (zeros n) ≡ n
 unfolding zeros
 length-zeros n = length-replicate n 0
 
-zeros-split : (a b : ℕ) → zeros (a + b) ≡ zeros a ++ zeros b
+pub zeros-split : (a b : ℕ) → zeros (a + b) ≡ zeros a ++ zeros b
 unfolding zeros
 zeros-split a b = sym (replicate-append-replicate a b 0)
 

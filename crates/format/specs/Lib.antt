@@ -1,1 +1,4 @@
+pub mod Every
 pub mod First
+pub mod Store
+pub mod Call

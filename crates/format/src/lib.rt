@@ -1,13 +1,16 @@
-// Formatting: the settings' ranges, and the two pages of a store with a root aggregate alone.
+// Formatting: the settings' ranges, the two pages of a store with a root aggregate alone, and the call.
 use model::Settings;
-use octets::{clear, copy_in, put16};
+use octets::clear;
+use octets::copy_in;
+use octets::put16;
 ghost use mathlib.Core.Path.{_≡_};
-ghost use mathlib.Core.Bool.{true};
-ghost use mathlib.Core.List.{List, []};
-ghost use Prim.Native.Nat.{ℕ, _*_, _≤_, _<_};
-ghost use lib.ListN.{length, replicate};
+ghost use mathlib.Core.Bool.{true, _&&_};
+ghost use Prim.Native.Nat.{_*_, _≤_};
+ghost use lib.ListN.{length};
+ghost use lib.Dec.{eqb};
 ghost use Rattle.model.specs.Row as row;
-ghost use Rattle.model.specs.Calls.{config};
+ghost use Rattle.model.specs.Reading.{lengthOk};
+ghost use Rattle.model.specs.Calls.{config, formatOf};
 ghost use Rattle.format.specs.First.{matrixFits, numbersFit, firstRoot, firstPage, rootPage, zeros, Numbers};
 
 // Whether every entry of the matrix is 0 or 2.
@@ -81,4 +84,47 @@ pub fn write_first(image: &mut [u8], settings: Settings, matrix: &[u8], label: u
     clear(image, 0, n);
     put_settings(&mut image[0..4096], settings, matrix);
     put_root(&mut image[4096..8192], label);
+}
+
+// Whether an image can have n bytes: 2 to 1,024 whole pages.
+pub fn length_ok(n: usize) -> bool
+    ensures { λ r. ⌜ r ≡ lengthOk n ⌝ }
+{
+    if n % 4096 != 0 {
+        return false;
+    }
+    if n / 4096 < 2 {
+        return false;
+    }
+    n / 4096 <= 1024
+}
+
+// Whether the settings are in range, for an image of so many pages.
+fn settings_fit(settings: Settings, matrix: &[u8], pages: usize) -> bool
+    requires { ⌜ (2 ≤ pages) × (pages ≤ 1024) ⌝ }
+    ensures { λ r. ⌜ r ≡ (row.inRange (config settings (now (matrix .entry))) && eqb (settings .pages) pages) ⌝ }
+{
+    if matrix.len() != 256 {
+        return false;
+    }
+    if !numbers_fit(settings, pages) {
+        return false;
+    }
+    matrix_fits(matrix)
+}
+
+// Format: a store with a root aggregate alone in the whole image, or the refusal's number with the image as it was.
+pub fn format_image(image: &mut [u8], settings: Settings, matrix: &[u8], root_label: u16) -> u32
+    ensures { λ r. ⌜ r ≡ formatOf (now (image .entry)) settings (now (matrix .entry)) «root_label» .0 ⌝ }
+    ensures { λ _. ⌜ now (image .exit) ≡ formatOf (now (image .entry)) settings (now (matrix .entry)) «root_label» .1 ⌝ }
+{
+    let n = image.len();
+    if !length_ok(n) {
+        return 1;
+    }
+    if !settings_fit(settings, matrix, n / 4096) {
+        return 2;
+    }
+    write_first(image, settings, matrix, root_label);
+    0
 }

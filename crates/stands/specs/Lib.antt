@@ -1,2 +1,4 @@
 pub mod Here
 pub mod Items
+pub mod Order
+pub mod Nodes

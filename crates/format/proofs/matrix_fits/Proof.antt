@@ -1,41 +1,53 @@
+-- `format::matrix_fits`: the flag, and the entries that are left, say what all the entries say.
+use denote.Ref.{now}
+use mathlib.Core.Path.{refl}
+use mathlib.Core.Logic.{⊎-elim}
+use Prim.Native.Nat.{_≤_, _-_}
+use native.Mathlib.Omega.{arith}
+use borrow.Author.Tests.{eq-eqb, ne-eqb}
+use lib.ListN.{length}
+use Rattle.model.specs.Row.{isEntry}
+use Rattle.format.specs.First.{matrixFits}
+use Rattle.format.specs.Every.{Rest, keeps, fails, done}
 use Rattle.format.proofs.matrix_fits.Statement.{statement}
 use Rattle.format.proofs.matrix_fits.Tie as tie
-use Rattle.format.proofs.matrix_fits.Reads as reads
-use Rattle.format.proofs.matrix_fits.Lts as lts
 
 abbrev Inv-loop : tie.InvT-loop
-Inv-loop matrix ok₀ i₀ ok i = ?
+Inv-loop matrix ok₀ i₀ ok i = (i ≤ length matrix) × Rest isEntry matrix i ok
 
 abbrev μ-loop : tie.MeasureT-loop
-μ-loop matrix ok₀ i₀ ok i = ?
+μ-loop matrix ok₀ i₀ ok i = length matrix - i
 
--- src/lib.rt:19:5
 loop-holds : tie.Need-loop-holds Inv-loop μ-loop
-loop-holds c = ?
+loop-holds c = (omega arith, refl)
 
--- src/lib.rt:20:12
 shared-slice-read-if1 : tie.Need-shared-slice-read-if1 Inv-loop μ-loop
-shared-slice-read-if1 c = ?
+shared-slice-read-if1 c = omega arith
 
--- src/lib.rt:21:16
 shared-slice-read-if2 : tie.Need-shared-slice-read-if2 Inv-loop μ-loop
-shared-slice-read-if2 c = ?
+shared-slice-read-if2 c = omega arith
 
--- src/lib.rt:25:13
 add-i : tie.Need-add-i Inv-loop μ-loop
-add-i c = ?
+add-i c = omega arith
 
--- src/lib.rt:19:5
 loop-less : tie.Need-loop-less Inv-loop μ-loop
-loop-less c = ?
+loop-less c = omega arith
 
--- src/lib.rt:19:5
 loop-again : tie.Need-loop-again Inv-loop μ-loop
-loop-again c = ?
+loop-again c =
+    let l = c .before .before .before .loop in
+    let m = now (c .before .before .before .before .args .matrix) in
+    let h = c .before .before .loop-test .taken in
+    ⊎-elim
+    (λ w. (omega arith, rw (w .3) (fails isEntry m (l .i) (l .ok) h (simp (ne-eqb _ _ (w .0 .taken), ne-eqb _ _ (w .2 .taken))) (l .inv .1))))
+    (⊎-elim
+    (λ w. (omega arith, rw (w .3) (keeps isEntry m (l .i) (l .ok) h (simp (ne-eqb _ _ (w .0 .taken), eq-eqb _ _ (w .2 .left))) (l .inv .1))))
+    (λ w. (omega arith, rw (w .1) (keeps isEntry m (l .i) (l .ok) h (simp (eq-eqb _ _ (w .0 .left))) (l .inv .1)))))
+    (c .if1 .came)
 
--- src/lib.rt:14:1
 returns : tie.Need-returns Inv-loop μ-loop
-returns c = ?
+unfolding matrixFits
+returns c = done isEntry (now (c .before .before .args .matrix)) (c .before .loop .i) (c .before .loop .ok) (omega arith) (c .before .loop .inv .1)
 
 pub matrix-fits-spec : {M : Type 1} → statement M
 matrix-fits-spec =

@@ -1,27 +1,40 @@
+-- `format::numbers_fit`: each way out is a case of the tests.
+use borrow.Author.Tests.{le-ltb, lt-ltb, eq-eqb, ne-eqb}
+use Rattle.format.specs.First.{numbersFit}
 use Rattle.format.proofs.numbers_fit.Statement.{statement}
 use Rattle.format.proofs.numbers_fit.Tie as tie
-use Rattle.format.proofs.numbers_fit.Reads as reads
-use Rattle.format.proofs.numbers_fit.Lts as lts
 
--- src/lib.rt:35:9
 returns : tie.Need-returns
-returns c = ?
+unfolding numbersFit
+returns c = simp (ne-eqb _ _ (c .if1 .taken))
 
--- src/lib.rt:38:9
 returns-2 : tie.Need-returns-2
-returns-2 c = ?
+unfolding numbersFit
+returns-2 c = simp (eq-eqb _ _ (c .before .before .if1 .left), lt-ltb _ _ (c .if2 .taken))
 
--- src/lib.rt:41:9
 returns-3 : tie.Need-returns-3
-returns-3 c = ?
+unfolding numbersFit
+returns-3 c = simp (eq-eqb _ _ (c .before .before .before .before .if1 .left), le-ltb _ _ (c .before .before .if2 .left), lt-ltb _ _ (c .if3 .taken))
 
--- src/lib.rt:44:9
 returns-4 : tie.Need-returns-4
-returns-4 c = ?
+unfolding numbersFit
+returns-4 c =
+    simp (
+      eq-eqb _ _ (c .before .before .before .before .before .before .if1 .left),
+      le-ltb _ _ (c .before .before .before .before .if2 .left),
+      le-ltb _ _ (c .before .before .if3 .left),
+      lt-ltb _ _ (c .if4 .taken),
+    )
 
--- src/lib.rt:31:1
 returns-5 : tie.Need-returns-5
-returns-5 c = ?
+unfolding numbersFit
+returns-5 c =
+    simp (
+      eq-eqb _ _ (c .before .before .before .before .before .before .before .if1 .left),
+      le-ltb _ _ (c .before .before .before .before .before .if2 .left),
+      le-ltb _ _ (c .before .before .before .if3 .left),
+      le-ltb _ _ (c .before .if4 .left),
+    )
 
 pub numbers-fit-spec : {M : Type 1} → statement M
 numbers-fit-spec = tie.close (tie.spec returns returns-2 returns-3 returns-4 returns-5)

@@ -1,37 +1,38 @@
+-- `format::put_root`: the five writes make page 1.
+use native.Mathlib.Omega.{arith}
 use borrow.Author.Needs.{needs}
+use Rattle.format.specs.First.{root-written}
+use Rattle.format.specs.Store.{whole}
 use Rattle.format.proofs.put_root.Statement.{statement}
 use Rattle.format.proofs.put_root.Tie as tie
-use Rattle.format.proofs.put_root.Reads as reads
-use Rattle.format.proofs.put_root.Lts as lts
-use Rattle.octets.proofs.put16.Reads as put16-reads
 
--- src/lib.rt:68:5
 put16-requires : tie.Need-put16-requires
-put16-requires c κs = ?
+put16-requires c κs = omega (arith, whole (c .before .before .pre))
 
--- src/lib.rt:69:5
 put16-requires-2 : tie.Need-put16-requires-2
-put16-requires-2 c κs = ?
+put16-requires-2 c κs = omega (arith, whole (c .before .before .before .before .before .before .pre))
 
--- src/lib.rt:70:5
 put16-requires-3 : tie.Need-put16-requires-3
-put16-requires-3 c κs = ?
+put16-requires-3 c κs = omega (arith, whole (c .before .before .before .before .before .before .before .before .before .before .pre))
 
--- src/lib.rt:71:5
 put16-requires-4 : tie.Need-put16-requires-4
-put16-requires-4 c κs = ?
+put16-requires-4 c κs = omega (arith, whole (c .before .before .before .before .before .before .before .before .before .before .before .before .before .before .pre))
 
--- src/lib.rt:72:5
 put16-requires-5 : tie.Need-put16-requires-5
-put16-requires-5 c κs = ?
+put16-requires-5 c κs = omega (arith, whole (c .before .before .before .before .before .before .before .before .before .before .before .before .before .before .before .before .before .before .pre))
 
--- src/lib.rt:64:1
 same-length : tie.Need-same-length
 same-length c = search needs
 
--- src/lib.rt:64:1
 returns : tie.Need-returns
-returns c = ?
+returns c =
+    let start = c .before .before .before .before .before .before .before .before .before .before .before .before .before .before .before .before .before .before .before .before .before in
+    root-written _ _ _ _ _ _ _ (start .fits .label .fits) (start .pre)
+    (c .before .before .before .before .before .before .before .before .before .before .before .before .before .before .before .before .before .before .put16 .ensures)
+    (c .before .before .before .before .before .before .before .before .before .before .before .before .before .before .put162 .ensures)
+    (c .before .before .before .before .before .before .before .before .before .before .put163 .ensures)
+    (c .before .before .before .before .before .before .put164 .ensures)
+    (c .before .before .put165 .ensures)
 
 pub put-root-spec : {M : Type 1} → statement M
 put-root-spec =

@@ -1,55 +1,58 @@
+-- `format::write_first`: the image is cleared, and its first two pages are written.
+use denote.Ref.{now}
+use mathlib.Core.Path.{_≡_, _∙_}
+use Prim.Native.Nat.{_*_}
+use native.Mathlib.Omega.{arith}
 use borrow.Author.Needs.{needs}
+use lib.ListN.{length}
+use Rattle.format.specs.First.{zeros}
+use Rattle.format.specs.Store.{whole, cleared, numbers-of, room, page-0, room-1, page-1, all-written}
 use Rattle.format.proofs.write_first.Statement.{statement}
 use Rattle.format.proofs.write_first.Tie as tie
-use Rattle.format.proofs.write_first.Reads as reads
-use Rattle.format.proofs.write_first.Lts as lts
-use Rattle.format.proofs.put_root.Reads as put-root-reads
-use Rattle.format.proofs.put_settings.Reads as put-settings-reads
-use Rattle.octets.proofs.clear.Reads as clear-reads
 
--- src/lib.rt:81:5
+-- After the call of clear the image is zero,
+zeroed : (c : tie.After-clear) → c .clear .last .0 ≡ zeros (4096 * c .before .before .before .before .args .settings .pages)
+zeroed c = cleared (now (c .before .before .before .before .args .image)) (c .clear .last .0) _ (c .clear .ensures) (c .before .before .before .before .pre .0)
+
+-- and what put_settings leaves is a page.
+paged : (c : tie.After-put-settings) → length (c .put-settings .last .0) ≡ 4096
+paged c = c .put-settings .kept .0 ∙ whole (page-0 _ _ (c .before .before .before .before .before .before .before .before .pre .1) (zeroed (c .before .before .before .before)))
+
 clear-requires : tie.Need-clear-requires
 clear-requires c κs = search needs
 
--- src/lib.rt:82:18
 sub-put-settings : tie.Need-sub-put-settings
 sub-put-settings c = search needs
 
--- src/lib.rt:82:18
 part-put-settings-start : tie.Need-part-put-settings-start
 part-put-settings-start c = search needs
 
--- src/lib.rt:82:18
 part-put-settings-end : tie.Need-part-put-settings-end
-part-put-settings-end c = ?
+part-put-settings-end c = omega (arith, room _ _ (c .before .before .before .before .before .before .pre .1) (zeroed (c .before .before)))
 
--- src/lib.rt:82:5
 put-settings-requires : tie.Need-put-settings-requires
-put-settings-requires c κs = ?
+put-settings-requires c κs = (page-0 _ _ (c .before .before .before .before .before .before .before .pre .1) (zeroed (c .before .before .before)), numbers-of _ (c .before .before .before .before .before .before .before .pre .1))
 
--- src/lib.rt:83:14
 sub-put-root : tie.Need-sub-put-root
 sub-put-root c = search needs
 
--- src/lib.rt:83:14
 part-put-root-start : tie.Need-part-put-root-start
 part-put-root-start c = search needs
 
--- src/lib.rt:83:14
 part-put-root-end : tie.Need-part-put-root-end
-part-put-root-end c = ?
+part-put-root-end c = room-1 _ _ (c .before .before .before .before .before .before .before .before .before .before .pre .1) (zeroed (c .before .before .before .before .before .before)) (c .before .before .put-settings .last .0) (paged (c .before .before))
 
--- src/lib.rt:83:5
 put-root-requires : tie.Need-put-root-requires
-put-root-requires c κs = ?
+put-root-requires c κs = page-1 _ _ (c .before .before .before .before .before .before .before .before .before .before .before .pre .1) (zeroed (c .before .before .before .before .before .before .before)) (c .before .before .before .put-settings .last .0) (paged (c .before .before .before))
 
--- src/lib.rt:76:1
 same-length : tie.Need-same-length
 same-length c = search needs
 
--- src/lib.rt:76:1
 returns : tie.Need-returns
-returns c = ?
+returns c =
+    all-written _ _ (c .before .before .before .before .before .before .before .before .before .before .before .before .before .before .pre .1) (zeroed (c .before .before .before .before .before .before .before .before .before .before)) _ (paged (c .before .before .before .before .before .before)) _ _
+    (c .before .before .before .before .before .before .put-settings .ensures)
+    (c .before .before .put-root .ensures)
 
 pub write-first-spec : {M : Type 1} → statement M
 write-first-spec =

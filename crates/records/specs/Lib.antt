@@ -1,0 +1,4 @@
+pub mod Up
+pub mod Order
+pub mod Loops
+pub mod Call
