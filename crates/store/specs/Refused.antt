@@ -1,13 +1,30 @@
 -- Each call on an image that does not pass gives the check's number, and nothing else.
-use mathlib.Core.Path.{_≡_, refl, sym}
+use mathlib.Core.Path.{_≡_, refl, sym, ap}
 use mathlib.Core.List.{List}
 use Prim.Native.Nat.{ℕ}
 use Rattle.model.specs.Answers.{findRefused, writeRefused, readRefused, nextRefused}
 use Rattle.model.specs.Calls.{checkOf, findOf, climbOf, readOf, nextOf, recordsOf}
 use Rattle.model.specs.declared.Place.{Place}
+use Rattle.model.specs.declared.WriteAnswer.{WriteAnswer}
 use Rattle.agree.specs.Open.{refuses}
 
 module _ (img : List ℕ) (n : ℕ) (e : n ≡ checkOf img) (z : n ≡ 0 → ⊥) where
   pub find-refused : (path : List ℕ) → findRefused n ≡ findOf img path
   unfolding findOf
   find-refused path = rw (refuses img n (sym e) z)
+
+  pub climb-refused : (x : Place) (buffer : List ℕ) → climbOf img x buffer ≡ (writeRefused n, buffer)
+  unfolding climbOf
+  climb-refused x buffer = rw (refuses img n (sym e) z)
+
+  pub read-refused : (x : Place) → readRefused n ≡ readOf img x
+  unfolding readOf
+  read-refused x = rw (refuses img n (sym e) z)
+
+  pub next-refused : (x : Place) → nextRefused n ≡ nextOf img x
+  unfolding nextOf
+  next-refused x = rw (refuses img n (sym e) z)
+
+  pub records-refused : (order buffer : List ℕ) → recordsOf order img buffer ≡ (writeRefused n, buffer)
+  unfolding recordsOf
+  records-refused order buffer = rw (refuses img n (sym e) z)

@@ -1,7 +1,17 @@
 // The public calls: each for any bytes and arguments, the lowest refusal number first, and nothing written where it is refused.
-use model::{FindAnswer, Place};
+use model::{FindAnswer, Next, NextAnswer, Place, ReadNode, Settings, WriteAnswer};
 ghost use mathlib.Core.Path.{_≡_};
-ghost use Rattle.model.specs.Calls.{checkOf, findOf};
+ghost use mathlib.Core.List.{List};
+ghost use Rattle.model.specs.Calls.{formatOf, checkOf, findOf, climbOf, readOf, nextOf, recordsOf};
+ghost use Rattle.records.specs.Up.{upPages};
+
+// Leaves a root aggregate alone, pages 2 on free.
+pub fn format(image: &mut [u8], settings: Settings, matrix: &[u8], label: u16) -> u32
+    ensures number { λ r. ⌜ r ≡ formatOf (now (image .entry)) settings (now (matrix .entry)) label .0 ⌝ }
+    ensures image { λ _. ⌜ now (image .exit) ≡ formatOf (now (image .entry)) settings (now (matrix .entry)) label .1 ⌝ }
+{
+    format::format_image(image, settings, matrix, label)
+}
 
 pub fn check(image: &[u8]) -> u32
     ensures { λ r. ⌜ r ≡ checkOf (now (image .entry)) ⌝ }
@@ -21,4 +31,60 @@ pub fn find(image: &[u8], path: &[u8]) -> FindAnswer
         };
     }
     descend::find_in(image, path)
+}
+
+// The path of the node at a place, to the front of the lent buffer.
+pub fn climb(image: &[u8], place: Place, buffer: &mut [u8]) -> WriteAnswer
+    ensures answer { λ r. ⌜ r ≡ climbOf (now (image .entry)) place (now (buffer .entry)) .0 ⌝ }
+    ensures buffer { λ _. ⌜ now (buffer .exit) ≡ climbOf (now (image .entry)) place (now (buffer .entry)) .1 ⌝ }
+{
+    let n = check(image);
+    if n != 0 {
+        return WriteAnswer { number: n, written: 0 };
+    }
+    ascend::climb_of(image, place, buffer)
+}
+
+// Kind, label, number of children and where the content is, of the node at a place.
+pub fn read_node(image: &[u8], place: Place) -> ReadNode
+    ensures { λ r. ⌜ r ≡ readOf (now (image .entry)) place ⌝ }
+{
+    let n = check(image);
+    if n != 0 {
+        return ReadNode {
+            number: n,
+            kind: 0,
+            label: 0,
+            children: 0,
+            start: 0,
+            len: 0,
+        };
+    }
+    follow::read_of(image, place)
+}
+
+// The node after that at a place in document order, or the end.
+pub fn next(image: &[u8], place: Place) -> NextAnswer
+    ensures { λ r. ⌜ r ≡ nextOf (now (image .entry)) place ⌝ }
+{
+    let n = check(image);
+    if n != 0 {
+        return NextAnswer {
+            number: n,
+            next: Next::End,
+        };
+    }
+    follow::next_of(image, place)
+}
+
+// All record pages, each one time, to the front of the lent buffer; the order is free, and here it is ascending.
+pub fn records(image: &[u8], buffer: &mut [u8]) -> WriteAnswer
+    ensures answer { λ r. ⌜ r ≡ recordsOf (upPages (now (image .entry))) (now (image .entry)) (now (buffer .entry)) .0 ⌝ }
+    ensures buffer { λ _. ⌜ now (buffer .exit) ≡ recordsOf (upPages (now (image .entry))) (now (image .entry)) (now (buffer .entry)) .1 ⌝ }
+{
+    let n = check(image);
+    if n != 0 {
+        return WriteAnswer { number: n, written: 0 };
+    }
+    records::records_of(image, buffer)
 }
