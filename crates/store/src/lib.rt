@@ -2,7 +2,8 @@
 use model::{FindAnswer, Next, NextAnswer, Place, ReadNode, Settings, WriteAnswer};
 ghost use mathlib.Core.Path.{_≡_};
 ghost use mathlib.Core.List.{List};
-ghost use Rattle.model.specs.Calls.{formatOf, checkOf, findOf, climbOf, readOf, nextOf, recordsOf};
+ghost use Rattle.model.specs.Calls.{formatOf, checkOf, findOf, climbOf, readOf, partOf, nextOf, recordsOf};
+ghost use Rattle.store.specs.Part.{slice};
 ghost use Rattle.records.specs.Up.{upPages};
 
 // Leaves a root aggregate alone, pages 2 on free.
@@ -61,6 +62,58 @@ pub fn read_node(image: &[u8], place: Place) -> ReadNode
         };
     }
     follow::read_of(image, place)
+}
+
+// The same from a page and an offset.
+pub fn read_at(image: &[u8], page: usize, offset: usize) -> ReadNode
+    ensures { λ r. ⌜ r ≡ readOf (now (image .entry)) (record { page = page; offset = offset }) ⌝ }
+{
+    read_node(
+        image,
+        Place {
+            page: page,
+            offset: offset,
+        },
+    )
+}
+
+// The part of the image that a node's numbers name, none where they name none.
+pub fn part_of(image: &[u8], node: ReadNode) -> &[u8]
+    ensures { λ r. ⌜ now r ≡ slice (now (image .entry)) (node .start) (node .len) ⌝ }
+{
+    let a = node.start;
+    let n = node.len;
+    if a <= image.len() {
+        if n <= image.len() - a {
+            let e = a + n;
+            return &image[a..e];
+        }
+        return &image[0..0];
+    }
+    &image[0..0]
+}
+
+// The answer of read: the content as a part of the caller's image, beside the node's numbers.
+pub struct ReadAnswer<'a> {
+    pub content: &'a [u8],
+    pub node: ReadNode,
+}
+
+fn answer<'a>(content: &'a [u8], node: ReadNode) -> ReadAnswer<'a>
+    ensures { λ r. ⌜ (r .content ≡ content .entry) × (r .node ≡ node) ⌝ }
+{
+    ReadAnswer { content, node }
+}
+
+// What stands at a place: the node's numbers, and its content.
+pub fn read<'a>(image: &'a [u8], page: usize, offset: usize) -> ReadAnswer<'a>
+    ensures {
+        λ r. ⌜ (now (r .content) ≡ partOf (now (image .entry)) (readOf (now (image .entry)) (record { page = page; offset = offset })))
+        × (r .node ≡ readOf (now (image .entry)) (record { page = page; offset = offset })) ⌝
+    }
+{
+    let node = read_at(image, page, offset);
+    answer(part_of(image, node), node)
 }
 
 // The node after that at a place in document order, or the end.
