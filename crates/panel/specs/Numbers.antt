@@ -1,0 +1,16 @@
+-- Arguments and answers as the numbers that C hands over and gets.
+use mathlib.Core.List.{List, [], _∷_}
+use Prim.Native.Nat.{ℕ}
+use Rattle.model.specs.declared.Settings.{Settings}
+use Rattle.model.specs.declared.Place.{Place}
+use Rattle.model.specs.declared.ReadNode.{ReadNode}
+
+abbrev pub settings : (pages target tolerance form : ℕ) → Settings
+settings p t o f = record { pages = p; target = t; tolerance = o; form = f }
+
+abbrev pub placeNumbers : Place → List ℕ
+placeNumbers x = x .page ∷ x .offset ∷ []
+
+-- Kind, label, number of children, start of the content in the image, its length.
+abbrev pub readNumbers : ReadNode → List ℕ
+readNumbers r = r .kind ∷ r .label ∷ r .children ∷ r .start ∷ r .len ∷ []
