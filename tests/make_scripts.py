@@ -98,7 +98,7 @@ def damage(rng, image, out):
     """Puts a few bytes wrong, mostly where the check has something to say."""
     for _ in range(rng.choice((1, 1, 1, 2, 3))):
         page = ref.PAGE * rng.randrange(len(image) // ref.PAGE)
-        used = image[page + 4082] + 256 * image[page + 4083]
+        used = min(4080, image[page + 4082] + 256 * image[page + 4083])
         at = page + rng.choice((rng.randrange(4096), 4080 + rng.randrange(16), 4080 + rng.randrange(6), rng.randrange(8), rng.randrange(max(1, used)),
                                 rng.randrange(272), max(0, used - 1), min(used, 4079)))
         value = rng.choice((0, 1, 2, 3, 4, 6, 8, 255, rng.randrange(256), image[at] ^ (1 << rng.randrange(8)), (image[at] + 1) % 256, (image[at] - 1) % 256))

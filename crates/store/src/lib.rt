@@ -1,5 +1,11 @@
 // The public calls: each for any bytes and arguments, the lowest refusal number first, and nothing written where it is refused.
-use model::{FindAnswer, Next, NextAnswer, Place, ReadNode, Settings, WriteAnswer};
+use model::FindAnswer;
+use model::Next;
+use model::NextAnswer;
+use model::Place;
+use model::ReadNode;
+use model::Settings;
+use model::WriteAnswer;
 ghost use mathlib.Core.Path.{_≡_};
 ghost use mathlib.Core.List.{List};
 ghost use Rattle.model.specs.Calls.{formatOf, checkOf, findOf, climbOf, readOf, partOf, nextOf, recordsOf};
@@ -41,7 +47,10 @@ pub fn climb(image: &[u8], place: Place, buffer: &mut [u8]) -> WriteAnswer
 {
     let n = check(image);
     if n != 0 {
-        return WriteAnswer { number: n, written: 0 };
+        return WriteAnswer {
+            number: n,
+            written: 0,
+        };
     }
     ascend::climb_of(image, place, buffer)
 }
@@ -107,10 +116,8 @@ fn answer<'a>(content: &'a [u8], node: ReadNode) -> ReadAnswer<'a>
 
 // What stands at a place: the node's numbers, and its content.
 pub fn read<'a>(image: &'a [u8], page: usize, offset: usize) -> ReadAnswer<'a>
-    ensures {
-        λ r. ⌜ (now (r .content) ≡ partOf (now (image .entry)) (readOf (now (image .entry)) (record { page = page; offset = offset })))
-        × (r .node ≡ readOf (now (image .entry)) (record { page = page; offset = offset })) ⌝
-    }
+    ensures { λ r. ⌜ (now (r .content) ≡ partOf (now (image .entry)) (readOf (now (image .entry)) (record { page = page; offset = offset })))
+        × (r .node ≡ readOf (now (image .entry)) (record { page = page; offset = offset })) ⌝ }
 {
     let node = read_at(image, page, offset);
     answer(part_of(image, node), node)
@@ -137,7 +144,10 @@ pub fn records(image: &[u8], buffer: &mut [u8]) -> WriteAnswer
 {
     let n = check(image);
     if n != 0 {
-        return WriteAnswer { number: n, written: 0 };
+        return WriteAnswer {
+            number: n,
+            written: 0,
+        };
     }
     records::records_of(image, buffer)
 }
