@@ -124,7 +124,7 @@ module _ (img : List ℕ) where
 -- ── the store ──
 
 -- pages that are the same where the row names them
-stored-same : (a b : ℕ → List ℕ) (h : ℕ) (row : Row) → ((q : ℕ) → 1 ≤ count q row → b q ≡ a q) → Stored a h row → Stored b h row
+pub stored-same : (a b : ℕ → List ℕ) (h : ℕ) (row : Row) → ((q : ℕ) → 1 ≤ count q row → b q ≡ a q) → Stored a h row → Stored b h row
 stored-same a b h nil e m = tt
 stored-same a b h (agg l cs rest) e m = (stored-same a b h cs (λ q g. e q (omega arith)) (m .0), stored-same a b h rest (λ q g. e q (omega arith)) (m .1))
 stored-same a b h (lit l c rest) e m = stored-same a b h rest e m

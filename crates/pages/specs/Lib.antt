@@ -1,0 +1,4 @@
+pub mod Write
+pub mod Links
+pub mod Paged
+pub mod Relinked

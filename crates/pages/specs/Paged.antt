@@ -1,0 +1,226 @@
+-- What the page writes do to the pages of an image.
+use mathlib.Core.Path.{_≡_, refl, sym, ap, _∙_}
+use mathlib.Core.Bool.{Bool, true, false, cond}
+use mathlib.Core.List.{List, _∷_, _++_, append-assoc}
+use mathlib.Core.Logic.{_⊎_, inl, inr, ⊎-elim}
+use Prim.Native.Nat.{ℕ, zero, suc, _+_, _-_, _*_, _<_, _≤_}
+use native.Mathlib.Omega.{arith}
+use borrow.Author.Tests.{eqb-true, eqb-false, eq-eqb, leb-true, leb-false}
+use lib.Dec.{eqb, leb}
+use lib.ListN.{length, take, drop, replicate, length-append, length-take, length-drop, length-replicate, take-append-drop}
+use lib.Seq.{take-at, drop-at, take-append-le, drop-append-le, drop-drop, length-take-le}
+use Rattle.model.specs.Row.{Row, nil, agg, lit, rec, two, recordSize, recordBytes, recordPage, count}
+use Rattle.model.specs.Reading.{pageOf}
+use Rattle.laws.specs.Image.{length-record}
+use Rattle.octets.specs.Over.{over, over-is, length-over, over-left, over-right, over-all, over-again}
+use Rattle.pages.specs.Write.{setPage}
+use Rattle.pages.specs.Links.{links, Below}
+
+-- ── a write, and what stands before it and after it ──
+
+slice-left : (m n : ℕ) (a b : List ℕ) → m + n ≤ length a → take n (drop m (a ++ b)) ≡ take n (drop m a)
+slice-left m n a b h =
+    let e : length (drop m a) ≡ length a - m = length-drop m a in
+    ap (take n) (drop-append-le m a b (omega arith)) ∙ take-append-le n (drop m a) b (omega arith)
+
+before-over : (at m n : ℕ) (xs l : List ℕ) → m + n ≤ at → at ≤ length l → take n (drop m (over at xs l)) ≡ take n (drop m l)
+before-over at m n xs l h k =
+    let t : length (take at l) ≡ at = length-take-le at l k in
+    ap (λ (z : List ℕ). take n (drop m z)) (over-is at xs l)
+    ∙ slice-left m n (take at l) (xs ++ drop (at + length xs) l) (omega arith)
+    ∙ sym (slice-left m n (take at l) (drop at l) (omega arith))
+    ∙ ap (λ (z : List ℕ). take n (drop m z)) (take-append-drop at l)
+
+after-over : (at m : ℕ) (xs l : List ℕ) → at + length xs ≤ m → at + length xs ≤ length l → drop m (over at xs l) ≡ drop m l
+after-over at m xs l h k =
+    let a = at + length xs in
+    let e : a + (m - a) ≡ m = omega arith in
+    let n : length (take at l ++ xs) ≡ a = simp (length-append, length-take) (omega arith) in
+    let w : drop a (over at xs l) ≡ drop a l =
+    ap (drop a) (over-is at xs l ∙ sym (append-assoc (take at l) xs (drop a l))) ∙ drop-at (take at l ++ xs) (drop a l) a n in
+    ap (λ (i : ℕ). drop i (over at xs l)) (sym e) ∙ sym (drop-drop (m - a) a (over at xs l)) ∙ ap (drop (m - a)) w ∙ drop-drop (m - a) a l ∙ ap (λ (i : ℕ). drop i l) e
+
+-- ── a write within a page ──
+
+pub length-page : (p : ℕ) (img : List ℕ) → 4096 * p + 4096 ≤ length img → length (pageOf img p) ≡ 4096
+length-page p img h = let e : length (drop (4096 * p) img) ≡ length img - 4096 * p = length-drop (4096 * p) img in length-take-le 4096 (drop (4096 * p) img) (omega arith)
+
+module _ (p k : ℕ) (xs img : List ℕ) (h : k + length xs ≤ 4096) (room : 4096 * p + 4096 ≤ length img) where
+  pub page-same : pageOf (over (4096 * p + k) xs img) p ≡ over k xs (pageOf img p)
+  page-same =
+      let a = 4096 * p in
+      let d = drop a img in
+      let t : length (take a img) ≡ a = length-take-le a img (omega arith) in
+      let n : length (take 4096 d) ≡ 4096 = length-page p img room in
+      let e : over (a + k) xs img ≡ take a img ++ over k xs d =
+      ap (over (a + k) xs) (sym (take-append-drop a img)) ∙ over-right (a + k) k xs (take a img) d (omega arith) in
+      let f : over k xs d ≡ over k xs (take 4096 d) ++ drop 4096 d =
+      ap (over k xs) (sym (take-append-drop 4096 d)) ∙ over-left k xs (take 4096 d) (drop 4096 d) (omega arith) in
+      ap (λ (z : List ℕ). take 4096 (drop a z)) e
+      ∙ ap (take 4096) (drop-at (take a img) (over k xs d) a t ∙ f)
+      ∙ take-at (over k xs (take 4096 d)) (drop 4096 d) 4096 (length-over k xs (take 4096 d) (omega arith) ∙ n)
+
+  pub page-other : (q : ℕ) → (q ≡ p → ⊥) → pageOf (over (4096 * p + k) xs img) q ≡ pageOf img q
+  page-other q e = go (leb q p) refl
+    where
+      go : (b : Bool) → leb q p ≡ b → pageOf (over (4096 * p + k) xs img) q ≡ pageOf img q
+      go true f = before-over (4096 * p + k) (4096 * q) 4096 xs img (omega (arith, leb-true q p f, e)) (omega arith)
+      go false f = ap (take 4096) (after-over (4096 * p + k) (4096 * q) xs img (omega (arith, leb-false q p f)) (omega arith))
+
+  -- A write within page p changes that page alone.
+  pub page-over : (q : ℕ) → pageOf (over (4096 * p + k) xs img) q ≡ cond (eqb q p) (over k xs (pageOf img p)) (pageOf img q)
+  page-over q = go (eqb q p) refl
+    where
+      go : (b : Bool) → eqb q p ≡ b → pageOf (over (4096 * p + k) xs img) q ≡ cond b (over k xs (pageOf img p)) (pageOf img q)
+      go true e = ap (pageOf (over (4096 * p + k) xs img)) (eqb-true q p e) ∙ page-same
+      go false e = page-other q (eqb-false q p e)
+
+-- ── a page set ──
+
+module _ (p : ℕ) (s img : List ℕ) (long : length s ≡ 4096) (room : 4096 * p + 4096 ≤ length img) where
+  pub length-setPage : length (setPage p s img) ≡ length img
+  unfolding setPage
+  length-setPage = length-over (4096 * p) s img (omega arith)
+
+  pub page-set : (q : ℕ) → pageOf (setPage p s img) q ≡ cond (eqb q p) s (pageOf img q)
+  unfolding setPage
+  page-set q =
+      let z : 4096 * p ≡ 4096 * p + 0 = omega arith in
+      ap (λ (i : ℕ). pageOf (over i s img) q) z
+      ∙ page-over p 0 s img (omega arith) room q
+      ∙ ap (λ (v : List ℕ). cond (eqb q p) v (pageOf img q)) (over-all s (pageOf img p) (long ∙ sym (length-page p img room)))
+
+  pub set-same : pageOf (setPage p s img) p ≡ s
+  set-same = page-set p ∙ rw (eq-eqb p p refl)
+
+  pub set-other : (q : ℕ) → (q ≡ p → ⊥) → pageOf (setPage p s img) q ≡ pageOf img q
+  set-other q e = page-set q ∙ go (eqb q p) refl
+    where
+      go : (b : Bool) → eqb q p ≡ b → cond b s (pageOf img q) ≡ pageOf img q
+      go true f = absurd (e (eqb-true q p f))
+      go false f = refl
+
+-- A page is cleared.
+pub page-cleared : (p : ℕ) (img : List ℕ) → 4096 * p + 4096 ≤ length img → (q : ℕ) → pageOf (setPage p (replicate 4096 0) img) q ≡ cond (eqb q p) (replicate 4096 0) (pageOf img q)
+page-cleared p img room q = page-set p (replicate 4096 0) img (length-replicate {A = ℕ} 4096 0) room q
+
+-- ── back links ──
+
+pub length-links : (n q : ℕ) (row : Row) (img : List ℕ) → Below n row → 4096 * n ≤ length img → length (links q row img) ≡ length img
+length-links n q nil img b h = refl
+length-links n q (agg l cs rest) img b h =
+    let e : length (links q cs img) ≡ length img = length-links n q cs img (b .0) h in
+    length-links n q rest (links q cs img) (b .1) (omega arith) ∙ e
+length-links n q (lit l c rest) img b h = length-links n q rest img b h
+length-links n q (rec p s r rest) img b h =
+    let e : length (over (4096 * p + 4084) (two q) img) ≡ length img = length-over (4096 * p + 4084) (two q) img (omega (arith, b .0)) in
+    length-links n q rest (over (4096 * p + 4084) (two q) img) (b .1) (omega arith) ∙ e
+
+-- How often the proxies of the row itself name a page, and how often those in the records below it do.
+abbrev pub ownCount : ℕ → Row → ℕ
+ownCount q nil = 0
+ownCount q (agg h cs rest) = ownCount q cs + ownCount q rest
+ownCount q (lit h c rest) = ownCount q rest
+ownCount q (rec p s r rest) = cond (eqb q p) 1 0 + ownCount q rest
+
+abbrev pub deepCount : ℕ → Row → ℕ
+deepCount q nil = 0
+deepCount q (agg h cs rest) = deepCount q cs + deepCount q rest
+deepCount q (lit h c rest) = deepCount q rest
+deepCount q (rec p s r rest) = count q r + deepCount q rest
+
+pub count-parts : (q : ℕ) (row : Row) → count q row ≡ ownCount q row + deepCount q row
+count-parts q nil = refl
+count-parts q (agg h cs rest) = omega (arith, count-parts q cs, count-parts q rest)
+count-parts q (lit h c rest) = count-parts q rest
+count-parts q (rec p s r rest) = omega (arith, count-parts q rest)
+
+none-or-some : (n : ℕ) → (n ≡ 0) ⊎ (1 ≤ n)
+none-or-some zero = inl refl
+none-or-some (suc n) = inr (omega arith)
+
+pub below-own : (n p : ℕ) (row : Row) → Below n row → 1 ≤ ownCount p row → p < n
+below-own n p nil b h = absurd (omega arith)
+below-own n p (agg l cs rest) b h = ⊎-elim (λ e. below-own n p rest (b .1) (omega arith)) (λ k. below-own n p cs (b .0) k) (none-or-some (ownCount p cs))
+below-own n p (lit l c rest) b h = below-own n p rest b h
+below-own n p (rec m s r rest) b h = go (eqb p m) refl h (λ k. below-own n p rest (b .1) k)
+  where
+    go : (x : Bool) → eqb p m ≡ x → 1 ≤ cond x 1 0 + ownCount p rest → (1 ≤ ownCount p rest → p < n) → p < n
+    go true e k f = omega (arith, eqb-true p m e, b .0)
+    go false e k f = f (omega arith)
+
+module _ (n q p : ℕ) where
+  -- A page that the row itself does not name stays.
+  pub links-other : (row : Row) (img : List ℕ) → Below n row → 4096 * n ≤ length img → ownCount p row ≡ 0 → pageOf (links q row img) p ≡ pageOf img p
+  links-other nil img b h o = refl
+  links-other (agg l cs rest) img b h o =
+      let e = length-links n q cs img (b .0) h in
+      links-other rest (links q cs img) (b .1) (omega (arith, e)) (omega arith) ∙ links-other cs img (b .0) h (omega arith)
+  links-other (lit l c rest) img b h o = links-other rest img b h o
+  links-other (rec m s r rest) img b h o =
+      let e = length-links n q (rec m s r nil) img (b .0, tt) h in
+      go (eqb p m) refl o (λ k. links-other rest (over (4096 * m + 4084) (two q) img) (b .1) (omega (arith, e)) k)
+    where
+      go : (x : Bool) → eqb p m ≡ x → cond x 1 0 + ownCount p rest ≡ 0
+          → (ownCount p rest ≡ 0 → pageOf (links q rest (over (4096 * m + 4084) (two q) img)) p ≡ pageOf (over (4096 * m + 4084) (two q) img) p)
+          → pageOf (links q rest (over (4096 * m + 4084) (two q) img)) p ≡ pageOf img p
+      go true e k f = absurd (omega arith)
+      go false e k f = f (omega arith) ∙ page-other m 4084 (two q) img (omega arith) (omega (arith, b .0)) p (eqb-false p m e)
+
+  twice : (s : List ℕ) → length s ≡ 4096 → over 4084 (two q) (over 4084 (two q) s) ≡ over 4084 (two q) s
+  twice s e = over-again 4084 (two q) (two q) s refl (omega arith)
+
+  -- One that it names gets the new back link, and is else as it was.
+  pub links-own : (row : Row) (img : List ℕ) → Below n row → 4096 * n ≤ length img → 1 ≤ ownCount p row → pageOf (links q row img) p ≡ over 4084 (two q) (pageOf img p)
+  links-own nil img b h o = absurd (omega arith)
+  links-own (agg l cs rest) img b h o =
+      let e = length-links n q cs img (b .0) h in
+      let lp = length-page p img (omega (arith, below-own n p (agg l cs rest) b o)) in
+      let u = over 4084 (two q) in
+      ⊎-elim
+      (λ x. links-other rest (links q cs img) (b .1) (omega (arith, e)) x ∙ links-own cs img (b .0) h (omega arith))
+      (λ x. links-own rest (links q cs img) (b .1) (omega (arith, e)) x
+      ∙ ⊎-elim (λ y. ap u (links-other cs img (b .0) h y)) (λ y. ap u (links-own cs img (b .0) h y) ∙ twice (pageOf img p) lp) (none-or-some (ownCount p cs)))
+      (none-or-some (ownCount p rest))
+  links-own (lit l c rest) img b h o = links-own rest img b h o
+  links-own (rec m s r rest) img b h o =
+      let e = length-links n q (rec m s r nil) img (b .0, tt) h in
+      let new = over (4096 * m + 4084) (two q) img in
+      let lp = length-page p img (omega (arith, below-own n p (rec m s r rest) b o)) in
+      go (eqb p m) refl o lp (λ k. links-other rest new (b .1) (omega (arith, e)) k) (λ k. links-own rest new (b .1) (omega (arith, e)) k)
+    where
+      new : List ℕ
+      new = over (4096 * m + 4084) (two q) img
+
+      go : (x : Bool) → eqb p m ≡ x → 1 ≤ cond x 1 0 + ownCount p rest → length (pageOf img p) ≡ 4096
+          → (ownCount p rest ≡ 0 → pageOf (links q rest new) p ≡ pageOf new p)
+          → (1 ≤ ownCount p rest → pageOf (links q rest new) p ≡ over 4084 (two q) (pageOf new p))
+          → pageOf (links q rest new) p ≡ over 4084 (two q) (pageOf img p)
+      go true e k lp f g =
+          let w : pageOf new p ≡ over 4084 (two q) (pageOf img p) =
+          ap (pageOf new) (eqb-true p m e) ∙ page-same m 4084 (two q) img (omega arith) (omega (arith, b .0)) ∙ ap (λ (i : ℕ). over 4084 (two q) (pageOf img i)) (sym (eqb-true p m e)) in
+          ⊎-elim (λ x. f x ∙ w) (λ x. g x ∙ ap (over 4084 (two q)) w ∙ twice (pageOf img p) lp) (none-or-some (ownCount p rest))
+      go false e k lp f g = g (omega arith) ∙ ap (over 4084 (two q)) (page-other m 4084 (two q) img (omega arith) (omega (arith, b .0)) p (eqb-false p m e))
+
+-- A record's page with another back link.
+pub link-record : (p h q : ℕ) (s : Bool) (r : Row) → recordSize r ≤ 4080
+    → over 4084 (two q) (recordPage (record { page = p; settled = s; holder = h; row = r })) ≡ recordPage (record { page = p; settled = s; holder = q; row = r })
+link-record p h q s r k =
+    let c = recordBytes r in
+    let z : List ℕ = replicate (4080 - recordSize r) 0 in
+    let f : List ℕ = 1 ∷ cond s 1 0 ∷ two (recordSize r) in
+    let end : List ℕ = replicate 10 0 in
+    let nc : length c ≡ recordSize r = length-record r in
+    let nz : length z ≡ 4080 - recordSize r = length-replicate _ _ in
+    ap (over 4084 (two q)) (append-assoc c z (f ++ (two h ++ end)))
+    ∙ over-right 4084 (4084 - recordSize r) (two q) c (z ++ (f ++ (two h ++ end))) (omega arith)
+    ∙ ap (λ (y : List ℕ). c ++ y) (over-right (4084 - recordSize r) 4 (two q) z (f ++ (two h ++ end)) (omega arith)
+    ∙ ap (λ (y : List ℕ). z ++ y) (over-right 4 0 (two q) f (two h ++ end) refl
+    ∙ ap (λ (y : List ℕ). f ++ y) (over-left 0 (two q) (two h) end (omega arith) ∙ ap (λ (y : List ℕ). y ++ end) (over-all (two q) (two h) refl))))
+    ∙ sym (append-assoc c z (f ++ (two q ++ end)))
+
+-- The record on a page that the row itself names keeps all but its back link, which is q.
+pub links-record : (n q h p : ℕ) (s : Bool) (r row : Row) (img : List ℕ) → Below n row → 4096 * n ≤ length img → 1 ≤ ownCount p row → recordSize r ≤ 4080
+    → pageOf img p ≡ recordPage (record { page = p; settled = s; holder = h; row = r })
+    → pageOf (links q row img) p ≡ recordPage (record { page = p; settled = s; holder = q; row = r })
+links-record n q h p s r row img b room o k e = links-own n q p row img b room o ∙ ap (over 4084 (two q)) e ∙ link-record p h q s r k
