@@ -334,3 +334,10 @@ fn once(image: &mut [u8], parent: usize, k: usize, node: &[u8], dry: bool) -> Gr
     g
 }
 pub fn insert(image: &mut [u8], path: &[u8], k: usize, node: &[u8]) -> (u32, usize, u32, i32) {
+    let parent = find_in(image, path);
+    let d = once(image, parent, k, node, true);
+    if d.full { return (12, 0, 0, 0); }
+    let g = once(image, parent, k, node, false);
+    let mut full_path = path.to_vec(); full_path.extend_from_slice(&(k as u32).to_le_bytes());
+    (0, find_in(image, &full_path), g.splits, g.lean)
+}

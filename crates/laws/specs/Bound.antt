@@ -268,7 +268,7 @@ module _ (st : Config) (k : Ranges st) (S : ℕ) (over : 4080 < S) (most : S ≤
   p-high : splitPoint st S ≤ 3454
   p-high = omega (arith, mul-le-mul-right S (k .high))
 
-in-lean : (a p : ℕ) → a ≤ p + 132 → p ≤ a + 525 → InLean (subℕ a p)
+pub in-lean : (a p : ℕ) → a ≤ p + 132 → p ≤ a + 525 → InLean (subℕ a p)
 in-lean a p h k = cond-case InLean (ltb a p) (λ e. omega (arith, ltb-true a p e)) (λ e. omega (arith, ltb-false a p e))
 
 -- What is claimed of a split: `sep` is the separator, p the split point and d the start of d.

@@ -49,7 +49,7 @@ in-tree t n e m =
     let z : 0 ≡ n .number = omega arith in
     ap (λ (k : ℕ). nodeAt k (n .path) t) z ∙ in-named t n m
 
-unmap : (f : Node → Node) (o : Option Node) (n : Node) → Option·map f o ≡ some n → (m : Node) × (o ≡ some m) × (f m ≡ n)
+pub unmap : (f : Node → Node) (o : Option Node) (n : Node) → Option·map f o ≡ some n → (m : Node) × (o ≡ some m) × (f m ≡ n)
 unmap f none n e = absurd (Option·none-ne-some n e)
 unmap f (some m) n e = (m, refl, Option·some-injective (f m) n e)
 

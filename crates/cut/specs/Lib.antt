@@ -1,0 +1,5 @@
+pub mod Stands
+pub mod Chosen
+pub mod Search
+pub mod Level
+pub mod Lean

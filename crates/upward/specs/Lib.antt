@@ -1,0 +1,7 @@
+pub mod Chain
+pub mod Taking
+pub mod Exists
+pub mod Beside
+pub mod Stops
+pub mod Steady
+pub mod Bytes
