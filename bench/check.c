@@ -54,7 +54,9 @@ int main(void) {
     make_full(image, 1024);
     bad |= row("full records", image, len);
     make_worst(image, 1024);
-    bad |= row("worst found", image, len);
+    bad |= row("6-byte nodes", image, len);
+    make_nested(image, 1024);
+    bad |= row("nested nodes", image, len);
     for (unsigned pages = 4; pages <= 1000; pages = pages < 400 ? pages * 10 : 1000) {
         char name[32];
         snprintf(name, sizeof name, "full, %u pages", pages);

@@ -83,4 +83,18 @@ static inline void make_worst(uint8_t *image, unsigned pages) {
     }
 }
 
+/* The same chain, each page full of aggregates of which each is the only child of the last, down to level 24: the most calls for the bytes. */
+static inline void make_nested(uint8_t *image, unsigned pages) {
+    memset(image, 0, (size_t)pages * 4096);
+    put_settings(image, pages);
+    for (unsigned p = 1; p < pages; p++) {
+        uint8_t *page = image + 4096u * p, *at = page + 6;
+        if (p + 1 < pages) at = put_proxy(at, p + 1);
+        while (at + 6 * 23 <= page + 4080)
+            for (unsigned d = 23; d >= 1; d--) at = put_node(at, 1, 9, 6 * d);
+        put_node(page, p == 1 ? 1 : 4, p == 1 ? 7 : 0, (unsigned)(at - page));
+        put_trailer(page, 1, p == 1, (unsigned)(at - page), p - 1);
+    }
+}
+
 #endif

@@ -1,4 +1,5 @@
 pub mod Calls
+pub mod Leaves
 pub mod Walks
 pub mod All
 pub mod Scans

@@ -10,6 +10,7 @@ ghost use Rattle.model.specs.Reading.{lengthOk};
 ghost use Rattle.walks.specs.Tests.{sizeOf, twoChildren, shapeOf, headOf, isMarked, marked, namesOf, rootFits, allZero, matrixOk, stateOf, numbersOk, settingsOk, firstOk};
 ghost use Rattle.walks.specs.Walk.{state, entersOf, nodeOf, listOf, proxyOf};
 ghost use Rattle.walks.specs.Check.{scanFrom, trailersOf, walkOk, checkBy};
+ghost use Rattle.inspect.specs.Leaf.{standsOf, aggregateOf, literalOf};
 
 // Row: the holder, 0 a record's page. Column: the kind.
 pub const MAY_STAND: [u8; 25] = [
@@ -129,6 +130,48 @@ pub fn head(part: &[u8], holder: usize) -> usize
     kind
 }
 
+// Whether the part starts with a node of the kind, by its first two bytes, that may stand in the holder, at a level that may be.
+pub fn stands(part: &[u8], kind: usize, holder: usize, level: usize) -> bool
+    requires { ⌜ (6 ≤ length (now part)) × (holder < 5) × (kind < 5) ⌝ }
+    ensures { λ r. ⌜ r ≡ standsOf (now (part .entry)) kind holder level ⌝ }
+{
+    if wide(part[0]) != kind {
+        return false;
+    }
+    if part[1] != 0 {
+        return false;
+    }
+    if 25 <= level {
+        return false;
+    }
+    may_stand(holder, kind)
+}
+
+// The same of an aggregate of n bytes.
+pub fn aggregate(part: &[u8], n: usize, holder: usize, level: usize) -> bool
+    requires { ⌜ holder < 5 ⌝ }
+    ensures { λ r. ⌜ r ≡ aggregateOf (now (part .entry)) n holder level ⌝ }
+{
+    if part.len() < 6 {
+        return false;
+    }
+    if two(part, 4) != n {
+        return false;
+    }
+    stands(part, 1, holder, level)
+}
+
+// The same of a literal that is not too long.
+pub fn literal(part: &[u8], holder: usize, level: usize) -> bool
+    requires { ⌜ (6 ≤ length (now part)) × (holder < 5) ⌝ }
+    ensures { λ r. ⌜ r ≡ literalOf (now (part .entry)) holder level ⌝ }
+{
+    if 526 < two(part, 4) {
+        return false;
+    }
+    stands(part, 2, holder, level)
+}
+
 // ── marks: a bit for each page ──
 
 pub fn is_marked(marks: &[u8; 128], p: usize) -> bool
@@ -224,7 +267,7 @@ fn proxy_check<'a>(
     node_check(image, &image[a..e], p, 0, level, left - 1, marks)
 }
 
-// The node that the part is.
+// The node that the part is. An aggregate is entered before the other kinds are asked for.
 fn node_check<'a>(
     image: &'a [u8],
     part: &'a [u8],
@@ -237,10 +280,10 @@ fn node_check<'a>(
     requires { ⌜ (holder < 5) × (level ≤ 25) ⌝ }
     ensures { λ r. ⌜ state r (now (marks .exit)) ≡ nodeOf (now (image .entry)) (now (part .entry)) page holder level (state left (now (marks .entry))) .walk ⌝ }
 {
-    let kind = head(part, holder);
-    if kind == 0 {
-        return 0;
+    if aggregate(part, part.len(), holder, level) {
+        return list_check(image, &part[6..], page, 1, level + 1, left, marks);
     }
+    let kind = head(part, holder);
     if kind == 3 {
         if part.len() != 8 {
             return 0;
@@ -256,10 +299,11 @@ fn node_check<'a>(
     if kind == 2 {
         return left;
     }
-    list_check(image, &part[6..], page, 1, level + 1, left, marks)
+    0
 }
 
-// The nodes that the part holds, one after another.
+// The nodes that the part holds, one after another. What holds no other node is passed without a call: an aggregate by a constant, so that the next
+// header is read without waiting for this one's size. Kept small: as long as the compiler puts it into node_check, a level takes one frame.
 fn list_check<'a>(
     image: &'a [u8],
     part: &'a [u8],
@@ -279,12 +323,20 @@ fn list_check<'a>(
             return 0;
         }
         let rest = &part[at..];
-        let n = size_of(rest);
-        if n == 0 {
-            return 0;
+        if aggregate(rest, 6, holder, level) {
+            at = at + 6;
+        } else {
+            let n = size_of(rest);
+            if n == 0 {
+                return 0;
+            }
+            if literal(rest, holder, level) {
+                at = at + n;
+            } else {
+                cur = node_check(image, &rest[..n], page, holder, level, cur, marks);
+                at = at + n;
+            }
         }
-        cur = node_check(image, &rest[..n], page, holder, level, cur, marks);
-        at = at + n;
     }
     cur
 }

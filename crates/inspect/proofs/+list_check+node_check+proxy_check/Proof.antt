@@ -13,7 +13,8 @@ use Rattle.walks.specs.Walk.{State, state, node, listOf, proxyOf}
 use Rattle.walks.specs.Facts.{rest-is}
 use Rattle.walks.specs.Steps.{less, length-part, used-is}
 use Rattle.inspect.proofs.Calls.{passes, fails}
-use Rattle.inspect.proofs.Walks.{goes, headed, node-inside, list-none, list-bad, list-stop, list-turn, node-0, node-3-bad, node-3, node-4, node-deep, node-2, node-1, proxy-no, proxy-done}
+use Rattle.inspect.proofs.Leaves.{aggregate-head}
+use Rattle.inspect.proofs.Walks.{goes, headed, sized, node-inside, list-none, list-bad, list-stop, Turn, turn, turn-childless, turn-literal, node-3-bad, node-3, node-4, node-deep, node-2, node-inner, node-none, proxy-no, proxy-done}
 use Rattle.inspect.proofs.list_check.Reads as list-check
 use Rattle.inspect.proofs.list_check.Kinds as list-check-kinds
 use Rattle.inspect.proofs.+list_check+node_check+proxy_check.Lts-list_check as list-check-lts
@@ -23,8 +24,10 @@ use Rattle.inspect.proofs.+list_check+node_check+proxy_check.Lts-node_c
 use Rattle.inspect.proofs.proxy_check.Reads as proxy-check
 use Rattle.inspect.proofs.proxy_check.Kinds as proxy-check-kinds
 use Rattle.inspect.proofs.+list_check+node_check+proxy_check.Lts-proxy_check as proxy-check-lts
+use Rattle.inspect.proofs.aggregate.Reads as aggregate-reads
 use Rattle.inspect.proofs.enters.Reads as enters-reads
 use Rattle.inspect.proofs.head.Reads as head-reads
+use Rattle.inspect.proofs.literal.Reads as literal-reads
 use Rattle.inspect.proofs.set_mark.Reads as set-mark-reads
 use Rattle.inspect.proofs.size_of.Reads as size-of-reads
 use Rattle.octets.proofs.two.Reads as two-reads
@@ -73,15 +76,44 @@ list-check-Inv-loop image part page holder level left marks₀ cur₀ at₀ mark
 abbrev list-check-μ-loop : list-check-lts.MeasureT-loop
 list-check-μ-loop image part page holder level left marks₀ cur₀ at₀ marks cur at = length part - at
 
+abbrev claims : ℕ → list-check-lts.Claims
+claims t = (
+  aggregate-reads.Asked,
+  aggregate-reads.Learnt,
+  size-of-reads.Asked,
+  size-of-reads.Learnt,
+  literal-reads.Asked,
+  literal-reads.Learnt,
+  node-check-below t,
+  node-check.Post,
+)
+
+-- The turn of the loop that passes an aggregate with no child.
+childless : (t : ℕ) (c : list-check-lts.Then2 (claims t) (list-check-at t) list-check.Post list-check-Inv-loop list-check-μ-loop) → let k = c .before .before .before .before .before in
+    let a = k .before .before .before .args in
+    let w = state (k .loop .cur) (k .loop .marks) in
+    Turn (now (a .image)) (now (a .part)) (a .page) (a .holder) (a .level) (k .loop .at) 6 w w
+childless t c = turn-childless _ _ _ _ _ _ _ (c .before .before .before .before .loop-test .taken) (c .before .before .before .if1 .left) (sym (c .before .aggregate .ensures) ∙ c .if2 .taken)
+
+-- The size of the node that is not passed so, and the turn with it, where the node takes the walk to r.
+whole : (t : ℕ) (c : list-check-lts.Else3 (claims t) (list-check-at t) list-check.Post list-check-Inv-loop list-check-μ-loop) → let k = c .before .before .before .before .before .before .before in
+    let part = now (k .before .before .before .args .part) in
+    let n = c .before .size-of .result in
+    (6 ≤ n) × (k .loop .at + n ≤ length part) × (n ≡ length (take n (take (length part - k .loop .at) (drop (k .loop .at) part))))
+whole t c = let k = c .before .before .before .before .before .before .before in node-inside (now (k .before .before .before .args .part)) (k .loop .at) _ (c .before .size-of .ensures) (c .if3 .left) (c .before .before .before .before .before .before .loop-test .taken)
+
+passed : (t : ℕ) (c : list-check-lts.Then4 (claims t) (list-check-at t) list-check.Post list-check-Inv-loop list-check-μ-loop) → let k = c .before .before .before .before .before .before .before .before .before in
+    let a = k .before .before .before .args in
+    let w = state (k .loop .cur) (k .loop .marks) in
+    Turn (now (a .image)) (now (a .part)) (a .page) (a .holder) (a .level) (k .loop .at) (c .before .before .before .size-of .result) w w
+passed t c =
+    turn-literal _ _ _ _ _ _ _ (c .before .before .before .before .before .before .before .before .loop-test .taken) (c .before .before .before .before .before .before .before .if1 .left) _
+    (c .before .before .before .size-of .ensures) (c .before .before .if3 .left) (sym (c .before .literal .ensures) ∙ c .if4 .taken)
+
 -- Below, k is the place of the loop in list_check, and of the first test in the other two.
 pub +list-check+node-check+proxy-check-spec : {M : Type 1} → statement M
 +list-check+node-check+proxy-check-spec =
-    close μ-list-check μ-node-check μ-proxy-check (λ t. list-check-lts.spec (
-      size-of-reads.Asked,
-      size-of-reads.Learnt,
-      node-check-below t,
-      node-check.Post,
-    )
+    close μ-list-check μ-node-check μ-proxy-check (λ t. list-check-lts.spec (claims t)
     (list-check-at t)
     list-check.Post
     list-check-Inv-loop
@@ -101,55 +133,61 @@ pub +list-check+node-check+proxy-check-spec : {M : Type 1} → statement M
     (λ c. search needs)
     -- part-rest-end
     (λ c. search needs)
+    -- aggregate-requires
+    (λ c κs. search needs)
+    -- add-at
+    (λ c. let s = c .before .before .before .before .before .before .before .before in omega (arith, childless t c .inside, s .good))
+    -- loop-less
+    (λ c. omega (arith, childless t c .inside, c .before .before .before .before .loop-test .taken))
+    -- loop-again
+    (λ c. let l = c .before .before .before .before .before .loop in (childless t c .inside, l .inv .1, l .inv .2 ∙ childless t c .same))
     -- size-of-requires
     (λ c κs. tt)
     -- returns-2
     (λ c.
-    let k = c .before .before .before .before .before in
+    let k = c .before .before .before .before .before .before .before in
     let l = k .loop in
     let part = now (k .before .before .before .args .part) in
-    list-stop _ _ _ _ _ (state (l .cur) (l .marks)) (λ e. omega (arith, length-drop (l .at) part)) (c .before .before .before .if1 .left)
-    (sym (c .before .size-of .ensures ∙ ap sizeOf (rest-is (l .at) part)) ∙ c .if2 .taken)
+    list-stop _ _ _ _ _ (state (l .cur) (l .marks)) (λ e. omega (arith, length-drop (l .at) part)) (c .before .before .before .before .before .if1 .left)
+    (sym (c .before .size-of .ensures ∙ ap sizeOf (rest-is (l .at) part)) ∙ c .if3 .taken)
     ∙ sym (l .inv .2))
+    -- literal-requires
+    (λ c κs.
+    let n = sized _ _ (c .before .size-of .ensures) (c .if3 .left) in
+    (omega (arith, n), c .before .before .before .before .before .before .before .before .before .before .pre .1 .0))
+    -- add-at-2
+    (λ c. let s = c .before .before .before .before .before .before .before .before .before .before .before .before in omega (arith, passed t c .inside, s .good))
+    -- loop-less-2
+    (λ c. omega (arith, passed t c .some, passed t c .inside, c .before .before .before .before .before .before .before .before .loop-test .taken))
+    -- loop-again-2
+    (λ c. let l = c .before .before .before .before .before .before .before .before .before .loop in (passed t c .inside, l .inv .1, l .inv .2 ∙ passed t c .same))
     -- slice-aggregate-node-check
-    (λ c.
-    let k = c .before .before .before .before .before .before in
-    node-inside (now (k .before .before .before .args .part)) _ _ (c .before .before .size-of .ensures) (c .before .if2 .left) (c .before .before .before .before .before .loop-test .taken) .2)
+    (λ c. whole t (c .before .before .before) .2)
     -- node-check-requires
     (λ c κs.
-    let k = c .before .before .before .before .before .before .before in
+    let k = c .before .before .before .before .before .before .before .before .before .before .before in
     let s = k .before .before .before in
-    let n = c .before .before .before .size-of in
-    let i = node-inside (now (s .args .part)) (k .loop .at) (n .result) (n .ensures) (c .before .before .if2 .left) (c .before .before .before .before .before .before .loop-test .taken) in
-    (omega (arith, i, k .loop .inv, s .pre .0), (s .pre .1 .0, s .pre .1 .1)))
-    -- add-at
+    (omega (arith, whole t (c .before .before .before .before), k .loop .inv, s .pre .0), (s .pre .1 .0, s .pre .1 .1)))
+    -- add-at-3
     (λ c.
-    let k = c .before .before .before .before .before .before .before .before in
-    let s = k .before .before .before in
-    let n = c .before .before .before .before .size-of in
-    let i = node-inside (now (s .args .part)) (k .loop .at) (n .result) (n .ensures) (c .before .before .before .if2 .left) (c .before .before .before .before .before .before .before .loop-test .taken) in
-    omega (arith, i, s .good))
-    -- loop-less
+    let s = c .before .before .before .before .before .before .before .before .before .before .before .before .before .before .before in
+    omega (arith, whole t (c .before .before .before .before .before), s .good))
+    -- loop-less-3
     (λ c.
-    let k = c .before .before .before .before .before .before .before .before in
-    let n = c .before .before .before .before .size-of in
-    let h = c .before .before .before .before .before .before .before .loop-test .taken in
-    let i = node-inside (now (k .before .before .before .args .part)) (k .loop .at) (n .result) (n .ensures) (c .before .before .before .if2 .left) h in
-    omega (arith, i, h))
-    -- loop-again
+    let p = c .before .before .before .before .before in
+    omega (arith, whole t p, p .before .before .before .before .before .before .loop-test .taken))
+    -- loop-again-3
     (λ c.
-    let k = c .before .before .before .before .before .before .before .before in
+    let p = c .before .before .before .before .before in
+    let k = p .before .before .before .before .before .before .before in
     let l = k .loop in
     let a = k .before .before .before .args in
-    let n = c .before .before .before .before .size-of in
-    let h = c .before .before .before .before .before .before .before .loop-test .taken in
-    let z = c .before .before .before .if2 .left in
-    let i = node-inside (now (a .part)) (l .at) (n .result) (n .ensures) z h in
+    let n = p .before .size-of in
     let x = take (length (now (a .part)) - l .at) (drop (l .at) (now (a .part))) in
     let w = state (l .cur) (l .marks) in (
-      omega (arith, i),
+      whole t p .1,
       omega (arith, ap (λ (v : State). v .left) (c .node-check .ensures), less (now (a .image)) (node (take (n .result) x) (a .page) (a .holder) (a .level) w), l .inv),
-      l .inv .2 ∙ list-turn (now (a .image)) (now (a .part)) (a .page) (a .holder) (a .level) (l .at) (n .result) w _ x (rest-is (l .at) (now (a .part))) (n .ensures) h (c .before .before .before .before .before .before .if1 .left) z (c .node-check .ensures),
+      l .inv .2 ∙ turn (now (a .image)) (now (a .part)) (a .page) (a .holder) (a .level) (l .at) w (p .before .before .before .before .before .before .loop-test .taken) (p .before .before .before .before .before .if1 .left) (n .result) _ (n .ensures) (p .if3 .left) (c .node-check .ensures) .same,
     ))
     -- returns-3
     (λ c.
@@ -157,78 +195,81 @@ pub +list-check+node-check+proxy-check-spec : {M : Type 1} → statement M
     let l = k .loop in
     list-none _ _ _ _ _ (state (l .cur) (l .marks)) (omega (arith, length-drop (l .at) (now (k .before .before .before .args .part)), c .loop-test .left)) ∙ sym (l .inv .2)))
     (λ t. node-check-lts.spec (
+      aggregate-reads.Asked,
+      aggregate-reads.Learnt,
+      list-check-below t,
+      list-check.Post,
       head-reads.Asked,
       head-reads.Learnt,
       two-reads.Asked,
       two-reads.Learnt,
       proxy-check-below t,
       proxy-check.Post,
-      list-check-below t,
-      list-check.Post,
     )
     (node-check-at t)
     node-check.Post
-    -- head-requires
+    -- aggregate-requires
     (λ c κs. search needs)
-    -- returns
-    (λ c. node-0 _ _ _ _ _ _ _ (c .before .head .ensures) (c .if1 .taken))
-    -- returns-2
-    (λ c. let k = c .before .before in node-3-bad _ _ _ _ _ _ _ (k .before .head .ensures) (k .if1 .left) (c .before .if2 .taken) (c .if3 .taken))
-    -- two-requires
-    (λ c κs. search needs)
-    -- proxy-check-requires
-    (λ c κs. let s = c .before .before .before .before .before .before .before .before in (omega (arith, s .pre .0, c .before .before .if3 .left), s .pre .1 .1))
-    -- returns-3
-    (λ c.
-    let k = c .before .before .before .before .before in
-    let a = k .before .before .before .before .args in
-    c .proxy-check .ensures
-    ∙ ap (λ (p : ℕ). proxyOf (now (a .image)) p (a .page) (a .level) (state (a .left) (now (a .marks))) .walk) (c .before .before .two .ensures .0)
-    ∙ node-3 _ _ _ _ _ _ _ (k .before .head .ensures) (k .if1 .left) (c .before .before .before .before .if2 .taken) (c .before .before .before .if3 .left))
     -- sub-list-check
-    (λ c. let k = c .before .before in omega (arith, headed _ _ _ (k .before .head .ensures) (k .if1 .left)))
+    (λ c. aggregate-head _ _ _ (sym (c .before .aggregate .ensures) ∙ c .if1 .taken) .0)
     -- part-list-check-start
-    (λ c. let k = c .before .before in omega (arith, headed _ _ _ (k .before .head .ensures) (k .if1 .left)))
+    (λ c. omega (arith, aggregate-head _ _ _ (sym (c .before .aggregate .ensures) ∙ c .if1 .taken) .0))
     -- part-list-check-end
-    (λ c. search needs)
-    -- list-check-requires
-    (λ c κs.
-    let k = c .before .before .before .before in
-    let s = k .before .before .before .before in
-    let part = now (s .args .part) in
-    (omega (arith, s .pre .0, headed _ _ _ (k .before .head .ensures) (k .if1 .left), ap length (rest-is 6 part), length-drop 6 part), (search needs, s .pre .1 .1)))
-    -- returns-4
-    (λ c.
-    let k = c .before .before .before .before .before in
-    let a = k .before .before .before .before .args in
-    c .list-check .ensures
-    ∙ ap (λ (x : List ℕ). listOf (now (a .image)) x (a .page) 4 (a .level) (state (a .left) (now (a .marks))) .walk) (rest-is 6 (now (a .part)))
-    ∙ node-4 _ _ _ _ _ _ _ (k .before .head .ensures) (k .if1 .left) (c .before .before .before .before .if2 .left) (c .before .before .before .if4 .taken))
-    -- returns-5
-    (λ c. let k = c .before .before .before in node-deep _ _ _ _ _ _ _ (k .before .head .ensures) (k .if1 .left) (c .before .before .if2 .left) (c .before .if4 .left) (c .if5 .taken))
-    -- returns-6
-    (λ c. let k = c .before .before .before .before in node-2 _ _ _ _ _ _ _ (k .before .head .ensures) (k .if1 .left) (c .before .before .before .if2 .left) (c .before .before .if4 .left) (c .before .if5 .left) (c .if6 .taken))
-    -- sub-list-check-2
-    (λ c. let k = c .before .before .before .before in omega (arith, headed _ _ _ (k .before .head .ensures) (k .if1 .left)))
-    -- part-list-check-start-2
-    (λ c. let k = c .before .before .before .before in omega (arith, headed _ _ _ (k .before .head .ensures) (k .if1 .left)))
-    -- part-list-check-end-2
     (λ c. search needs)
     -- add-list-check
     (λ c. search needs)
+    -- list-check-requires
+    (λ c κs.
+    let f = aggregate-head _ _ _ (sym (c .before .before .before .aggregate .ensures) ∙ c .before .before .if1 .taken) in
+    let s = c .before .before .before .before .before .before in
+    let part = now (s .args .part) in
+    (omega (arith, s .pre .0, f .0, ap length (rest-is 6 part), length-drop 6 part), (search needs, omega (arith, f .2))))
+    -- returns
+    (λ c.
+    let a = c .before .before .before .before .before .before .before .args in
+    c .list-check .ensures
+    ∙ ap (λ (x : List ℕ). listOf (now (a .image)) x (a .page) 1 (a .level + 1) (state (a .left) (now (a .marks))) .walk) (rest-is 6 (now (a .part)))
+    ∙ node-inner _ _ _ _ _ _ (sym (c .before .before .before .before .aggregate .ensures) ∙ c .before .before .before .if1 .taken))
+    -- head-requires
+    (λ c κs. search needs)
+    -- returns-2
+    (λ c. node-3-bad _ _ _ _ _ _ _ (c .before .before .head .ensures) (c .before .if2 .taken) (c .if3 .taken))
+    -- two-requires
+    (λ c κs. search needs)
+    -- proxy-check-requires
+    (λ c κs. let s = c .before .before .before .before .before .before .before .before .before in (omega (arith, s .pre .0, c .before .before .if3 .left), s .pre .1 .1))
+    -- returns-3
+    (λ c.
+    let a = c .before .before .before .before .before .before .before .before .before .before .args in
+    c .proxy-check .ensures
+    ∙ ap (λ (p : ℕ). proxyOf (now (a .image)) p (a .page) (a .level) (state (a .left) (now (a .marks))) .walk) (c .before .before .two .ensures .0)
+    ∙ node-3 _ _ _ _ _ _ _ (c .before .before .before .before .before .head .ensures) (c .before .before .before .before .if2 .taken) (c .before .before .before .if3 .left))
+    -- sub-list-check-2
+    (λ c. headed _ _ _ (c .before .before .head .ensures) (c .if4 .taken))
+    -- part-list-check-start-2
+    (λ c. omega (arith, headed _ _ _ (c .before .before .head .ensures) (c .if4 .taken)))
+    -- part-list-check-end-2
+    (λ c. search needs)
     -- list-check-requires-2
     (λ c κs.
-    let k = c .before .before .before .before .before .before in
-    let s = k .before .before .before .before in
+    let s = c .before .before .before .before .before .before .before .before .before in
     let part = now (s .args .part) in
-    (omega (arith, s .pre .0, headed _ _ _ (k .before .head .ensures) (k .if1 .left), ap length (rest-is 6 part), length-drop 6 part), (search needs, omega (arith, c .before .before .before .if5 .left))))
+    (omega (arith, s .pre .0, headed _ _ _ (c .before .before .before .before .head .ensures) (c .before .before .if4 .taken), ap length (rest-is 6 part), length-drop 6 part), (search needs, s .pre .1 .1)))
+    -- returns-4
+    (λ c.
+    let a = c .before .before .before .before .before .before .before .before .before .before .args in
+    c .list-check2 .ensures
+    ∙ ap (λ (x : List ℕ). listOf (now (a .image)) x (a .page) 4 (a .level) (state (a .left) (now (a .marks))) .walk) (rest-is 6 (now (a .part)))
+    ∙ node-4 _ _ _ _ _ _ _ (c .before .before .before .before .before .head .ensures) (c .before .before .before .if4 .taken))
+    -- returns-5
+    (λ c. node-deep _ _ _ _ _ _ _ (c .before .before .before .head .ensures) (c .before .before .if2 .left) (c .before .if4 .left) (c .if5 .taken))
+    -- returns-6
+    (λ c. node-2 _ _ _ _ _ _ _ (c .before .before .before .before .head .ensures) (c .if6 .taken) (c .before .if5 .left))
     -- returns-7
     (λ c.
-    let k = c .before .before .before .before .before .before .before in
-    let a = k .before .before .before .before .args in
-    c .list-check2 .ensures
-    ∙ ap (λ (x : List ℕ). listOf (now (a .image)) x (a .page) 1 (a .level + 1) (state (a .left) (now (a .marks))) .walk) (rest-is 6 (now (a .part)))
-    ∙ node-1 _ _ _ _ _ _ _ (k .before .head .ensures) (k .if1 .left) (c .before .before .before .before .before .before .if2 .left) (c .before .before .before .before .before .if4 .left) (c .before .before .before .before .if5 .left) (c .before .before .before .if6 .left)))
+    let k = c .before .before .before .before in
+    node-none _ _ _ _ _ _ _ (k .head .ensures) (c .before .before .before .if2 .left) (c .before .before .if4 .left) (c .before .if5 .left) (c .if6 .left)
+    (sym (k .before .before .aggregate .ensures) ∙ k .before .if1 .left)))
     λ t. proxy-check-lts.spec (
       enters-reads.Asked,
       enters-reads.Learnt,

@@ -1,0 +1,20 @@
+-- What the bytes at a node's start say of it, where the walk can pass it over or go straight into it.
+use mathlib.Core.List.{List}
+use mathlib.Core.Bool.{Bool, true, false, cond}
+use Prim.Native.Nat.{ℕ}
+use lib.ListN.{length, getD}
+use lib.Dec.{ltb, leb, eqb}
+use Rattle.model.specs.Row.{mayStand}
+use Rattle.model.specs.Reading.{twoAt}
+
+-- The bytes start with a node of the kind that may stand in the holder at the level, as the first two say.
+unfoldable pub standsOf : List ℕ → (kind holder level : ℕ) → Bool
+standsOf s kind holder level = cond (eqb (getD s 0 0) kind) (cond (eqb (getD s 1 0) 0) (cond (leb 25 level) false (mayStand holder kind)) false) false
+
+-- The bytes start with an aggregate of n bytes that may stand there.
+unfoldable pub aggregateOf : List ℕ → (n holder level : ℕ) → Bool
+aggregateOf s n holder level = cond (ltb (length s) 6) false (cond (eqb (twoAt s 4) n) (standsOf s 1 holder level) false)
+
+-- The bytes start with a literal, not too long, that may stand there.
+unfoldable pub literalOf : List ℕ → (holder level : ℕ) → Bool
+literalOf s holder level = cond (ltb 526 (twoAt s 4)) false (standsOf s 2 holder level)

@@ -1,0 +1,8 @@
+pub mod Memory
+pub mod Links
+pub mod Steps
+pub mod Back
+pub mod Around
+pub mod Kept
+pub mod Threads
+pub mod Images
