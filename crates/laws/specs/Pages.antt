@@ -18,7 +18,7 @@ count-⊹ q (agg l cs rest) b = rw (count-⊹ q rest b) (omega arith)
 count-⊹ q (lit l c rest) b = count-⊹ q rest b
 count-⊹ q (rec p s r rest) b = rw (count-⊹ q rest b) (omega arith)
 
-abbrev bit : Bool → ℕ
+abbrev pub bit : Bool → ℕ
 bit b = cond b 1 0
 
 -- Unless growth ran out of pages, a page is used exactly if it is named: `n q` times in the rows at hand, `e q` times elsewhere.
@@ -28,17 +28,17 @@ Tally e n w = w .full ≡ false → (q : ℕ) → e q + n q ≡ bit (w .used q)
 abbrev names : Row → ℕ → ℕ
 names r q = count q r
 
-or-left : (a b : Bool) → a || b ≡ false → a ≡ false
+pub or-left : (a b : Bool) → a || b ≡ false → a ≡ false
 or-left true b e = absurd (true≢false e)
 or-left false b e = refl
 
-or-right : (a b : Bool) → a || b ≡ false → b ≡ false
+pub or-right : (a b : Bool) → a || b ≡ false → b ≡ false
 or-right true b e = absurd (true≢false e)
 or-right false b e = e
 
 module _ (st : Config) where
   -- a page that is found is free
-  free-found : (tries : ℕ) (used : ℕ → Bool) (q : ℕ) → eqb (freeFrom st tries used q) 0 ≡ false → used (freeFrom st tries used q) ≡ false
+  pub free-found : (tries : ℕ) (used : ℕ → Bool) (q : ℕ) → eqb (freeFrom st tries used q) 0 ≡ false → used (freeFrom st tries used q) ≡ false
   unfolding freeFrom
   free-found zero used q e = absurd (true≢false e)
   free-found (suc k) used q h = go (used q) refl (free-found k used (cond (ltb (suc q) (st .pages)) (suc q) 2)) h
@@ -58,14 +58,14 @@ module _ (st : Config) where
       go true h = omega (arith, t (or-left (w .full) (eqb p 0) full) q, ap bit (ap (w .used) (eqb-true q p h) ∙ free (or-right (w .full) (eqb p 0) full)))
       go false h = omega (arith, t (or-left (w .full) (eqb p 0) full) q)
 
-  tally-freed : (e n : ℕ → ℕ) (p : ℕ) (w : Work) → Tally e (λ q. cond (eqb q p) 1 0 + n q) w → Tally e n (freed st p w)
+  pub tally-freed : (e n : ℕ → ℕ) (p : ℕ) (w : Work) → Tally e (λ q. cond (eqb q p) 1 0 + n q) w → Tally e n (freed st p w)
   tally-freed e n p w t full q = go (eqb q p) (t full q)
     where
       go : (b : Bool) → e q + (cond b 1 0 + n q) ≡ bit (w .used q) → e q + n q ≡ bit (cond b false (w .used q))
       go true h = omega (arith, h, cond-case (λ m. m ≤ 1) (w .used q) {x = 1} {y = 0} (λ _. omega arith) (λ _. omega arith))
       go false h = omega (arith, h)
 
-  tally-own : (e : ℕ → ℕ) (near : ℕ) (s : Bool) (r rest : Row) (w : Work) → Tally e (λ q. count q r + count q rest) w
+  pub tally-own : (e : ℕ → ℕ) (near : ℕ) (s : Bool) (r rest : Row) (w : Work) → Tally e (λ q. count q r + count q rest) w
       → Tally e (names (ownRecord st near s r rest w .0)) (ownRecord st near s r rest w .1)
   tally-own e near s r rest w t full q =
       omega (arith, tally-taken e (λ q. count q r + count q rest) (freeFrom st (st .pages) (w .used) near) w t (free-found (st .pages) (w .used) near) full q)
@@ -209,7 +209,7 @@ module _ (st : Config) where
         let u = tally-inserted (λ q. e q + (cond (eqb q k) 1 0 + count q r)) n page (i - width r) path rest w (λ full q. omega (arith, t full q)) in
         λ full q. omega (arith, u full q))
 
-  abbrev reserved : ℕ → ℕ
+  abbrev pub reserved : ℕ → ℕ
   reserved q = bit (outside (st .pages) q)
 
   tally-grow : (x : New) (root : Row) (path : List ℕ) (k : ℕ) → Tally reserved (names root) (atRest st root) → Tallies reserved (grow st root path k x)
@@ -217,7 +217,7 @@ module _ (st : Config) where
   tally-grow x root path k t =
       tally-kept reserved 1 (inserted st x k 1 0 path root (atRest st root)) (tally-inserted x reserved k 1 0 path root (atRest st root) t)
 
-  tally-rest : (root : Row) → ((q : ℕ) → count q root ≤ cond (outside (st .pages) q) 0 1) → Tally reserved (names root) (atRest st root)
+  pub tally-rest : (root : Row) → ((q : ℕ) → count q root ≤ cond (outside (st .pages) q) 0 1) → Tally reserved (names root) (atRest st root)
   tally-rest root h full q = go (outside (st .pages) q) (count q root) (h q)
     where
       go : (b : Bool) (n : ℕ) → n ≤ cond b 0 1 → bit b + n ≡ bit (b || ltb 0 n)

@@ -1,18 +1,16 @@
 -- What the page writes do to the pages of an image.
 use mathlib.Core.Path.{_≡_, refl, sym, ap, _∙_}
 use mathlib.Core.Bool.{Bool, true, false, cond}
-use mathlib.Core.List.{List, _∷_, _++_, append-assoc}
-use mathlib.Core.Logic.{_⊎_, inl, inr, ⊎-elim}
-use Prim.Native.Nat.{ℕ, zero, suc, _+_, _-_, _*_, _<_, _≤_}
+use mathlib.Core.List.{List, _++_, append-assoc}
+use Prim.Native.Nat.{ℕ, _+_, _-_, _*_, _≤_}
 use native.Mathlib.Omega.{arith}
 use borrow.Author.Tests.{eqb-true, eqb-false, eq-eqb, leb-true, leb-false}
 use lib.Dec.{eqb, leb}
 use lib.ListN.{length, take, drop, replicate, length-append, length-take, length-drop, length-replicate, take-append-drop}
 use lib.Seq.{take-at, drop-at, take-append-le, drop-append-le, drop-drop, length-take-le}
-use Rattle.model.specs.Row.{Row, nil, agg, lit, rec, two, recordSize, recordBytes, recordPage, count}
+use Rattle.model.specs.Row.{Row, nil, agg, lit, rec, two}
 use Rattle.model.specs.Reading.{pageOf}
-use Rattle.laws.specs.Image.{length-record}
-use Rattle.octets.specs.Over.{over, over-is, length-over, over-left, over-right, over-all, over-again}
+use Rattle.octets.specs.Over.{over, over-is, length-over, over-left, over-right, over-all}
 use Rattle.pages.specs.Write.{setPage}
 use Rattle.pages.specs.Links.{links, Below}
 
@@ -115,112 +113,3 @@ length-links n q (lit l c rest) img b h = length-links n q rest img b h
 length-links n q (rec p s r rest) img b h =
     let e : length (over (4096 * p + 4084) (two q) img) ≡ length img = length-over (4096 * p + 4084) (two q) img (omega (arith, b .0)) in
     length-links n q rest (over (4096 * p + 4084) (two q) img) (b .1) (omega arith) ∙ e
-
--- How often the proxies of the row itself name a page, and how often those in the records below it do.
-abbrev pub ownCount : ℕ → Row → ℕ
-ownCount q nil = 0
-ownCount q (agg h cs rest) = ownCount q cs + ownCount q rest
-ownCount q (lit h c rest) = ownCount q rest
-ownCount q (rec p s r rest) = cond (eqb q p) 1 0 + ownCount q rest
-
-abbrev pub deepCount : ℕ → Row → ℕ
-deepCount q nil = 0
-deepCount q (agg h cs rest) = deepCount q cs + deepCount q rest
-deepCount q (lit h c rest) = deepCount q rest
-deepCount q (rec p s r rest) = count q r + deepCount q rest
-
-pub count-parts : (q : ℕ) (row : Row) → count q row ≡ ownCount q row + deepCount q row
-count-parts q nil = refl
-count-parts q (agg h cs rest) = omega (arith, count-parts q cs, count-parts q rest)
-count-parts q (lit h c rest) = count-parts q rest
-count-parts q (rec p s r rest) = omega (arith, count-parts q rest)
-
-none-or-some : (n : ℕ) → (n ≡ 0) ⊎ (1 ≤ n)
-none-or-some zero = inl refl
-none-or-some (suc n) = inr (omega arith)
-
-pub below-own : (n p : ℕ) (row : Row) → Below n row → 1 ≤ ownCount p row → p < n
-below-own n p nil b h = absurd (omega arith)
-below-own n p (agg l cs rest) b h = ⊎-elim (λ e. below-own n p rest (b .1) (omega arith)) (λ k. below-own n p cs (b .0) k) (none-or-some (ownCount p cs))
-below-own n p (lit l c rest) b h = below-own n p rest b h
-below-own n p (rec m s r rest) b h = go (eqb p m) refl h (λ k. below-own n p rest (b .1) k)
-  where
-    go : (x : Bool) → eqb p m ≡ x → 1 ≤ cond x 1 0 + ownCount p rest → (1 ≤ ownCount p rest → p < n) → p < n
-    go true e k f = omega (arith, eqb-true p m e, b .0)
-    go false e k f = f (omega arith)
-
-module _ (n q p : ℕ) where
-  -- A page that the row itself does not name stays.
-  pub links-other : (row : Row) (img : List ℕ) → Below n row → 4096 * n ≤ length img → ownCount p row ≡ 0 → pageOf (links q row img) p ≡ pageOf img p
-  links-other nil img b h o = refl
-  links-other (agg l cs rest) img b h o =
-      let e = length-links n q cs img (b .0) h in
-      links-other rest (links q cs img) (b .1) (omega (arith, e)) (omega arith) ∙ links-other cs img (b .0) h (omega arith)
-  links-other (lit l c rest) img b h o = links-other rest img b h o
-  links-other (rec m s r rest) img b h o =
-      let e = length-links n q (rec m s r nil) img (b .0, tt) h in
-      go (eqb p m) refl o (λ k. links-other rest (over (4096 * m + 4084) (two q) img) (b .1) (omega (arith, e)) k)
-    where
-      go : (x : Bool) → eqb p m ≡ x → cond x 1 0 + ownCount p rest ≡ 0
-          → (ownCount p rest ≡ 0 → pageOf (links q rest (over (4096 * m + 4084) (two q) img)) p ≡ pageOf (over (4096 * m + 4084) (two q) img) p)
-          → pageOf (links q rest (over (4096 * m + 4084) (two q) img)) p ≡ pageOf img p
-      go true e k f = absurd (omega arith)
-      go false e k f = f (omega arith) ∙ page-other m 4084 (two q) img (omega arith) (omega (arith, b .0)) p (eqb-false p m e)
-
-  twice : (s : List ℕ) → length s ≡ 4096 → over 4084 (two q) (over 4084 (two q) s) ≡ over 4084 (two q) s
-  twice s e = over-again 4084 (two q) (two q) s refl (omega arith)
-
-  -- One that it names gets the new back link, and is else as it was.
-  pub links-own : (row : Row) (img : List ℕ) → Below n row → 4096 * n ≤ length img → 1 ≤ ownCount p row → pageOf (links q row img) p ≡ over 4084 (two q) (pageOf img p)
-  links-own nil img b h o = absurd (omega arith)
-  links-own (agg l cs rest) img b h o =
-      let e = length-links n q cs img (b .0) h in
-      let lp = length-page p img (omega (arith, below-own n p (agg l cs rest) b o)) in
-      let u = over 4084 (two q) in
-      ⊎-elim
-      (λ x. links-other rest (links q cs img) (b .1) (omega (arith, e)) x ∙ links-own cs img (b .0) h (omega arith))
-      (λ x. links-own rest (links q cs img) (b .1) (omega (arith, e)) x
-      ∙ ⊎-elim (λ y. ap u (links-other cs img (b .0) h y)) (λ y. ap u (links-own cs img (b .0) h y) ∙ twice (pageOf img p) lp) (none-or-some (ownCount p cs)))
-      (none-or-some (ownCount p rest))
-  links-own (lit l c rest) img b h o = links-own rest img b h o
-  links-own (rec m s r rest) img b h o =
-      let e = length-links n q (rec m s r nil) img (b .0, tt) h in
-      let new = over (4096 * m + 4084) (two q) img in
-      let lp = length-page p img (omega (arith, below-own n p (rec m s r rest) b o)) in
-      go (eqb p m) refl o lp (λ k. links-other rest new (b .1) (omega (arith, e)) k) (λ k. links-own rest new (b .1) (omega (arith, e)) k)
-    where
-      new : List ℕ
-      new = over (4096 * m + 4084) (two q) img
-
-      go : (x : Bool) → eqb p m ≡ x → 1 ≤ cond x 1 0 + ownCount p rest → length (pageOf img p) ≡ 4096
-          → (ownCount p rest ≡ 0 → pageOf (links q rest new) p ≡ pageOf new p)
-          → (1 ≤ ownCount p rest → pageOf (links q rest new) p ≡ over 4084 (two q) (pageOf new p))
-          → pageOf (links q rest new) p ≡ over 4084 (two q) (pageOf img p)
-      go true e k lp f g =
-          let w : pageOf new p ≡ over 4084 (two q) (pageOf img p) =
-          ap (pageOf new) (eqb-true p m e) ∙ page-same m 4084 (two q) img (omega arith) (omega (arith, b .0)) ∙ ap (λ (i : ℕ). over 4084 (two q) (pageOf img i)) (sym (eqb-true p m e)) in
-          ⊎-elim (λ x. f x ∙ w) (λ x. g x ∙ ap (over 4084 (two q)) w ∙ twice (pageOf img p) lp) (none-or-some (ownCount p rest))
-      go false e k lp f g = g (omega arith) ∙ ap (over 4084 (two q)) (page-other m 4084 (two q) img (omega arith) (omega (arith, b .0)) p (eqb-false p m e))
-
--- A record's page with another back link.
-pub link-record : (p h q : ℕ) (s : Bool) (r : Row) → recordSize r ≤ 4080
-    → over 4084 (two q) (recordPage (record { page = p; settled = s; holder = h; row = r })) ≡ recordPage (record { page = p; settled = s; holder = q; row = r })
-link-record p h q s r k =
-    let c = recordBytes r in
-    let z : List ℕ = replicate (4080 - recordSize r) 0 in
-    let f : List ℕ = 1 ∷ cond s 1 0 ∷ two (recordSize r) in
-    let end : List ℕ = replicate 10 0 in
-    let nc : length c ≡ recordSize r = length-record r in
-    let nz : length z ≡ 4080 - recordSize r = length-replicate _ _ in
-    ap (over 4084 (two q)) (append-assoc c z (f ++ (two h ++ end)))
-    ∙ over-right 4084 (4084 - recordSize r) (two q) c (z ++ (f ++ (two h ++ end))) (omega arith)
-    ∙ ap (λ (y : List ℕ). c ++ y) (over-right (4084 - recordSize r) 4 (two q) z (f ++ (two h ++ end)) (omega arith)
-    ∙ ap (λ (y : List ℕ). z ++ y) (over-right 4 0 (two q) f (two h ++ end) refl
-    ∙ ap (λ (y : List ℕ). f ++ y) (over-left 0 (two q) (two h) end (omega arith) ∙ ap (λ (y : List ℕ). y ++ end) (over-all (two q) (two h) refl))))
-    ∙ sym (append-assoc c z (f ++ (two q ++ end)))
-
--- The record on a page that the row itself names keeps all but its back link, which is q.
-pub links-record : (n q h p : ℕ) (s : Bool) (r row : Row) (img : List ℕ) → Below n row → 4096 * n ≤ length img → 1 ≤ ownCount p row → recordSize r ≤ 4080
-    → pageOf img p ≡ recordPage (record { page = p; settled = s; holder = h; row = r })
-    → pageOf (links q row img) p ≡ recordPage (record { page = p; settled = s; holder = q; row = r })
-links-record n q h p s r row img b room o k e = links-own n q p row img b room o ∙ ap (over 4084 (two q)) e ∙ link-record p h q s r k

@@ -1,103 +1,38 @@
--- The records of a row stand on their pages after the row's own record was written and its back links were set.
+-- The page writes of an image are the writes of its pages as a memory.
 use mathlib.Core.Path.{_≡_, refl, sym, ap, _∙_}
 use mathlib.Core.Bool.{Bool, cond}
-use mathlib.Core.List.{List}
+use mathlib.Core.List.{List, _++_}
 use Prim.Native.Nat.{ℕ, _+_, _*_, _<_, _≤_}
 use native.Mathlib.Omega.{arith}
-use borrow.Author.Tests.{eq-eqb}
-use lib.ListN.{length}
-use Rattle.model.specs.Row.{Row, nil, agg, lit, rec, _⊹_, two, recordSize, recordBytes, recordPage, count}
+use lib.ListN.{length, take, drop, replicate}
+use Rattle.model.specs.Row.{Row, nil, agg, lit, rec, two, recordSize, recordBytes, recordPage}
 use Rattle.model.specs.Reading.{pageOf}
-use Rattle.laws.specs.Fits.{Fits}
-use Rattle.laws.specs.Image.{Stored, length-record}
-use Rattle.reads.specs.Valid.{names-own}
-use Rattle.reads.specs.Decode.{stored-same}
-use Rattle.octets.specs.Over.{over}
+use Rattle.laws.specs.Image.{length-record}
+use Rattle.octets.specs.Over.{over, over-is, length-over}
+use Rattle.writes.specs.Memory.{Mem, blank, setMem, relink, linkMem, putMem}
 use Rattle.pages.specs.Write.{setPage, pageBytesOf, recordPage-is, length-pageBytesOf}
 use Rattle.pages.specs.Links.{links, Below}
-use Rattle.pages.specs.Paged.{ownCount, deepCount, count-parts, length-setPage, set-same, set-other, length-links, links-other, links-own, link-record}
+use Rattle.pages.specs.Paged.{page-over, page-set, page-cleared, length-setPage, length-links}
 
--- Each record of a row stands on its page, those that the row itself names with any back link.
-abbrev pub Loose : (ℕ → List ℕ) → Row → Type 0
-Loose mem nil = Unit {0}
-Loose mem (agg l cs rest) = Loose mem cs × Loose mem rest
-Loose mem (lit l c rest) = Loose mem rest
-Loose mem (rec p s r rest) = ((h : ℕ) × (mem p ≡ recordPage (record { page = p; settled = s; holder = h; row = r }))) × Stored mem p r × Loose mem rest
+pub mem-set : (q : ℕ) (s img : List ℕ) → length s ≡ 4096 → 4096 * q + 4096 ≤ length img → pageOf (setPage q s img) ≡ setMem q s (pageOf img)
+mem-set q s img long room = λ i p. page-set q s img long room p i
 
-pub stored-loose : (mem : ℕ → List ℕ) (h : ℕ) (row : Row) → Stored mem h row → Loose mem row
-stored-loose mem h nil m = tt
-stored-loose mem h (agg l cs rest) m = (stored-loose mem h cs (m .0), stored-loose mem h rest (m .1))
-stored-loose mem h (lit l c rest) m = stored-loose mem h rest m
-stored-loose mem h (rec p s r rest) m = ((h, m .0), m .1, stored-loose mem h rest (m .2))
+pub mem-cleared : (q : ℕ) (img : List ℕ) → 4096 * q + 4096 ≤ length img → pageOf (setPage q blank img) ≡ setMem q blank (pageOf img)
+mem-cleared q img room = λ i p. page-cleared q img room p i
 
--- Rows one after the other.
-pub stored-⊹ : (mem : ℕ → List ℕ) (h : ℕ) (a b : Row) → Stored mem h a → Stored mem h b → Stored mem h (a ⊹ b)
-stored-⊹ mem h nil b x y = y
-stored-⊹ mem h (agg l cs rest) b x y = (x .0, stored-⊹ mem h rest b (x .1) y)
-stored-⊹ mem h (lit l c rest) b x y = stored-⊹ mem h rest b x y
-stored-⊹ mem h (rec p s r rest) b x y = (x .0, x .1, stored-⊹ mem h rest b (x .2) y)
+mem-link : (p q : ℕ) (img : List ℕ) → 4096 * p + 4096 ≤ length img → pageOf (over (4096 * p + 4084) (two q) img) ≡ setMem p (relink q (pageOf img p)) (pageOf img)
+mem-link p q img room =
+    (λ i x. page-over p 4084 (two q) img (omega arith) room x i) ∙ ap (λ (s : List ℕ). setMem p s (pageOf img)) (over-is 4084 (two q) (pageOf img p))
 
-pub loose-⊹ : (mem : ℕ → List ℕ) (a b : Row) → Loose mem a → Loose mem b → Loose mem (a ⊹ b)
-loose-⊹ mem nil b x y = y
-loose-⊹ mem (agg l cs rest) b x y = (x .0, loose-⊹ mem rest b (x .1) y)
-loose-⊹ mem (lit l c rest) b x y = loose-⊹ mem rest b x y
-loose-⊹ mem (rec p s r rest) b x y = (x .0, x .1, loose-⊹ mem rest b (x .2) y)
-
--- Pages that are the same where the row names them.
-pub loose-same : (a b : ℕ → List ℕ) (row : Row) → ((q : ℕ) → 1 ≤ count q row → b q ≡ a q) → Loose a row → Loose b row
-loose-same a b nil e m = tt
-loose-same a b (agg l cs rest) e m = (loose-same a b cs (λ q g. e q (omega arith)) (m .0), loose-same a b rest (λ q g. e q (omega arith)) (m .1))
-loose-same a b (lit l c rest) e m = loose-same a b rest e m
-loose-same a b (rec p s r rest) e m =
-    ((m .0 .0, e p (names-own p s r rest) ∙ m .0 .1), stored-same a b p r (λ q g. e q (omega arith)) (m .1), loose-same a b rest (λ q g. e q (omega arith)) (m .2))
-
--- ── a page that the row does not name is written ──
-
-module _ (p : ℕ) (s img : List ℕ) (long : length s ≡ 4096) (room : 4096 * p + 4096 ≤ length img) (row : Row) (free : count p row ≡ 0) where
-  kept : (q : ℕ) → 1 ≤ count q row → pageOf (setPage p s img) q ≡ pageOf img q
-  kept q k = set-other p s img long room q (λ e. absurd (omega (arith, free, k, ap (λ (i : ℕ). count i row) e)))
-
-  pub stored-set : (h : ℕ) → Stored (pageOf img) h row → Stored (pageOf (setPage p s img)) h row
-  stored-set h m = stored-same (pageOf img) (pageOf (setPage p s img)) h row kept m
-
-  pub loose-set : Loose (pageOf img) row → Loose (pageOf (setPage p s img)) row
-  loose-set m = loose-same (pageOf img) (pageOf (setPage p s img)) row kept m
-
--- ── the links of another row are set ──
-
-module _ (n q : ℕ) (a : Row) (img : List ℕ) (below : Below n a) (room : 4096 * n ≤ length img) (row : Row) (apart : (p : ℕ) → 1 ≤ count p row → ownCount p a ≡ 0) where
-  pub stored-links : (h : ℕ) → Stored (pageOf img) h row → Stored (pageOf (links q a img)) h row
-  stored-links h m = stored-same (pageOf img) (pageOf (links q a img)) h row (λ p k. links-other n q p a img below room (apart p k)) m
-
-  pub loose-links : Loose (pageOf img) row → Loose (pageOf (links q a img)) row
-  loose-links m = loose-same (pageOf img) (pageOf (links q a img)) row (λ p k. links-other n q p a img below room (apart p k)) m
-
--- ── the row's own links are set ──
-
--- own names
-own-own : (p : ℕ) (s : Bool) (r rest : Row) → 1 ≤ ownCount p (rec p s r rest)
-own-own p s r rest = rw (eq-eqb p p refl) (omega arith)
-
-relinked-by : (old new : ℕ → List ℕ) (q : ℕ) (row : Row) → ((p : ℕ) → 1 ≤ ownCount p row → new p ≡ over 4084 (two q) (old p))
-    → ((p : ℕ) → 1 ≤ deepCount p row → new p ≡ old p) → Fits row → Loose old row → Stored new q row
-relinked-by old new q nil e f g m = tt
-relinked-by old new q (agg l cs rest) e f g m = (
-  relinked-by old new q cs (λ p k. e p (omega arith)) (λ p k. f p (omega arith)) (g .1) (m .0),
-  relinked-by old new q rest (λ p k. e p (omega arith)) (λ p k. f p (omega arith)) (g .2) (m .1),
-)
-relinked-by old new q (lit l c rest) e f g m = relinked-by old new q rest e f (g .3) m
-relinked-by old new q (rec p s r rest) e f g m = (
-  e p (own-own p s r rest) ∙ ap (over 4084 (two q)) (m .0 .1) ∙ link-record p (m .0 .0) q s r (g .0 .fits),
-  stored-same old new p r (λ x k. f x (omega arith)) (m .1),
-  relinked-by old new q rest (λ x k. e x (omega arith)) (λ x k. f x (omega arith)) (g .2) (m .2),
-)
-
-module _ (n q : ℕ) (row : Row) (img : List ℕ) (below : Below n row) (fits : Fits row) (once : (p : ℕ) → count p row ≤ 1) (room : 4096 * n ≤ length img) where
-  -- After its links are set, the row is stored, in the record of page q.
-  pub relinked : Loose (pageOf img) row → Stored (pageOf (links q row img)) q row
-  relinked m =
-      relinked-by (pageOf img) (pageOf (links q row img)) q row (λ p k. links-own n q p row img below room k)
-      (λ p k. links-other n q p row img below room (omega (arith, k, once p, count-parts p row))) fits m
+pub mem-links : (n q : ℕ) (row : Row) (img : List ℕ) → Below n row → 4096 * n ≤ length img → pageOf (links q row img) ≡ linkMem q row (pageOf img)
+unfolding linkMem
+mem-links n q nil img b h = refl
+mem-links n q (agg l cs rest) img b h =
+    mem-links n q rest (links q cs img) (b .1) (omega (arith, length-links n q cs img (b .0) h)) ∙ ap (linkMem q rest) (mem-links n q cs img (b .0) h)
+mem-links n q (lit l c rest) img b h = mem-links n q rest img b h
+mem-links n q (rec p s r rest) img b h =
+    mem-links n q rest (over (4096 * p + 4084) (two q) img) (b .1) (omega (arith, length-over (4096 * p + 4084) (two q) img (omega (arith, b .0))))
+    ∙ ap (linkMem q rest) (mem-link p q img (omega (arith, b .0)))
 
 -- ── a record is written, and its links are set ──
 
@@ -120,20 +55,7 @@ module _ (n q h : ℕ) (s : Bool) (row : Row) (img : List ℕ) (below : Below n 
   pub length-written : length (written q s h row img) ≡ length img
   length-written = length-links n q row (setPage q page img) below room-set ∙ length-setPage q page img long fit
 
-  -- Other pages stay.
-  pub written-other : (p : ℕ) → (p ≡ q → ⊥) → ownCount p row ≡ 0 → pageOf (written q s h row img) p ≡ pageOf img p
-  written-other p e o = links-other n q p row (setPage q page img) below room-set o ∙ set-other q page img long fit p e
-
-  pub written-page : ownCount q row ≡ 0 → pageOf (written q s h row img) q ≡ recordPage (record { page = q; settled = s; holder = h; row = row })
-  written-page o =
-      links-other n q q row (setPage q page img) below room-set o
-      ∙ set-same q page img long fit
-      ∙ sym (recordPage-is (record { page = q; settled = s; holder = h; row = row }))
-
-  -- The record stands on its page, and each record below it on its own.
-  pub written-stored : Fits row → ((p : ℕ) → count p row ≤ 1) → count q row ≡ 0 → Loose (pageOf img) row → Stored (pageOf (written q s h row img)) h (rec q s row nil)
-  written-stored fits once free m = (
-    written-page (omega (arith, free, count-parts q row)),
-    relinked n q row (setPage q page img) below fits once room-set (loose-set q page img long fit row free m),
-    tt,
-  )
+  pub mem-written : pageOf (written q s h row img) ≡ putMem q s h row (pageOf img)
+  mem-written =
+      mem-links n q row (setPage q page img) below room-set
+      ∙ ap (linkMem q row) (mem-set q page img long fit ∙ ap (λ (z : List ℕ). setMem q z (pageOf img)) (sym (recordPage-is (record { page = q; settled = s; holder = h; row = row }))))

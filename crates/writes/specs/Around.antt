@@ -14,8 +14,9 @@ use Rattle.laws.specs.Image.{Stored}
 use Rattle.laws.specs.Pages.{bit, count-⊹, reserved}
 use Rattle.upward.specs.Chain.{Spot, here, inside, fill, Chain, top, below, lastPage, lastSettled, lastHolder, whole, rise}
 use Rattle.writes.specs.Memory.{Mem}
-use Rattle.writes.specs.Links.{Loose, self, loose-⊹, loose-parts, stored-⊹, stored-parts, stored-agree}
-use Rattle.writes.specs.Back.{fits-fill}
+use Rattle.reads.specs.Decode.{stored-same}
+use Rattle.writes.specs.Links.{Loose, self, loose-⊹, loose-parts, stored-⊹, stored-parts}
+use Rattle.upward.specs.Stops.{fits-fill}
 
 -- ── what fills a spot ──
 
@@ -162,7 +163,7 @@ module _ (st : Config) where
   pub around-agree : (m m′ : Mem) (c : Chain) (r : Row) → ((q : ℕ) → 0 < beyond c q → m′ q ≡ m q) → Around m c r → Around m′ c r
   around-agree m m′ top r g a = tt
   around-agree m m′ (below c s k b rest) r g a = (
-    stored-agree m m′ (lastPage c) (fill s rest) (λ q z. g q (omega arith)) (a .0),
+    stored-same m m′ (lastPage c) (fill s rest) (λ q z. g q (omega arith)) (a .0),
     g (lastPage c) (omega (arith, self (lastPage c))) ∙ a .1,
     around-agree m m′ c (fill s (rec k b r rest)) (λ q z. g q (omega arith)) (a .2),
   )

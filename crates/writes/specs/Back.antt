@@ -7,15 +7,12 @@ use Rattle.model.specs.Row.{Row, nil, agg, lit, rec, _⊹_, size, isNil, lone, 
 use Rattle.model.specs.Growth.{Work, Out, onRow, ownRecord, group, twoGroups, separate, goOn, stops, rootRow, withRow, splitPoint, separator, counted, freed, kept, close}
 use Rattle.laws.specs.Fits.{Fits}
 use Rattle.upward.specs.Chain.{Spot, here, inside, fill, Chain, top, below, whole, rise}
+use Rattle.upward.specs.Stops.{fits-fill}
 use Rattle.writes.specs.Links.{fits-parts}
 
 either : (A : Type 0) (b : Bool) (o u : Out) → (Fits (o .0) → A) → (Fits (u .0) → A) → Fits (cond b o u .0) → A
 either A true o u f g k = f k
 either A false o u f g k = g k
-
-pub fits-fill : (s : Spot) (x : Row) → Fits (fill s x) → Fits x
-fits-fill (here left) x f = fits-parts left x f .1
-fits-fill (inside left h rest s) x f = fits-fill s x (fits-parts left (agg h (fill s x) rest) f .1 .1)
 
 pub fits-whole : (c : Chain) (r : Row) → Fits (whole c r) → Fits r
 fits-whole top r f = f

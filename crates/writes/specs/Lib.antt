@@ -4,5 +4,4 @@ pub mod Steps
 pub mod Back
 pub mod Around
 pub mod Kept
-pub mod Threads
 pub mod Images

@@ -12,6 +12,7 @@ use Rattle.model.specs.Row.{Row, nil, agg, lit, rec, _⊹_, recordSize, recordB
 use Rattle.laws.specs.Fits.{Fits}
 use Rattle.laws.specs.Image.{Stored, length-record}
 use Rattle.laws.specs.Pages.{bit}
+use Rattle.reads.specs.Decode.{stored-same}
 use Rattle.writes.specs.Memory.{Mem, setMem, relink, linkMem, putMem}
 
 -- Each record whose proxy stands in the row itself stands on its page, with whatever holder, and so does what it holds.
@@ -64,17 +65,6 @@ fits-parts (rec p s r rest) b f = let z = fits-parts rest b (f .2) in ((f .0, f 
 pub self : (p : ℕ) → bit (eqb p p) ≡ 1
 self p = rw (eq-eqb p p refl)
 
-pub stored-agree : (m m′ : Mem) (h : ℕ) (r : Row) → ((p : ℕ) → 0 < count p r → m′ p ≡ m p) → Stored m h r → Stored m′ h r
-stored-agree m m′ h nil g k = tt
-stored-agree m m′ h (agg x cs rest) g k =
-    (stored-agree m m′ h cs (λ p z. g p (omega arith)) (k .0), stored-agree m m′ h rest (λ p z. g p (omega arith)) (k .1))
-stored-agree m m′ h (lit x c rest) g k = stored-agree m m′ h rest g k
-stored-agree m m′ h (rec p s r rest) g k = (
-  g p (omega (arith, self p)) ∙ k .0,
-  stored-agree m m′ p r (λ p z. g p (omega arith)) (k .1),
-  stored-agree m m′ h rest (λ p z. g p (omega arith)) (k .2),
-)
-
 pub loose-agree : (m m′ : Mem) (r : Row) → ((p : ℕ) → 0 < count p r → m′ p ≡ m p) → Loose m r → Loose m′ r
 loose-agree m m′ nil g k = tt
 loose-agree m m′ (agg x cs rest) g k =
@@ -82,7 +72,7 @@ loose-agree m m′ (agg x cs rest) g k =
 loose-agree m m′ (lit x c rest) g k = loose-agree m m′ rest g k
 loose-agree m m′ (rec p s r rest) g k = (
   (k .0 .0, g p (omega (arith, self p)) ∙ k .0 .1),
-  stored-agree m m′ p r (λ p z. g p (omega arith)) (k .1),
+  stored-same m m′ p r (λ p z. g p (omega arith)) (k .1),
   loose-agree m m′ rest (λ p z. g p (omega arith)) (k .2),
 )
 
@@ -130,7 +120,7 @@ unfolding linkMem
 link-stored q nil m d f k = tt
 link-stored q (agg h cs rest) m d f k =
     let m₁ = linkMem q cs m in (
-      stored-agree m₁ (linkMem q rest m₁) q cs (λ p z. link-other q rest m₁ p (omega (arith, d p))) (link-stored q cs m (λ p. omega (arith, d p)) (f .1) (k .0)),
+      stored-same m₁ (linkMem q rest m₁) q cs (λ p z. link-other q rest m₁ p (omega (arith, d p))) (link-stored q cs m (λ p. omega (arith, d p)) (f .1) (k .0)),
       link-stored q rest m₁ (λ p. omega (arith, d p)) (f .2) (loose-agree m m₁ rest (λ p z. link-other q cs m p (omega (arith, d p))) (k .1)),
     )
 link-stored q (lit h c rest) m d f k = link-stored q rest m d (f .3) k
@@ -139,7 +129,7 @@ link-stored q (rec p s r rest) m d f k =
     let m₁ : Mem = setMem p v m in
     let once = d p in (
       link-other q rest m₁ p (omega (arith, self p)) ∙ set-same p v m ∙ ap (relink q) (k .0 .1) ∙ relink-page p s (k .0 .0) q r (f .0 .fits),
-      stored-agree m (linkMem q rest m₁) p r (λ x z. link-other q rest m₁ x (omega (arith, d x)) ∙ set-other p x v m (omega (arith, d x))) (k .1),
+      stored-same m (linkMem q rest m₁) p r (λ x z. link-other q rest m₁ x (omega (arith, d x)) ∙ set-other p x v m (omega (arith, d x))) (k .1),
       link-stored q rest m₁ (λ x. omega (arith, d x)) (f .2) (loose-agree m m₁ rest (λ x z. set-other p x v m (omega (arith, d x))) (k .2)),
     )
 
