@@ -24,7 +24,7 @@ module _ (st : Config) (p at : ℕ) where
   goOn-true n (lit l c rest) e = leb-true (at + n) p e
   goOn-true n (rec q s r rest) e = leb-true (at + n) p e
 
-  goOn-more : (n : ℕ) (rest : Row) → goOn st p at n rest ≡ true → isNil rest ≡ false
+  pub goOn-more : (n : ℕ) (rest : Row) → goOn st p at n rest ≡ true → isNil rest ≡ false
   goOn-more n nil e = absurd (false≢true e)
   goOn-more n (agg l cs rest) e = refl
   goOn-more n (lit l c rest) e = refl
@@ -43,7 +43,7 @@ stops-true st (agg l cs rest) h e = omega (arith, ltb-true (6 + size (agg l cs r
 stops-true st (lit l c rest) h e = omega (arith, ltb-true (6 + size (lit l c rest)) (st .tolerance) e)
 stops-true st (rec q s r rest) h e = omega (arith, ltb-true (6 + size (rec q s r rest)) (st .tolerance) e)
 
-stops-false : (st : Config) (cs : Row) → stops st cs ≡ false → isNil cs ≡ false
+pub stops-false : (st : Config) (cs : Row) → stops st cs ≡ false → isNil cs ≡ false
 stops-false st nil e = absurd (true≢false e)
 stops-false st (agg l cs rest) e = refl
 stops-false st (lit l c rest) e = refl

@@ -120,12 +120,12 @@ look-into h rest t cur goal pos par n m s g =
     }
 
 -- each kind's bytes
-agg-bytes : (h : Head) (cs : Row) → bytes (agg h cs nil) ≡ header 1 (h .label) (size (agg h cs nil)) ++ bytes cs
+pub agg-bytes : (h : Head) (cs : Row) → bytes (agg h cs nil) ≡ header 1 (h .label) (size (agg h cs nil)) ++ bytes cs
 agg-bytes h cs =
     let e : 6 + size cs ≡ 6 + size cs + 0 = omega arith in
     rw (append-nil, ← e)
 
-lit-bytes : (h : Head) (c : List ℕ) → bytes (lit h c nil) ≡ header 2 (h .label) (size (lit h c nil)) ++ c
+pub lit-bytes : (h : Head) (c : List ℕ) → bytes (lit h c nil) ≡ header 2 (h .label) (size (lit h c nil)) ++ c
 lit-bytes h c =
     let e : 6 + length c ≡ 6 + length c + 0 = omega arith in
     rw (append-nil, ← e)

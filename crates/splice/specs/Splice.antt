@@ -6,7 +6,7 @@ use Prim.Native.Nat.{ℕ, _+_, _-_, _<_, _≤_}
 use native.Mathlib.Omega.{arith}
 use lib.ListN.{length, take, drop, length-append, length-take, length-drop}
 use lib.Seq.{take-at, drop-at, length-take-le, take-all}
-use Rattle.model.specs.Row.{Head, Row, nil, agg, lit, rec, _⊹_, size, nodeCount, lone, base, header, bytes, recordSize, recordBytes}
+use Rattle.model.specs.Row.{Head, Row, nil, agg, lit, rec, _⊹_, size, nodeCount, lone, base, header, bytes, recordSize, recordBytes, count}
 use Rattle.octets.specs.Over.{over, over-then, over-front, over-again, take-over}
 use Rattle.laws.specs.Laws.{length-bytes, size-⊹}
 use Rattle.laws.specs.Bound.{isNil-⊹}
@@ -37,6 +37,7 @@ pub record Whole (s : Spot) (a b : Row) : Type 0 where
   pub size-is : recordSize (fill s b) ≡ 6 + size (fill spot b)
   pub at-is : at (base (fill s a)) s ≡ at 6 spot
   pub par-is : parent 0 (base (fill s a)) s ≡ parent 0 6 spot
+  pub names : (q : ℕ) → count q (fill spot a) ≡ count q (fill s a)
 
 whole-apart : (s : Spot) (a b : Row) → lone (fill s a) ≡ false → lone (fill s b) ≡ false → Whole s a b
 whole-apart s a b p q = record {
@@ -49,6 +50,7 @@ whole-apart s a b p q = record {
   size-is = rw q;
   at-is = rw p;
   par-is = rw p;
+  names = λ q. refl;
 }
 
 whole-lone : (h : Head) (s : Spot) (a b : Row) → Whole (inside nil h nil s) a b
@@ -62,6 +64,7 @@ whole-lone h s a b = record {
   size-is = omega arith;
   at-is = refl;
   par-is = refl;
+  names = λ q. omega arith;
 }
 
 pub whole : (s : Spot) (a b : Row) → KeepsRoot s a b → Whole s a b
