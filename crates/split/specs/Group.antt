@@ -148,7 +148,7 @@ free-inside st n near u e few start past k =
     go q h (inl f) false g = absurd (true≢false (sym (past q (ltb-false q n g) h) ∙ f))
     go q h (inr f) false g = omega arith
 
-set-past : (n q : ℕ) (u : List ℕ) → q < n → Past n u → Past n (set u q 1)
+pub set-past : (n q : ℕ) (u : List ℕ) → q < n → Past n u → Past n (set u q 1)
 unfolding usedBy
 set-past n q u h past x k m = ap (λ (i : ℕ). not (eqb i 0)) (getD-set-other u q x 1 0 (λ e. omega arith)) ∙ past x k m
 

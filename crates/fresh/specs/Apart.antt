@@ -1,0 +1,74 @@
+-- The record of a node that is set apart.
+use mathlib.Core.Path.{_≡_, refl, sym, ap, _∙_}
+use mathlib.Core.Bool.{Bool, true, false, cond, not, true≢false}
+use mathlib.Core.List.{List, [], _++_}
+use mathlib.Core.Logic.{_⊎_, inl, inr}
+use Prim.Native.Nat.{ℕ, zero, suc, _+_, _*_, _<_, _≤_}
+use native.Mathlib.Omega.{arith}
+use borrow.Author.Tests.{ltb-true, ltb-false}
+use lib.Dec.{eqb, ltb}
+use lib.ListN.{length, set}
+use lib.Seq.{getD-set-other}
+use Rattle.model.specs.Row.{Row, nil, rec, lone, two, header, bytes, recordBytes, Config}
+use Rattle.model.specs.Reading.{Reads}
+use Rattle.model.specs.Growth.{freeFrom, atRest}
+use Rattle.laws.specs.Laws.{cond-case}
+use Rattle.reads.specs.Reading.{reads-valid, reads-length}
+use Rattle.octets.specs.Over.{over, over-then}
+use Rattle.pages.specs.Write.{usedBy, setPage, pageBytesOf, free-below}
+use Rattle.split.specs.Group.{proxyBytes, Env, Past, free-inside}
+use Rattle.split.specs.Same.{Marked}
+use Rattle.fresh.specs.Marks.{rest-past}
+
+-- ── free pages ──
+
+-- Some settings with so many pages: the search for a page reads no other.
+abbrev some-config : ℕ → Config
+some-config n = record { pages = n; target = 0; tolerance = 0; form = 0; matrix = [] }
+
+-- The page that the search of the code found is inside the image.
+pub found-inside : (n near q : ℕ) (u img : List ℕ) → Env n near u img → ((st : Config) → st .pages ≡ n → q ≡ freeFrom st n (usedBy u) near) → q < n
+found-inside n near q u img env f =
+    let st = some-config n in
+    omega (arith, f st refl, free-inside st n near u refl (env .few) (env .start) (env .past) n)
+
+-- ── the record ──
+
+-- What the node's own record leaves: its page q marked, the record on it unless the run is dry, the proxy, and whether no page was free.
+pub record Own (q page : ℕ) (dry : Bool) (row : Row) (u₀ img₀ o₀ : List ℕ) (r : Bool) (u img o : List ℕ) : Type 0 where
+  pub used : u ≡ set u₀ q 1
+  pub image : img ≡ cond dry img₀ (setPage q (pageBytesOf (recordBytes row) 1 page) img₀)
+  pub out : o ≡ over 0 (bytes (rec q true row nil)) o₀
+  pub full : r ≡ eqb q 0
+
+pub own : (st : Config) (n q page : ℕ) (dry : Bool) (row : Row) (node u₀ img₀ o₀ img o : List ℕ) → st .pages ≡ n → q ≡ freeFrom st n (usedBy u₀) page → lone row ≡ true → node ≡ bytes row
+    → img ≡ cond dry img₀ (setPage q (pageBytesOf node 1 page) img₀) → o ≡ over 0 (proxyBytes q) o₀
+    → Own (freeFrom st (st .pages) (usedBy u₀) page) page dry row u₀ img₀ o₀ (eqb q 0) (set u₀ q 1) img o
+own st n q page dry row node u₀ img₀ o₀ img o e f l b pi po =
+    let z : q ≡ freeFrom st (st .pages) (usedBy u₀) page = f ∙ ap (λ (i : ℕ). freeFrom st i (usedBy u₀) page) (sym e) in
+    rw (← z) (record { used = refl; image = pi ∙ rw (l, b); out = po; full = refl })
+
+-- The image after either run.
+pub wet : (dry : Bool) (a b img : List ℕ) → not dry ≡ true → img ≡ b → img ≡ cond dry a b
+wet true a b img e f = absurd (true≢false (sym e))
+wet false a b img e f = f
+
+pub idle : (dry : Bool) (a b img : List ℕ) → not dry ≡ false → img ≡ a → img ≡ cond dry a b
+idle true a b img e f = f
+idle false a b img e f = absurd (true≢false e)
+
+-- ── from one step to the next ──
+
+-- What an insert starts with, on an image that passes the check.
+pub start-env : (st : Config) (root : Row) (u img : List ℕ) (page : ℕ) → Reads img st root → Marked u (atRest st root) → 1 ≤ page → page < st .pages → Env (st .pages) page u img
+start-env st root u img page r t low high = record {
+  few = reads-valid img st root r .ranges .many;
+  image = omega (arith, reads-length img st root r);
+  low = low;
+  start = high;
+  past = rest-past st root u t;
+}
+
+-- Other marks that leave out no page past the end, and another image of the same length.
+pub next-env : (n near : ℕ) (u img v new : List ℕ) → Env n near u img → Past n v → length new ≡ length img → Env n near v new
+next-env n near u img v new e p l = record { few = e .few; image = omega (arith, e .image); low = e .low; start = e .start; past = p }

@@ -1,0 +1,4 @@
+pub mod Marks
+pub mod Node
+pub mod Apart
+pub mod Placed
