@@ -53,7 +53,7 @@ pub record Leads (img : List ℕ) (pos : ℕ) (path : List ℕ) (t : Option Plac
 -- ── one entry ──
 
 -- From a row, the node that the entry names leads on.
-reach : (img : List ℕ) (page pos off k : ℕ) (path : List ℕ) (row : Row) → Here img page pos row → pos ≡ 4096 * page + off
+pub reach : (img : List ℕ) (page pos off k : ℕ) (path : List ℕ) (row : Row) → Here img page pos row → pos ≡ 4096 * page + off
     → nesting row ≤ 1024 → steps row ≤ 4194304 → nthOf pos row k .found ≡ true → Leads img (nthOf pos row k .at) path (placeAt page off k path row)
 unfolding nthOf placeAt
 reach img page pos off k path nil h e d f y = absurd (false≢true y)
@@ -97,7 +97,7 @@ pub record Down (img bytes : List ℕ) (pos i len k : ℕ) (t : Option Place) : 
   pub missing : (r : NthNode) → r ≡ nthOf (pos + 6) (kids .row) k → r .found ≡ false → t ≡ none
 
 -- A path without entries leads to the node itself, and no entry leads on from a literal.
-no-entry : (page off : ℕ) (row : Row) → isNode row ≡ true → placeAt page off 0 [] row ≡ some (record { page = page; offset = off })
+pub no-entry : (page off : ℕ) (row : Row) → isNode row ≡ true → placeAt page off 0 [] row ≡ some (record { page = page; offset = off })
 unfolding placeAt
 no-entry page off nil n = absurd (false≢true n)
 no-entry page off (agg l cs rest) n = refl

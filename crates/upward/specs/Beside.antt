@@ -29,10 +29,10 @@ before-into (inside left g right s) h rest = omega (arith, before-into s h rest)
 abbrev pub offsetIn : Spot → (x : Row) → ℕ
 offsetIn s x = base (fill s x) + before s
 
-offset-past : (s : Spot) (one rest : Row) (n : ℕ) → size one ≡ n → offsetIn s (one ⊹ rest) + n ≡ offsetIn (past s one) rest
+pub offset-past : (s : Spot) (one rest : Row) (n : ℕ) → size one ≡ n → offsetIn s (one ⊹ rest) + n ≡ offsetIn (past s one) rest
 offset-past s one rest n e = omega (arith, ap base (fill-past s one rest), before-past s one)
 
-offset-into : (s : Spot) (h : Head) (rest x : Row) → offsetIn s (agg h x rest) + 6 ≡ offsetIn (into s h rest) x
+pub offset-into : (s : Spot) (h : Head) (rest x : Row) → offsetIn s (agg h x rest) + 6 ≡ offsetIn (into s h rest) x
 offset-into s h rest x = omega (arith, ap base (fill-into s h rest x), before-into s h rest)
 
 -- ── the first child ──

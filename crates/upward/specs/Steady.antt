@@ -22,7 +22,7 @@ Onward (here left) row = lone (left ⊹ row) ≡ false
 Onward (inside left h rest s) row = Unit {0}
 
 -- and there not at its start.
-abbrev Steady : Spot → Row → Type 0
+abbrev pub Steady : Spot → Row → Type 0
 Steady (here left) row = (isNil left ≡ false) × (lone (left ⊹ row) ≡ false)
 Steady (inside left h rest s) row = Unit {0}
 
@@ -75,7 +75,7 @@ child-steady : (h : Head) (c : Chain) (s : Spot) (rest : Row) (k : ℕ) (row : R
 child-steady h c s rest zero row t e = subst SteadyAt (Option·some-injective _ t e) (steady-into s h rest row)
 child-steady h c s rest (suc i) row t e = after-steady h c (into s h rest) i row t e (onward-into s h rest row)
 
-in-steady : (k : ℕ) (c : Chain) (s : Spot) (i : ℕ) (path : List ℕ) (row : Row) (t : Taking) → takingIn k c s i path row ≡ some t → SteadyAt t
+pub in-steady : (k : ℕ) (c : Chain) (s : Spot) (i : ℕ) (path : List ℕ) (row : Row) (t : Taking) → takingIn k c s i path row ≡ some t → SteadyAt t
 unfolding takingIn
 in-steady k c s i path nil t e = absurd (Option·none-ne-some t e)
 in-steady k c s zero [] (agg h cs rest) t e = child-steady h c s rest k cs t e

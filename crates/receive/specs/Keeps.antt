@@ -1,0 +1,46 @@
+-- The new node at its place, as `splice` puts it into the record's bytes.
+use mathlib.Core.Path.{_≡_, refl, sym, _∙_}
+use mathlib.Core.Bool.{false, true≢false}
+use mathlib.Core.List.{List}
+use mathlib.Core.Option.{some}
+use Prim.Native.Nat.{ℕ, _+_}
+use native.Mathlib.Omega.{arith}
+use Rattle.model.specs.Row.{Row, nil, agg, lit, rec, _⊹_, size, isNil, nodeCount, lone, base, bytes, recordBytes}
+use Rattle.upward.specs.Chain.{Spot, here, inside, fill, before, top}
+use Rattle.upward.specs.Taking.{Taking, taking}
+use Rattle.upward.specs.Steady.{Steady, in-steady, taking-lone}
+use Rattle.splice.specs.Spot.{at, isInside}
+use Rattle.splice.specs.Splice.{KeepsRoot, Place, put-in}
+use Rattle.receive.specs.Aim.{receiverOf}
+
+-- The two ways to count the bytes before a spot.
+pub at-before : (s : Spot) (pos : ℕ) → at pos s ≡ pos + before s
+at-before (here left) pos = refl
+at-before (inside left h rest s) pos = omega (arith, at-before s (pos + size left + 6))
+
+steady-helper : (s : Spot) (row : Row) → Steady s row → isInside s ≡ false → lone (fill s row) ≡ false
+steady-helper (here left) row o e = o .1
+steady-helper (inside left h rest s) row o e = absurd (true≢false e)
+
+-- One node is some.
+pub one-some : (one : Row) → nodeCount one ≡ 1 → isNil one ≡ false
+one-some nil e = absurd (omega arith)
+one-some (agg h cs rest) e = refl
+one-some (lit h c rest) e = refl
+one-some (rec q b r rest) e = refl
+
+module _ (root : Row) (path : List ℕ) (k : ℕ) (t : Taking) (e : taking root path k ≡ some t) where
+  -- A place at the top of a record's row is in a helper: beside a record's only node its proxy is passed instead.
+  pub taking-helper : isInside (t .spot) ≡ false → lone (fill (t .spot) (t .rest)) ≡ false
+  taking-helper i = steady-helper (t .spot) (t .rest) (in-steady k top (here nil) 0 path root t e) i
+
+  module _ (one : Row) (n : isNil one ≡ false) where
+    -- The new node leaves the record its kind of root.
+    pub taking-keeps : KeepsRoot (t .spot) (t .rest) (one ⊹ t .rest)
+    taking-keeps i = (taking-helper i, taking-lone root path k t e one n ∙ taking-helper i)
+
+    -- Where `splice` puts it.
+    abbrev pub taking-place : (new : List ℕ) → new ≡ bytes one → Place (recordBytes (fill (t .spot) (t .rest))) (receiverOf t .at) (receiverOf t .par) 0 new
+    taking-place new b =
+        put-in (t .spot) one (t .rest) (recordBytes (fill (t .spot) (t .rest))) (receiverOf t .at) (receiverOf t .par) new refl
+        (sym (at-before (t .spot) (base (fill (t .spot) (t .rest))))) refl b taking-keeps
