@@ -113,6 +113,9 @@ size-is s n long inside e =
     let h : 6 ≤ length s = omega arith in
     simp (e, le-ltb _ _ h, le-ltb _ _ long, le-ltb _ _ inside)
 
+pub aggregate-size : (s : List ℕ) (holder level : ℕ) → aggregateOf s (length s) holder level ≡ true → length s ≡ sizeOf s
+aggregate-size s holder level e = let f = agg-says s holder level (length s) e in size-is s (length s) (f .0) (omega arith) (f .1)
+
 size-two : (s : List ℕ) (n : ℕ) → n ≡ sizeOf s → (n ≡ 0 → ⊥) → twoAt s 4 ≡ n
 unfolding sizeOf
 size-two s n e z = go (ltb (length s) 6) (ltb (twoAt s 4) 6) (ltb (length s) (twoAt s 4)) e

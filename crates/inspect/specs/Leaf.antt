@@ -1,8 +1,9 @@
 -- What the bytes at a node's start say of it, where the walk can pass it over or go straight into it.
+use mathlib.Core.Path.{_≡_}
 use mathlib.Core.List.{List}
 use mathlib.Core.Bool.{Bool, true, false, cond}
-use Prim.Native.Nat.{ℕ}
-use lib.ListN.{length, getD}
+use Prim.Native.Nat.{ℕ, _+_, _-_, _*_, _<_}
+use lib.ListN.{length, drop, getD}
 use lib.Dec.{ltb, leb, eqb}
 use Rattle.model.specs.Row.{mayStand}
 use Rattle.model.specs.Reading.{twoAt}
@@ -18,3 +19,12 @@ aggregateOf s n holder level = cond (ltb (length s) 6) false (cond (eqb (twoAt s
 -- The bytes start with a literal, not too long, that may stand there.
 unfoldable pub literalOf : List ℕ → (holder level : ℕ) → Bool
 literalOf s holder level = cond (ltb 526 (twoAt s 4)) false (standsOf s 2 holder level)
+
+-- After i + 1 headers the rest of the bytes is one aggregate that may stand in another, the level counted from the first header's child.
+abbrev pub innerOf : List ℕ → (level i : ℕ) → Bool
+innerOf s level i = aggregateOf (drop (6 * i + 6) s) (length s - (6 * i + 6)) 1 (level + i)
+
+-- Below the aggregate that the bytes are, just d more are each the only node that the last holds.
+pub record Only (s : List ℕ) (level d : ℕ) : Type 0 where
+  pub each : (i : ℕ) → i < d → innerOf s level i ≡ true
+  pub last : innerOf s level d ≡ false

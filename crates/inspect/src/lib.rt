@@ -10,7 +10,7 @@ ghost use Rattle.model.specs.Reading.{lengthOk};
 ghost use Rattle.walks.specs.Tests.{sizeOf, twoChildren, shapeOf, headOf, isMarked, marked, namesOf, rootFits, allZero, matrixOk, stateOf, numbersOk, settingsOk, firstOk};
 ghost use Rattle.walks.specs.Walk.{state, entersOf, nodeOf, listOf, proxyOf};
 ghost use Rattle.walks.specs.Check.{scanFrom, trailersOf, walkOk, checkBy};
-ghost use Rattle.inspect.specs.Leaf.{standsOf, aggregateOf, literalOf};
+ghost use Rattle.inspect.specs.Leaf.{standsOf, aggregateOf, literalOf, Only};
 
 // Row: the holder, 0 a record's page. Column: the kind.
 pub const MAY_STAND: [u8; 25] = [
@@ -172,6 +172,23 @@ pub fn literal(part: &[u8], holder: usize, level: usize) -> bool
     stands(part, 2, holder, level)
 }
 
+// How many aggregates below the one that the part is are each the only node that the last holds.
+pub fn only(part: &[u8], level: usize) -> usize
+    requires { ⌜ (6 ≤ length (now part)) × (level ≤ 25) ⌝ }
+    ensures { λ r. ⌜ Only (now (part .entry)) level r ⌝ }
+{
+    let mut d = 0;
+    let mut at = 6;
+    while at < part.len() {
+        if !aggregate(&part[at..], part.len() - at, 1, level + d) {
+            return d;
+        }
+        at = at + 6;
+        d = d + 1;
+    }
+    d
+}
+
 // ── marks: a bit for each page ──
 
 pub fn is_marked(marks: &[u8; 128], p: usize) -> bool
@@ -281,7 +298,9 @@ fn node_check<'a>(
     ensures { λ r. ⌜ state r (now (marks .exit)) ≡ nodeOf (now (image .entry)) (now (part .entry)) page holder level (state left (now (marks .entry))) .walk ⌝ }
 {
     if aggregate(part, part.len(), holder, level) {
-        return list_check(image, &part[6..], page, 1, level + 1, left, marks);
+        let d = only(part, level + 1);
+        let rest = &part[6 * d + 6..];
+        return list_check(image, rest, page, 1, level + 1 + d, left, marks);
     }
     let kind = head(part, holder);
     if kind == 3 {

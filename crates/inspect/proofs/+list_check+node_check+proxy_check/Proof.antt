@@ -14,7 +14,8 @@ use Rattle.walks.specs.Facts.{rest-is}
 use Rattle.walks.specs.Steps.{less, length-part, used-is}
 use Rattle.inspect.proofs.Calls.{passes, fails}
 use Rattle.inspect.proofs.Leaves.{aggregate-head}
-use Rattle.inspect.proofs.Walks.{goes, headed, sized, node-inside, list-none, list-bad, list-stop, Turn, turn, turn-childless, turn-literal, node-3-bad, node-3, node-4, node-deep, node-2, node-inner, node-none, proxy-no, proxy-done}
+use Rattle.inspect.proofs.Walks.{goes, headed, sized, node-inside, list-none, list-bad, list-stop, Turn, turn, turn-childless, turn-literal, node-3-bad, node-3, node-4, node-deep, node-2, node-none, proxy-no, proxy-done}
+use Rattle.inspect.proofs.Chains.{Chain, chain}
 use Rattle.inspect.proofs.list_check.Reads as list-check
 use Rattle.inspect.proofs.list_check.Kinds as list-check-kinds
 use Rattle.inspect.proofs.+list_check+node_check+proxy_check.Lts-list_check as list-check-lts
@@ -28,6 +29,7 @@ use Rattle.inspect.proofs.aggregate.Reads as aggregate-reads
 use Rattle.inspect.proofs.enters.Reads as enters-reads
 use Rattle.inspect.proofs.head.Reads as head-reads
 use Rattle.inspect.proofs.literal.Reads as literal-reads
+use Rattle.inspect.proofs.only.Reads as only-reads
 use Rattle.inspect.proofs.set_mark.Reads as set-mark-reads
 use Rattle.inspect.proofs.size_of.Reads as size-of-reads
 use Rattle.octets.proofs.two.Reads as two-reads
@@ -88,6 +90,22 @@ claims t = (
   node-check.Post,
 )
 
+abbrev node-claims : ℕ → node-check-lts.Claims
+node-claims t = (
+  aggregate-reads.Asked,
+  aggregate-reads.Learnt,
+  only-reads.Asked,
+  only-reads.Learnt,
+  list-check-below t,
+  list-check.Post,
+  head-reads.Asked,
+  head-reads.Learnt,
+  two-reads.Asked,
+  two-reads.Learnt,
+  proxy-check-below t,
+  proxy-check.Post,
+)
+
 -- The turn of the loop that passes an aggregate with no child.
 childless : (t : ℕ) (c : list-check-lts.Then2 (claims t) (list-check-at t) list-check.Post list-check-Inv-loop list-check-μ-loop) → let k = c .before .before .before .before .before in
     let a = k .before .before .before .args in
@@ -109,6 +127,11 @@ passed : (t : ℕ) (c : list-check-lts.Then4 (claims t) (list-check-at t) list-c
 passed t c =
     turn-literal _ _ _ _ _ _ _ (c .before .before .before .before .before .before .before .before .loop-test .taken) (c .before .before .before .before .before .before .before .if1 .left) _
     (c .before .before .before .size-of .ensures) (c .before .before .if3 .left) (sym (c .before .literal .ensures) ∙ c .if4 .taken)
+
+-- The aggregate that a node is, with those below it that are each the only node.
+chained : (t : ℕ) (c : node-check-lts.After-only (node-claims t) (node-check-at t) node-check.Post) → let a = c .before .before .before .before .before .args in
+    Chain (now (a .image)) (now (a .part)) (a .page) (a .holder) (a .level) (c .only .result) (state (a .left) (now (a .marks)))
+chained t c = chain _ _ _ _ _ _ _ (sym (c .before .before .aggregate .ensures) ∙ c .before .if1 .taken) (c .only .ensures)
 
 -- Below, k is the place of the loop in list_check, and of the first test in the other two.
 pub +list-check+node-check+proxy-check-spec : {M : Type 1} → statement M
@@ -194,42 +217,38 @@ pub +list-check+node-check+proxy-check-spec : {M : Type 1} → statement M
     let k = c .before in
     let l = k .loop in
     list-none _ _ _ _ _ (state (l .cur) (l .marks)) (omega (arith, length-drop (l .at) (now (k .before .before .before .args .part)), c .loop-test .left)) ∙ sym (l .inv .2)))
-    (λ t. node-check-lts.spec (
-      aggregate-reads.Asked,
-      aggregate-reads.Learnt,
-      list-check-below t,
-      list-check.Post,
-      head-reads.Asked,
-      head-reads.Learnt,
-      two-reads.Asked,
-      two-reads.Learnt,
-      proxy-check-below t,
-      proxy-check.Post,
-    )
+    (λ t. node-check-lts.spec (node-claims t)
     (node-check-at t)
     node-check.Post
     -- aggregate-requires
     (λ c κs. search needs)
-    -- sub-list-check
-    (λ c. aggregate-head _ _ _ (sym (c .before .aggregate .ensures) ∙ c .if1 .taken) .0)
-    -- part-list-check-start
-    (λ c. omega (arith, aggregate-head _ _ _ (sym (c .before .aggregate .ensures) ∙ c .if1 .taken) .0))
-    -- part-list-check-end
+    -- add-only
     (λ c. search needs)
+    -- only-requires
+    (λ c κs. let f = aggregate-head _ _ _ (sym (c .before .aggregate .ensures) ∙ c .if1 .taken) in (f .0, omega (arith, f .2)))
+    -- mul-rest
+    (λ c. omega (arith, chained t c .inside, c .before .before .before .before .before .good))
+    -- add-rest
+    (λ c. omega (arith, chained t c .inside, c .before .before .before .before .before .good))
+    -- sub-rest
+    (λ c. chained t c .inside)
+    -- part-rest-start
+    (λ c. omega (arith, chained t c .inside))
+    -- part-rest-end
+    (λ c. omega (arith, chained t c .inside))
     -- add-list-check
-    (λ c. search needs)
+    (λ c. omega (arith, chained t (c .before) .low))
+    -- add-list-check-2
+    (λ c. omega (arith, chained t (c .before) .low))
     -- list-check-requires
     (λ c κs.
-    let f = aggregate-head _ _ _ (sym (c .before .before .before .aggregate .ensures) ∙ c .before .before .if1 .taken) in
-    let s = c .before .before .before .before .before .before in
+    let f = chained t (c .before .before) in
+    let s = c .before .before .before .before .before .before .before in
     let part = now (s .args .part) in
-    (omega (arith, s .pre .0, f .0, ap length (rest-is 6 part), length-drop 6 part), (search needs, omega (arith, f .2))))
+    let at = 6 * c .before .before .only .result + 6 in
+    (omega (arith, s .pre .0, f .inside, ap length (rest-is at part), length-drop at part), (search needs, f .low)))
     -- returns
-    (λ c.
-    let a = c .before .before .before .before .before .before .before .args in
-    c .list-check .ensures
-    ∙ ap (λ (x : List ℕ). listOf (now (a .image)) x (a .page) 1 (a .level + 1) (state (a .left) (now (a .marks))) .walk) (rest-is 6 (now (a .part)))
-    ∙ node-inner _ _ _ _ _ _ (sym (c .before .before .before .before .aggregate .ensures) ∙ c .before .before .before .if1 .taken))
+    (λ c. c .list-check .ensures ∙ chained t (c .before .before .before) .same)
     -- head-requires
     (λ c κs. search needs)
     -- returns-2
@@ -244,11 +263,11 @@ pub +list-check+node-check+proxy-check-spec : {M : Type 1} → statement M
     c .proxy-check .ensures
     ∙ ap (λ (p : ℕ). proxyOf (now (a .image)) p (a .page) (a .level) (state (a .left) (now (a .marks))) .walk) (c .before .before .two .ensures .0)
     ∙ node-3 _ _ _ _ _ _ _ (c .before .before .before .before .before .head .ensures) (c .before .before .before .before .if2 .taken) (c .before .before .before .if3 .left))
-    -- sub-list-check-2
+    -- sub-list-check
     (λ c. headed _ _ _ (c .before .before .head .ensures) (c .if4 .taken))
-    -- part-list-check-start-2
+    -- part-list-check-start
     (λ c. omega (arith, headed _ _ _ (c .before .before .head .ensures) (c .if4 .taken)))
-    -- part-list-check-end-2
+    -- part-list-check-end
     (λ c. search needs)
     -- list-check-requires-2
     (λ c κs.
