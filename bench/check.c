@@ -45,6 +45,11 @@ static int row(const char *name, const uint8_t *image, size_t len) {
     return 0;
 }
 
+static const struct {
+    const char *name;
+    unsigned (*fill)(uint8_t *, unsigned, unsigned);
+} chains[] = {{"6-byte nodes", fill_small}, {"nested nodes", fill_nested}, {"mixed nodes", fill_mixed}, {"combs", fill_combs}};
+
 int main(void) {
     size_t len = 4194304;
     uint8_t *image = malloc(len);
@@ -53,10 +58,10 @@ int main(void) {
     puts("microseconds    sum      plain    check   check/sum check/plain");
     make_full(image, 1024);
     bad |= row("full records", image, len);
-    make_worst(image, 1024);
-    bad |= row("6-byte nodes", image, len);
-    make_nested(image, 1024);
-    bad |= row("nested nodes", image, len);
+    for (size_t i = 0; i < sizeof chains / sizeof *chains; i++) {
+        make_chain(image, 1024, chains[i].fill);
+        bad |= row(chains[i].name, image, len);
+    }
     for (unsigned pages = 4; pages <= 1000; pages = pages < 400 ? pages * 10 : 1000) {
         char name[32];
         snprintf(name, sizeof name, "full, %u pages", pages);

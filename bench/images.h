@@ -70,31 +70,70 @@ static inline void make_full(uint8_t *image, unsigned pages) {
     }
 }
 
-/* A chain of helper records, each with a proxy to the next and 677 aggregates of 6 bytes: the most nodes to look at, nested as deep as can be. */
-static inline void make_worst(uint8_t *image, unsigned pages) {
+/* A chain of helper records, each with a proxy to the next, filled by fill(at, bytes left, page), which gives how many bytes it wrote: records nested as deep as can be. */
+static inline void make_chain(uint8_t *image, unsigned pages, unsigned (*fill)(uint8_t *, unsigned, unsigned)) {
     memset(image, 0, (size_t)pages * 4096);
     put_settings(image, pages);
     for (unsigned p = 1; p < pages; p++) {
         uint8_t *page = image + 4096u * p, *at = page + 6;
         if (p + 1 < pages) at = put_proxy(at, p + 1);
-        for (int i = 0; i < 677; i++) at = put_node(at, 1, 9, 6);
+        at += fill(at, 4080 - (unsigned)(at - page), p);
         put_node(page, p == 1 ? 1 : 4, p == 1 ? 7 : 0, (unsigned)(at - page));
         put_trailer(page, 1, p == 1, (unsigned)(at - page), p - 1);
     }
 }
 
-/* The same chain, each page full of aggregates of which each is the only child of the last, down to level 24: the most calls for the bytes. */
-static inline void make_nested(uint8_t *image, unsigned pages) {
-    memset(image, 0, (size_t)pages * 4096);
-    put_settings(image, pages);
-    for (unsigned p = 1; p < pages; p++) {
-        uint8_t *page = image + 4096u * p, *at = page + 6;
-        if (p + 1 < pages) at = put_proxy(at, p + 1);
-        while (at + 6 * 23 <= page + 4080)
-            for (unsigned d = 23; d >= 1; d--) at = put_node(at, 1, 9, 6 * d);
-        put_node(page, p == 1 ? 1 : 4, p == 1 ? 7 : 0, (unsigned)(at - page));
-        put_trailer(page, 1, p == 1, (unsigned)(at - page), p - 1);
+/* Aggregates of 6 bytes: the most nodes. */
+static inline unsigned fill_small(uint8_t *at, unsigned left, unsigned page) {
+    unsigned n = 0;
+    (void)page;
+    for (; n + 6 <= left; n += 6) put_node(at + n, 1, 9, 6);
+    return n;
+}
+
+/* Aggregates of which each is the only child of the last, down to level 24. */
+static inline unsigned fill_nested(uint8_t *at, unsigned left, unsigned page) {
+    unsigned n = 0;
+    (void)page;
+    while (n + 6 * 23 <= left)
+        for (unsigned d = 23; d >= 1; d--, n += 6) put_node(at + n, 1, 9, 6 * d);
+    return n;
+}
+
+/* Small aggregates, short literals and pairs in an order that no branch predictor knows. */
+static inline unsigned fill_mixed(uint8_t *at, unsigned left, unsigned page) {
+    unsigned n = 0, seed = page;
+    while (n + 24 <= left) {
+        seed = seed * 1103515245u + 12345u;
+        unsigned r = seed >> 28, z = (seed >> 20) % 13;
+        if (r < 5) {
+            put_node(at + n, 1, 9, 6);
+            n += 6;
+        } else if (r < 10) {
+            put_node(at + n, 2, 9, 6 + z);
+            n += 6 + z;
+        } else {
+            put_node(put_node(at + n, 1, 9, 12), 1, 9, 6);
+            n += 12;
+        }
     }
+    return n;
+}
+
+/* Aggregates that hold the next one and an empty literal behind it. */
+static inline unsigned comb(uint8_t *at, unsigned depth) {
+    unsigned n = depth ? comb(at + 6, depth - 1) : 0;
+    if (depth) put_node(at + 6 + n, 2, 9, 6);
+    n += depth ? 12 : 6;
+    put_node(at, 1, 9, n);
+    return n;
+}
+
+static inline unsigned fill_combs(uint8_t *at, unsigned left, unsigned page) {
+    unsigned n = 0;
+    (void)page;
+    while (n + 22 * 12 + 6 <= left) n += comb(at + n, 22);
+    return n;
 }
 
 #endif

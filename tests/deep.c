@@ -15,7 +15,7 @@ int main(void) {
     uint8_t *image = malloc(len), path[4];
     uint32_t place[2], written, answer[5], following[4];
     if (!image) return 2;
-    make_worst(image, 1024);
+    make_chain(image, 1024, fill_small);
     if (nl_check(image, len)) return wrong("check");
     if (nl_read(image, len, 1, 0, answer) || answer[2] != 677u * 1023u) return wrong("read");
     /* the first child stands in the last record of the chain, the last child in the first */
