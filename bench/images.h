@@ -83,11 +83,11 @@ static inline void make_chain(uint8_t *image, unsigned pages, unsigned (*fill)(u
     }
 }
 
-/* Aggregates of 6 bytes: the most nodes. */
+/* 677 aggregates of 6 bytes: the most nodes that have room beside a proxy. */
 static inline unsigned fill_small(uint8_t *at, unsigned left, unsigned page) {
     unsigned n = 0;
-    (void)page;
-    for (; n + 6 <= left; n += 6) put_node(at + n, 1, 9, 6);
+    (void)left, (void)page;
+    for (; n < 6 * 677; n += 6) put_node(at + n, 1, 9, 6);
     return n;
 }
 

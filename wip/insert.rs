@@ -1,5 +1,5 @@
 // Insert as it is to be proved (Base 3): plain Rust that agrees with the reference, byte for byte, on every insert of the vectors. Remove this file when crate store has insert.
-// Done: usage, put_node, apart (crate fresh); taking (receive); splice; proxy_in, enclosing (lift); first_free, put_record, relink (pages); child, enters, start_of, stays (cut); put_group, separate (split). Open: the loop `rise`, `once`, `insert`.
+// Done: usage, put_node, apart (crate fresh); taking (receive); splice; proxy_in, enclosing (lift); first_free, put_record, relink (pages); child, enters, start_of, stays (cut); put_group, separate, separator (split). Open: the loop `rise`, `once`, `insert`.
 #![allow(dead_code)]
 fn wide(x: u8) -> usize { x as usize }
 pub fn two(s: &[u8], i: usize) -> usize { wide(s[i]) + 256 * wide(s[i + 1]) }

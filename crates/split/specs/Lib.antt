@@ -3,3 +3,5 @@ pub mod Group
 pub mod Separate
 pub mod Same
 pub mod Ready
+pub mod Mem
+pub mod Severed

@@ -42,7 +42,7 @@ below-rest n (lit l c rest) h = h
 below-rest n (rec p s r rest) h = h .1
 
 -- A header's size put right.
-resized : (lb k v : ℕ) (b : List ℕ) → over 4 (two v) (header 1 lb k ++ b) ≡ header 1 lb v ++ b
+pub resized : (lb k v : ℕ) (b : List ℕ) → over 4 (two v) (header 1 lb k ++ b) ≡ header 1 lb v ++ b
 unfolding over
 resized lb k v b = refl
 

@@ -19,6 +19,7 @@ ghost use Rattle.pages.specs.Relinked.{written};
 ghost use Rattle.split.specs.Cutting.{groupI, separateI};
 ghost use Rattle.split.specs.Group.{proxyBytes, Part, Env, Job, Left};
 ghost use Rattle.split.specs.Separate.{Sep};
+ghost use Rattle.split.specs.Severed.{Large, Severed};
 
 // Where the written part of the separator ends, and whether a page was taken where none was free.
 pub struct Put {
@@ -150,4 +151,56 @@ pub fn separate(
         end: b.end,
         full: a.full | b.full,
     }
+}
+
+// Writes the separator of the record that buf is, which is too large, to the front of out; a helper root is dropped.
+pub fn separator(
+    buf: &[u8],
+    p: usize,
+    tolerance: usize,
+    image: &mut [u8],
+    used: &mut [u8; 1024],
+    pages: usize,
+    near: usize,
+    dry: bool,
+    out: &mut [u8],
+) -> Put
+    requires { ⌜ Env pages near (now used) (now image) × ((length (now out) ≡ 512) × Large pages near p tolerance (now buf) (now used)) ⌝ }
+    ensures { λ r. ⌜ ((w : Large pages near p tolerance (now (buf .entry)) (now (used .entry))) →
+        Severed (w .st) near (w .row) (w .work) dry (r .end) (r .full) (now (used .exit)) (now (image .entry)) (now (image .exit)) (now (out .entry)) (now (out .exit))) ⌝ }
+{
+    let n = buf.len();
+    if buf[0] == 1 {
+        copy_in(&buf[..6], out, 0);
+        let r = separate(
+            buf,
+            6,
+            n,
+            p,
+            tolerance,
+            image,
+            used,
+            pages,
+            near,
+            dry,
+            out,
+            6,
+        );
+        put16(out, 4, r.end);
+        return r;
+    }
+    separate(
+        buf,
+        6,
+        n,
+        p,
+        tolerance,
+        image,
+        used,
+        pages,
+        near,
+        dry,
+        out,
+        0,
+    )
 }
