@@ -136,4 +136,12 @@ static inline unsigned fill_combs(uint8_t *at, unsigned left, unsigned page) {
     return n;
 }
 
+/* Aggregates that hold one empty literal. */
+static inline unsigned fill_pairs(uint8_t *at, unsigned left, unsigned page) {
+    unsigned n = 0;
+    (void)page;
+    for (; n + 12 <= left; n += 12) put_node(put_node(at + n, 1, 9, 12), 2, 9, 6);
+    return n;
+}
+
 #endif
