@@ -7,21 +7,10 @@ use lib.ListN.{length}
 use lib.Dec.{leb}
 use Rattle.model.specs.Row.{Row, nil, agg, lit, rec, _⊹_, size, isNil, isAgg, Config}
 use Rattle.model.specs.Growth.{Work, Out, stops, group, twoGroups, separate}
+use Rattle.laws.specs.Laws.{⊹-nil, ⊹-assoc}
 use Rattle.cut.specs.Stands.{headOf, kidsOf, restOf}
 
 -- ── joined rows ──
-
-pub ⊹-nil : (a : Row) → a ⊹ nil ≡ a
-⊹-nil nil = refl
-⊹-nil (agg h cs rest) = ap (agg h cs) (⊹-nil rest)
-⊹-nil (lit h c rest) = ap (lit h c) (⊹-nil rest)
-⊹-nil (rec p s r rest) = ap (rec p s r) (⊹-nil rest)
-
-pub ⊹-assoc : (a b c : Row) → (a ⊹ b) ⊹ c ≡ a ⊹ b ⊹ c
-⊹-assoc nil b c = refl
-⊹-assoc (agg h cs rest) b c = ap (agg h cs) (⊹-assoc rest b c)
-⊹-assoc (lit h x rest) b c = ap (lit h x) (⊹-assoc rest b c)
-⊹-assoc (rec p s r rest) b c = ap (rec p s r) (⊹-assoc rest b c)
 
 -- A row's first node alone.
 abbrev pub firstOf : Row → Row

@@ -9,18 +9,12 @@ use lib.Seq.{take-at}
 use Rattle.model.specs.Row.{Row, nil, agg, lit, rec, _⊹_, size, lone, recordSize, header, bytes, recordBytes, Config}
 use Rattle.model.specs.Reading.{twoAt}
 use Rattle.model.specs.Growth.{rootRow}
-use Rattle.laws.specs.Laws.{length-bytes, size-⊹, isNil-nil}
+use Rattle.laws.specs.Laws.{length-bytes, size-⊹, isNil-nil, bytes-⊹}
 use Rattle.laws.specs.Fits.{Fits}
 use Rattle.cut.specs.Stands.{Stands, Kids, first, past, sizeOf, headOf, kidsOf, restOf}
 use Rattle.cut.specs.Chosen.{passed, remains, goesInto, row-parts, remains-some}
 
 -- ── rows joined ──
-
-pub bytes-⊹ : (a b : Row) → bytes (a ⊹ b) ≡ bytes a ++ bytes b
-bytes-⊹ nil b = refl
-bytes-⊹ (agg h cs rest) b = rw (bytes-⊹ rest b) (simp append-assoc)
-bytes-⊹ (lit h c rest) b = rw (bytes-⊹ rest b) (simp append-assoc)
-bytes-⊹ (rec p s r rest) b = rw (bytes-⊹ rest b) (simp append-assoc)
 
 -- The bytes of a row that stands.
 pub stands-bytes : (l : List ℕ) (pos : ℕ) (a : Row) → Stands l pos a → take (size a) (drop pos l) ≡ bytes a

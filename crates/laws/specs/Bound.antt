@@ -123,6 +123,12 @@ Fits-⊹ (agg l cs rest) b f g = (f .0, f .1, Fits-⊹ rest b (f .2) g)
 Fits-⊹ (lit l c rest) b f g = (f .0, f .1, f .2, Fits-⊹ rest b (f .3) g)
 Fits-⊹ (rec p s r rest) b f g = (f .0, f .1, Fits-⊹ rest b (f .2) g)
 
+pub fits-parts : (a b : Row) → Fits (a ⊹ b) → Fits a × Fits b
+fits-parts nil b f = (tt, f)
+fits-parts (agg h cs rest) b f = let z = fits-parts rest b (f .2) in ((f .0, f .1, z .0), z .1)
+fits-parts (lit h c rest) b f = let z = fits-parts rest b (f .3) in ((f .0, f .1, f .2, z .0), z .1)
+fits-parts (rec p s r rest) b f = let z = fits-parts rest b (f .2) in ((f .0, f .1, z .0), z .1)
+
 module _ (st : Config) (near : ℕ) where
   pub group-fits : (g : Row) (w : Work) → Fits g → size g + 6 ≤ 4080 → Fits (group st near g w .0)
   unfolding group

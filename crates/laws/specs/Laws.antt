@@ -26,6 +26,24 @@ size-⊹ (agg l cs rest) b = rw (size-⊹ rest b) (omega arith)
 size-⊹ (lit l c rest) b = rw (size-⊹ rest b) (omega arith)
 size-⊹ (rec p s r rest) b = rw (size-⊹ rest b) (omega arith)
 
+pub bytes-⊹ : (a b : Row) → bytes (a ⊹ b) ≡ bytes a ++ bytes b
+bytes-⊹ nil b = refl
+bytes-⊹ (agg l cs rest) b = simp (bytes-⊹ rest b, append-assoc)
+bytes-⊹ (lit l c rest) b = simp (bytes-⊹ rest b, append-assoc)
+bytes-⊹ (rec p s r rest) b = simp (bytes-⊹ rest b)
+
+pub ⊹-nil : (a : Row) → a ⊹ nil ≡ a
+⊹-nil nil = refl
+⊹-nil (agg l cs rest) = ap (agg l cs) (⊹-nil rest)
+⊹-nil (lit l c rest) = ap (lit l c) (⊹-nil rest)
+⊹-nil (rec p s r rest) = ap (rec p s r) (⊹-nil rest)
+
+pub ⊹-assoc : (a b c : Row) → (a ⊹ b) ⊹ c ≡ a ⊹ b ⊹ c
+⊹-assoc nil b c = refl
+⊹-assoc (agg l cs rest) b c = ap (agg l cs) (⊹-assoc rest b c)
+⊹-assoc (lit l x rest) b c = ap (lit l x) (⊹-assoc rest b c)
+⊹-assoc (rec p s r rest) b c = ap (rec p s r) (⊹-assoc rest b c)
+
 -- ── what a row shows ──
 
 pub ⊞-end : (a : Tree) → a ⊞ end ≡ a

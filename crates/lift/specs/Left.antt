@@ -7,12 +7,12 @@ use native.Mathlib.Omega.{arith}
 use lib.ListN.{length, getD, length-append}
 use Rattle.model.specs.Row.{Head, Row, nil, agg, lit, rec, _⊹_, size, lone, two, header, bytes, recordSize, recordBytes, count}
 use Rattle.model.specs.Reading.{twoAt}
-use Rattle.laws.specs.Laws.{length-bytes, size-⊹}
+use Rattle.laws.specs.Laws.{length-bytes, size-⊹, ⊹-assoc, bytes-⊹}
 use Rattle.laws.specs.Bound.{isNil-⊹}
 use Rattle.laws.specs.Pages.{count-⊹}
 use Rattle.reads.specs.Decode.{two-bytes, getD-past}
-use Rattle.upward.specs.Chain.{Spot, here, inside, fill, ⊹-assoc}
-use Rattle.splice.specs.Spot.{isInside, push, bytes-⊹}
+use Rattle.upward.specs.Chain.{Spot, here, inside, fill}
+use Rattle.splice.specs.Spot.{isInside, push}
 use Rattle.splice.specs.Bump.{two-header, agg-bytes, lit-bytes}
 use Rattle.splice.specs.Splice.{Whole, whole}
 

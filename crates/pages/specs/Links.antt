@@ -7,7 +7,7 @@ use lib.ListN.{length, drop, getD}
 use lib.Seq.{getD-drop, drop-drop, drop-at}
 use Rattle.model.specs.Row.{Row, nil, agg, lit, rec, _⊹_, size, two, header, bytes, count}
 use Rattle.model.specs.Reading.{twoAt}
-use Rattle.laws.specs.Laws.{length-bytes, size-⊹}
+use Rattle.laws.specs.Laws.{length-bytes, size-⊹, bytes-⊹}
 use Rattle.reads.specs.Valid.{names-own}
 use Rattle.reads.specs.Decode.{two-bytes}
 use Rattle.octets.specs.Over.{over}
@@ -37,12 +37,6 @@ below-⊹ n nil b h k = k
 below-⊹ n (agg l cs rest) b h k = (h .0, below-⊹ n rest b (h .1) k)
 below-⊹ n (lit l c rest) b h k = below-⊹ n rest b h k
 below-⊹ n (rec p s r rest) b h k = (h .0, below-⊹ n rest b (h .1) k)
-
-pub bytes-⊹ : (a b : Row) → bytes (a ⊹ b) ≡ bytes a ++ bytes b
-bytes-⊹ nil b = refl
-bytes-⊹ (agg l cs rest) b = simp (bytes-⊹ rest b, append-assoc)
-bytes-⊹ (lit l c rest) b = simp (bytes-⊹ rest b, append-assoc)
-bytes-⊹ (rec p s r rest) b = simp (bytes-⊹ rest b)
 
 -- The bytes are those of a row whose proxies name pages below n.
 pub record Linked (l : List ℕ) (n : ℕ) : Type 0 where

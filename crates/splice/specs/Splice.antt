@@ -8,10 +8,10 @@ use lib.ListN.{length, take, drop, length-append, length-take, length-drop}
 use lib.Seq.{take-at, drop-at, length-take-le, take-all}
 use Rattle.model.specs.Row.{Head, Row, nil, agg, lit, rec, _⊹_, size, nodeCount, lone, base, header, bytes, recordSize, recordBytes, count}
 use Rattle.octets.specs.Over.{over, over-then, over-front, over-again, take-over}
-use Rattle.laws.specs.Laws.{length-bytes, size-⊹}
+use Rattle.laws.specs.Laws.{length-bytes, size-⊹, bytes-⊹}
 use Rattle.laws.specs.Bound.{isNil-⊹}
 use Rattle.upward.specs.Chain.{Spot, here, inside, fill}
-use Rattle.splice.specs.Spot.{at, parent, isInside, around, before, beyond, bytes-⊹, lone-many, size-around, bytes-fill, length-before}
+use Rattle.splice.specs.Spot.{at, parent, isInside, around, before, beyond, lone-many, size-around, bytes-fill, length-before}
 use Rattle.splice.specs.Bump.{Cut, grown}
 
 -- ── the root ──

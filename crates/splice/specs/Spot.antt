@@ -7,7 +7,7 @@ use native.Mathlib.Omega.{arith}
 use mathlib.Core.Logic.{_⊎_, inl, inr, ⊎-elim}
 use lib.ListN.{length, length-append}
 use Rattle.model.specs.Row.{Head, Row, nil, agg, lit, rec, _⊹_, size, isNil, nodeCount, lone, header, bytes}
-use Rattle.laws.specs.Laws.{length-bytes, size-⊹}
+use Rattle.laws.specs.Laws.{length-bytes, size-⊹, bytes-⊹}
 use Rattle.laws.specs.Keeps.{nodeCount-⊹}
 use Rattle.upward.specs.Chain.{Spot, here, inside, fill}
 
@@ -40,12 +40,6 @@ beyond (here left) = []
 beyond (inside left h rest s) = beyond s ++ bytes rest
 
 -- ── rows ──
-
-pub bytes-⊹ : (a b : Row) → bytes (a ⊹ b) ≡ bytes a ++ bytes b
-bytes-⊹ nil b = refl
-bytes-⊹ (agg h cs rest) b = simp (bytes-⊹ rest b, append-assoc)
-bytes-⊹ (lit h c rest) b = simp (bytes-⊹ rest b, append-assoc)
-bytes-⊹ (rec p s r rest) b = simp (bytes-⊹ rest b)
 
 -- Two nodes or more are the children of a helper.
 pub lone-many : (r : Row) → 2 ≤ nodeCount r → lone r ≡ false

@@ -8,10 +8,11 @@ use lib.ListN.{length, set}
 use lib.Dec.{eqb}
 use Rattle.model.specs.Row.{Row, nil, agg, lit, rec, _⊹_, size, isNil, loneRec, Config}
 use Rattle.model.specs.Growth.{freeFrom, goOn, stops}
+use Rattle.laws.specs.Laws.{⊹-nil, ⊹-assoc}
 use Rattle.pages.specs.Write.{usedBy}
 use Rattle.pages.specs.Relinked.{written}
 use Rattle.cut.specs.Stands.{headOf, kidsOf, restOf}
-use Rattle.cut.specs.Chosen.{⊹-nil, ⊹-assoc, goes, passed, remains, goesInto, cond-flip}
+use Rattle.cut.specs.Chosen.{goes, passed, remains, goesInto, cond-flip}
 
 -- The row that comes of it, the marks, whether a page was taken where none was free, and the image.
 pub record Cutting : Type 0 where

@@ -8,9 +8,9 @@ use lib.ListN.{length}
 use Rattle.model.specs.Row.{Row, nil, agg, lit, rec, _⊹_, size, isNil, loneRec, recordSize, Config}
 use Rattle.model.specs.Reading.{pageOf}
 use Rattle.model.specs.Growth.{Work, freeFrom, goOn, stops, group, separate}
+use Rattle.laws.specs.Bound.{fits-parts}
 use Rattle.laws.specs.Fits.{Fits}
 use Rattle.writes.specs.Memory.{Mem, putMem, groupMem, twoMem, separateMem}
-use Rattle.writes.specs.Links.{fits-parts}
 use Rattle.pages.specs.Write.{usedBy, free-same}
 use Rattle.pages.specs.Links.{Below, below-⊹}
 use Rattle.pages.specs.Relinked.{written, length-written, mem-written}

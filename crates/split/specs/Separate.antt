@@ -7,21 +7,16 @@ use native.Mathlib.Omega.{arith}
 use lib.ListN.{length, take, drop}
 use Rattle.model.specs.Row.{Row, nil, agg, lit, rec, _⊹_, size, two, header, bytes, Config}
 use Rattle.model.specs.Reading.{twoAt}
-use Rattle.laws.specs.Laws.{length-bytes, size-⊹}
+use Rattle.laws.specs.Bound.{fits-parts}
+use Rattle.laws.specs.Laws.{length-bytes, size-⊹, bytes-⊹}
 use Rattle.laws.specs.Fits.{Fits}
 use Rattle.octets.specs.Over.{over, over-then, over-inside}
 use Rattle.pages.specs.Links.{Below}
 use Rattle.cut.specs.Stands.{Kids, headOf, kidsOf, restOf}
 use Rattle.cut.specs.Chosen.{passed, remains, goesInto, row-parts}
-use Rattle.cut.specs.Level.{bytes-⊹, kids-bytes, chosen, left-bytes, chosen-fits, inner, head-bytes, after-bytes}
+use Rattle.cut.specs.Level.{kids-bytes, chosen, left-bytes, chosen-fits, inner, head-bytes, after-bytes}
 use Rattle.split.specs.Cutting.{Cutting, groupI, twoGroupsI, separateI, insideI, atChosenI, separateI-by}
 use Rattle.split.specs.Group.{Env, Job, Left, group-past, separate-past}
-
-fits-parts : (a b : Row) → Fits (a ⊹ b) → Fits a × Fits b
-fits-parts nil b f = (tt, f)
-fits-parts (agg h cs rest) b f = let k = fits-parts rest b (f .2) in ((f .0, f .1, k .0), k .1)
-fits-parts (lit h c rest) b f = let k = fits-parts rest b (f .3) in ((f .0, f .1, f .2, k .0), k .1)
-fits-parts (rec p s r rest) b f = let k = fits-parts rest b (f .2) in ((f .0, f .1, k .0), k .1)
 
 below-parts : (n : ℕ) (a b : Row) → Below n (a ⊹ b) → Below n a × Below n b
 below-parts n nil b h = (tt, h)

@@ -9,7 +9,7 @@ use lib.ListN.{length, getD, drop, length-append}
 use lib.Seq.{getD-drop, getD-take}
 use Rattle.model.specs.Row.{Row, nil, agg, lit, rec, store, _⊹_, size, base, header, bytes, Held, recordPage, Config}
 use Rattle.model.specs.Reading.{Reads, pageOf}
-use Rattle.laws.specs.Laws.{length-bytes}
+use Rattle.laws.specs.Laws.{length-bytes, bytes-⊹}
 use Rattle.laws.specs.Image.{Stored}
 use Rattle.reads.specs.Decode.{in-trailer, stored-image}
 use Rattle.reads.specs.Reading.{reads-valid}
@@ -29,12 +29,6 @@ front (inside left h rest s) n = bytes left ++ header 1 (h .label) (6 + (before 
 abbrev pub back : Spot → List ℕ
 back (here left) = []
 back (inside left h rest s) = back s ++ bytes rest
-
-pub bytes-⊹ : (a b : Row) → bytes (a ⊹ b) ≡ bytes a ++ bytes b
-bytes-⊹ nil b = refl
-bytes-⊹ (agg h cs rest) b = rw (bytes-⊹ rest b) (simp append-assoc)
-bytes-⊹ (lit h c rest) b = rw (bytes-⊹ rest b) (simp append-assoc)
-bytes-⊹ (rec p s r rest) b = rw (bytes-⊹ rest b) (simp append-assoc)
 
 pub bytes-fill : (s : Spot) (x : Row) → bytes (fill s x) ≡ front s (size x) ++ bytes x ++ back s
 bytes-fill (here left) x = bytes-⊹ left x ∙ ap (λ (z : List ℕ). bytes left ++ z) (sym (append-nil (bytes x))) ∙ sym (append-assoc (bytes left) (bytes x) [])

@@ -4,6 +4,7 @@ use mathlib.Core.Bool.{Bool, true}
 use Prim.Native.Nat.{ℕ, _+_}
 use Rattle.model.specs.Row.{Head, Row, nil, agg, lit, rec, _⊹_, size, Config}
 use Rattle.model.specs.Growth.{Out, onRow, kept, close}
+use Rattle.laws.specs.Laws.{⊹-assoc}
 
 -- ── in one record ──
 
@@ -31,12 +32,6 @@ past (inside left h rest s) more = inside left h rest (past s more)
 abbrev pub into : Spot → Head → (rest : Row) → Spot
 into (here left) h rest = inside left h rest (here nil)
 into (inside left g right s) h rest = inside left g right (into s h rest)
-
-pub ⊹-assoc : (a b c : Row) → (a ⊹ b) ⊹ c ≡ a ⊹ b ⊹ c
-⊹-assoc nil b c = refl
-⊹-assoc (agg h cs rest) b c = ap (agg h cs) (⊹-assoc rest b c)
-⊹-assoc (lit h x rest) b c = ap (lit h x) (⊹-assoc rest b c)
-⊹-assoc (rec p s r rest) b c = ap (rec p s r) (⊹-assoc rest b c)
 
 pub fill-past : (s : Spot) (more x : Row) → fill (past s more) x ≡ fill s (more ⊹ x)
 fill-past (here left) more x = ⊹-assoc left more x

@@ -9,8 +9,8 @@ use lib.Dec.{ltb, eqb}
 use Rattle.model.specs.Row.{Head, Row, nil, agg, lit, rec, _⊹_, size, isNil, lone, recordSize, Config}
 use Rattle.model.specs.Tree.{width, New}
 use Rattle.model.specs.Growth.{Work, freeFrom, taken, apart, asRow, place}
-use Rattle.laws.specs.Laws.{size-⊹}
-use Rattle.upward.specs.Chain.{Spot, here, inside, fill, past, into, ⊹-assoc, Chain, top, below, lastPage}
+use Rattle.laws.specs.Laws.{size-⊹, ⊹-assoc}
+use Rattle.upward.specs.Chain.{Spot, here, inside, fill, past, into, Chain, top, below, lastPage}
 use Rattle.upward.specs.Taking.{Taking, takingAt, takingAfter, takingChild, takingIn, taking, received}
 use Rattle.upward.specs.Stops.{size-fill, lone-⊹}
 

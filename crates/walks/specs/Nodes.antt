@@ -9,7 +9,7 @@ use lib.Seq.{take-at, drop-at, take-length, drop-length}
 use borrow.Author.Tests.{le-ltb, lt-ltb, le-leb, eq-eqb, ne-eqb}
 use Rattle.model.specs.Row.{Row, nil, agg, lit, rec, _⊹_, size, lone, nodeCount, two, header, bytes, recordBytes, mayStand, standing, byTable}
 use Rattle.model.specs.Reading.{twoAt}
-use Rattle.laws.specs.Laws.{length-bytes, isNil-nil}
+use Rattle.laws.specs.Laws.{length-bytes, isNil-nil, ⊹-nil}
 use Rattle.laws.specs.Fits.{Shape, one, more, RecordFits}
 use Rattle.reads.specs.Decode.{two-bytes}
 use Rattle.walks.specs.Tests.{sizeOf, twoChildren, shapeOf, headOf}
@@ -145,12 +145,6 @@ two-children r f h =
 not-lone : {s : Bool} {r : Row} → Shape s r → lone r ≡ false → 2 ≤ nodeCount r
 not-lone (one e) h = absurd (false≢true (sym h ∙ e))
 not-lone (more r h) e = h
-
-⊹-nil : (r : Row) → r ⊹ nil ≡ r
-⊹-nil nil = refl
-⊹-nil (agg h cs rest) = ap (agg h cs) (⊹-nil rest)
-⊹-nil (lit h c rest) = ap (lit h c) (⊹-nil rest)
-⊹-nil (rec p s r rest) = ap (rec p s r) (⊹-nil rest)
 
 module _ (img : List ℕ) (page level : ℕ) (w : State) (left : 1 ≤ w .left) where
   -- a list of one node is the node

@@ -12,7 +12,7 @@ use Rattle.model.specs.Row.{Row, nil, agg, lit, rec, _⊹_, size, isNil, nodeCo
 use Rattle.model.specs.Reading.{twoAt}
 use Rattle.laws.specs.Keeps.{nodeCount-⊹}
 use Rattle.laws.specs.Fits.{Fits, Shape, one, more, RecordFits}
-use Rattle.laws.specs.Laws.{length-bytes}
+use Rattle.laws.specs.Laws.{length-bytes, bytes-⊹}
 use Rattle.laws.specs.Bound.{Fits-⊹}
 use Rattle.laws.specs.Image.{length-record}
 use Rattle.walks.specs.Facts.{no, then-true, else-true}
@@ -23,12 +23,6 @@ use Rattle.walks.specs.Heads.{Head, two-at, two-low, is-byte, all-drop, 
 use Rattle.walks.specs.Passes.{Passes, proxy, helper, literal, aggregate, empty, next}
 
 -- ── rows ──
-
-bytes-⊹ : (a b : Row) → bytes (a ⊹ b) ≡ bytes a ++ bytes b
-bytes-⊹ nil b = refl
-bytes-⊹ (agg h cs rest) b = rw (bytes-⊹ rest b) (simp append-assoc)
-bytes-⊹ (lit h c rest) b = rw (bytes-⊹ rest b) (simp append-assoc)
-bytes-⊹ (rec p s r rest) b = rw (bytes-⊹ rest b)
 
 height-⊹ : (n : ℕ) (a b : Row) → height a ≤ n → height b ≤ n → height (a ⊹ b) ≤ n
 height-⊹ n nil b h k = k

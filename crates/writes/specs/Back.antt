@@ -5,10 +5,10 @@ use lib.ListN.{length}
 use lib.Dec.{leb}
 use Rattle.model.specs.Row.{Row, nil, agg, lit, rec, _⊹_, size, isNil, lone, loneRec, recordSize, Config}
 use Rattle.model.specs.Growth.{Work, Out, onRow, ownRecord, group, twoGroups, separate, goOn, stops, rootRow, withRow, splitPoint, separator, counted, freed, kept, close}
+use Rattle.laws.specs.Bound.{fits-parts}
 use Rattle.laws.specs.Fits.{Fits}
 use Rattle.upward.specs.Chain.{Spot, here, inside, fill, Chain, top, below, whole, rise}
 use Rattle.upward.specs.Stops.{fits-fill}
-use Rattle.writes.specs.Links.{fits-parts}
 
 either : (A : Type 0) (b : Bool) (o u : Out) → (Fits (o .0) → A) → (Fits (u .0) → A) → Fits (cond b o u .0) → A
 either A true o u f g k = f k

@@ -8,12 +8,13 @@ use lib.Dec.{eqb, leb}
 use Rattle.model.specs.Row.{Head, Row, nil, agg, lit, rec, store, _⊹_, recordSize, count, outside, Config}
 use Rattle.model.specs.Tree.{New}
 use Rattle.model.specs.Growth.{Work, Out, mark, freeFrom, taken, separator, counted, freed, kept, apart, place, atRest}
+use Rattle.laws.specs.Bound.{fits-parts}
 use Rattle.laws.specs.Fits.{Fits, Valid}
 use Rattle.laws.specs.Image.{Stored}
 use Rattle.laws.specs.Pages.{bit, reserved, tally-freed, tally-rest}
 use Rattle.upward.specs.Chain.{Spot, fill, Chain, top, below, lastPage, lastSettled, lastHolder, whole, rise}
 use Rattle.writes.specs.Memory.{Mem, blank, setMem, putMem, keptMem, riseMem, placeMem, State, separatorM}
-use Rattle.writes.specs.Links.{Loose, self, stored-loose, loose-agree, set-other, put-other, put-same, put-stored, fits-parts}
+use Rattle.writes.specs.Links.{Loose, self, stored-loose, loose-agree, set-other, put-other, put-same, put-stored}
 use Rattle.writes.specs.Steps.{Now, Kept, Step, bit-le, bit-false, step-own, step-separator}
 use Rattle.upward.specs.Stops.{fits-fill}
 use Rattle.writes.specs.Back.{fits-whole, fits-rise}

@@ -54,12 +54,6 @@ stored-parts m h (agg x cs rest) b k = let z = stored-parts m h rest b (k .1) in
 stored-parts m h (lit x c rest) b k = stored-parts m h rest b k
 stored-parts m h (rec p s r rest) b k = let z = stored-parts m h rest b (k .2) in ((k .0, k .1, z .0), z .1)
 
-pub fits-parts : (a b : Row) → Fits (a ⊹ b) → Fits a × Fits b
-fits-parts nil b f = (tt, f)
-fits-parts (agg h cs rest) b f = let z = fits-parts rest b (f .2) in ((f .0, f .1, z .0), z .1)
-fits-parts (lit h c rest) b f = let z = fits-parts rest b (f .3) in ((f .0, f .1, f .2, z .0), z .1)
-fits-parts (rec p s r rest) b f = let z = fits-parts rest b (f .2) in ((f .0, f .1, z .0), z .1)
-
 -- ── memories that agree on the pages that a row names ──
 
 pub self : (p : ℕ) → bit (eqb p p) ≡ 1

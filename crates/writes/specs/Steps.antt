@@ -7,10 +7,11 @@ use lib.ListN.{length}
 use lib.Dec.{eqb}
 use Rattle.model.specs.Row.{Head, Row, nil, agg, lit, rec, _⊹_, size, isNil, lone, loneRec, recordSize, count, Config}
 use Rattle.model.specs.Growth.{Work, Out, freeFrom, taken, group, twoGroups, separate, goOn, stops, rootRow, withRow, splitPoint, separator}
+use Rattle.laws.specs.Bound.{fits-parts}
 use Rattle.laws.specs.Fits.{Fits}
 use Rattle.laws.specs.Pages.{bit, count-⊹, or-left, or-right, free-found, tally-own}
 use Rattle.writes.specs.Memory.{Mem, blank, putMem, groupMem, twoMem, separateMem, separatorMem, State, groupM, twoGroupsM, separateM, separatorM}
-use Rattle.writes.specs.Links.{Loose, not-bit, loose-⊹, loose-parts, loose-agree, fits-parts, put-other, put-same, put-stored}
+use Rattle.writes.specs.Links.{Loose, not-bit, loose-⊹, loose-parts, loose-agree, put-other, put-same, put-stored}
 
 -- A row, a work and a memory that go together: `e q` times is page q named elsewhere.
 pub record Now (e : ℕ → ℕ) (r : Row) (w : Work) (m : Mem) : Type 0 where
