@@ -12,19 +12,6 @@ use Rattle.cut.specs.Stands.{headOf, kidsOf, restOf}
 
 -- ── joined rows ──
 
--- A row's first node alone.
-abbrev pub firstOf : Row → Row
-firstOf nil = nil
-firstOf (agg h cs rest) = agg h cs nil
-firstOf (lit h c rest) = lit h c nil
-firstOf (rec p s r rest) = rec p s r nil
-
-pub first-rest : (r : Row) → r ≡ firstOf r ⊹ restOf r
-first-rest nil = refl
-first-rest (agg h cs rest) = refl
-first-rest (lit h c rest) = refl
-first-rest (rec p s r rest) = refl
-
 -- ── the chosen child ──
 
 -- A later child, which starts at `next`, is there and starts at or before p: the model's goOn.
@@ -49,12 +36,6 @@ remains p at (rec q s r rest) = cond (goes p (at + 8) rest) (remains p (at + 8) 
 abbrev pub goesInto : Config → Row → Bool
 goesInto st r = isAgg r && not (stops st (kidsOf r))
 
-pub into-agg : (st : Config) (r : Row) → goesInto st r ≡ true → r ≡ agg (headOf r) (kidsOf r) (restOf r)
-into-agg st nil e = absurd (false≢true e)
-into-agg st (agg h cs rest) e = refl
-into-agg st (lit h c rest) e = absurd (false≢true e)
-into-agg st (rec q s r rest) e = absurd (false≢true e)
-
 parts-by : (b : Bool) (one P R node : Row) → node ≡ one ⊹ (P ⊹ R) → node ≡ cond b (one ⊹ P) nil ⊹ cond b R node
 parts-by true one P R node e = e ∙ sym (⊹-assoc one P R)
 parts-by false one P R node e = refl
@@ -72,10 +53,6 @@ row-parts p at (lit h c rest) =
 row-parts p at (rec q s r rest) =
     let n = at + 8 in
     parts-by (goes p n rest) (rec q s r nil) (passed p n rest) (remains p n rest) (rec q s r rest) (ap (rec q s r) (row-parts p n rest))
-
--- The nodes before the chosen one, that one, and those after it.
-pub row-around : (p at : ℕ) (r : Row) → r ≡ passed p at r ⊹ firstOf (remains p at r) ⊹ restOf (remains p at r)
-row-around p at r = row-parts p at r ∙ ap (_⊹_ (passed p at r)) (first-rest (remains p at r))
 
 pub size-some : (r : Row) → isNil r ≡ false → 0 < size r
 size-some nil e = absurd (false≢true (sym e))

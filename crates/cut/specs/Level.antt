@@ -11,7 +11,8 @@ use Rattle.model.specs.Reading.{twoAt}
 use Rattle.model.specs.Growth.{rootRow}
 use Rattle.laws.specs.Laws.{length-bytes, size-⊹, isNil-nil, bytes-⊹}
 use Rattle.laws.specs.Fits.{Fits}
-use Rattle.cut.specs.Stands.{Stands, Kids, first, past, sizeOf, headOf, kidsOf, restOf}
+use Rattle.reads.specs.At.{past}
+use Rattle.cut.specs.Stands.{Stands, Kids, first, sizeOf, headOf, kidsOf, restOf}
 use Rattle.cut.specs.Chosen.{passed, remains, goesInto, row-parts, remains-some}
 
 -- ── rows joined ──

@@ -7,6 +7,7 @@ use lib.ListN.{length, getD, drop, length-append, length-drop}
 use lib.Seq.{getD-drop, drop-drop, drop-at}
 use Rattle.model.specs.Row.{Head, Row, nil, agg, lit, rec, size, two, header, bytes}
 use Rattle.model.specs.Reading.{twoAt}
+use Rattle.reads.specs.At.{first-byte, number-at, past}
 use Rattle.laws.specs.Laws.{length-bytes}
 use Rattle.reads.specs.Decode.{two-bytes}
 
@@ -62,23 +63,13 @@ pub record Node (l : List ℕ) (pos : ℕ) (r : Row) : Type 0 where
   pub kids : Stands l (pos + 6) (kidsOf r)
   pub rest : Stands l (pos + sizeOf r) (restOf r)
 
--- The first bytes at pos are passed.
-pub past : (l : List ℕ) (pos n : ℕ) (first rest : List ℕ) → length first ≡ n → drop pos l ≡ first ++ rest → drop (pos + n) l ≡ rest
-past l pos n first rest k e = sym (drop-drop n pos l) ∙ ap (drop n) e ∙ drop-at first rest n k
-
 -- a header, its body and what follows, read at pos
 module _ (l body post : List ℕ) (pos k lb n : ℕ) (r : Row) (e : drop pos l ≡ header k lb n ++ (body ++ (bytes r ++ post))) (b : n ≡ 6 + length body) (small : n < 65536) where
-  at-byte : (i : ℕ) → getD l (pos + i) 0 ≡ getD (header k lb n ++ (body ++ (bytes r ++ post))) i 0
-  at-byte i = sym (getD-drop pos l i 0) ∙ ap (λ (z : List ℕ). getD z i 0) e
-
   at-kind : getD l pos 0 ≡ k
-  at-kind = let z : pos + 0 ≡ pos = omega arith in rw z at (at-byte 0)
+  at-kind = first-byte l pos _ e
 
   at-size : twoAt l (pos + 4) ≡ n
-  unfolding twoAt
-  at-size =
-      let z : pos + 4 + 1 ≡ pos + 5 = omega arith in
-      rw (z, at-byte 4, at-byte 5) (two-bytes n small)
+  at-size = number-at l pos _ e 4 n small refl refl
 
   at-within : pos + (n + size r) ≤ length l
   at-within =

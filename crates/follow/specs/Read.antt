@@ -34,11 +34,6 @@ spot-any : (img : List ℕ) (pos : ℕ) → NodeAt img pos → (st : Config) (ro
 spot-any img pos a st root r =
     subst (λ (s : Config × Row). Spot (s .1) pos) (unique img (a .settings, a .root) (st, root) (a .reads) r) (a .spot)
 
--- Where node_at gives 0 the document order has no node of the place,
-pub none-from : (img : List ℕ) (x : Place) (r : ℕ) → Located img (x .page) (x .offset) r → r ≡ 0 → (st : Config) (root : Row) → Reads img st root
-    → fromPlace (placeOf root) x (nodes (shown root)) ≡ []
-none-from img x r l e st root reads = from-none (placeOf root) x (nodes (shown root)) (l .stray e st root reads)
-
 -- and else the place finds the node that is read there.
 pub some-from : (img : List ℕ) (x : Place) (pos : ℕ) → NodeOf img (x .page) (x .offset) pos → (st : Config) (root : Row) → Reads img st root
     → (n : Node) × (ms : List Node) × (fromPlace (placeOf root) x (nodes (shown root)) ≡ n ∷ ms) × ReadAt img n pos × (placeOf root (n .path) ≡ some x)

@@ -48,15 +48,6 @@ own st n q page dry row node u₀ img₀ o₀ img o e f l b pi po =
     let z : q ≡ freeFrom st (st .pages) (usedBy u₀) page = f ∙ ap (λ (i : ℕ). freeFrom st i (usedBy u₀) page) (sym e) in
     rw (← z) (record { used = refl; image = pi ∙ rw (l, b); out = po; full = refl })
 
--- The image after either run.
-pub wet : (dry : Bool) (a b img : List ℕ) → not dry ≡ true → img ≡ b → img ≡ cond dry a b
-wet true a b img e f = absurd (true≢false (sym e))
-wet false a b img e f = f
-
-pub idle : (dry : Bool) (a b img : List ℕ) → not dry ≡ false → img ≡ a → img ≡ cond dry a b
-idle true a b img e f = f
-idle false a b img e f = absurd (true≢false e)
-
 -- ── from one step to the next ──
 
 -- What an insert starts with, on an image that passes the check.
@@ -68,7 +59,3 @@ start-env st root u img page r t low high = record {
   start = high;
   past = rest-past st root u t;
 }
-
--- Other marks that leave out no page past the end, and another image of the same length.
-pub next-env : (n near : ℕ) (u img v new : List ℕ) → Env n near u img → Past n v → length new ≡ length img → Env n near v new
-next-env n near u img v new e p l = record { few = e .few; image = omega (arith, e .image); low = e .low; start = e .start; past = p }

@@ -77,11 +77,3 @@ module _ (st : Config) (x : New) (parent : Head) (page : ℕ) (w : Work) where
         go : (d : Bool) → img₀ ≡ cond d img₀ img₀
         go true = refl
         go false = refl
-
-  -- The rest of the work stays.
-  pub place-work : (rest : Row) → (place st x parent page rest w .1 .splits ≡ w .splits) × (place st x parent page rest w .1 .lean ≡ w .lean)
-  place-work rest = go (apart st parent (x .head))
-    where
-      go : (a : Bool) → let o = cond {A = Row × Work} a (rec ownPage true (asRow st x nil) rest, taken st ownPage w) (asRow st x rest, w) in (o .1 .splits ≡ w .splits) × (o .1 .lean ≡ w .lean)
-      go true = (refl, refl)
-      go false = (refl, refl)

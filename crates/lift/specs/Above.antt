@@ -13,7 +13,7 @@ use Rattle.laws.specs.Pages.{count-⊹}
 use Rattle.reads.specs.Reading.{reads-valid}
 use Rattle.stands.specs.Here.{OnPage}
 use Rattle.upward.specs.Chain.{Spot, here, inside, fill, Chain, top, below, lastPage, lastSettled, lastHolder, whole}
-use Rattle.upward.specs.Stops.{chain-fits}
+use Rattle.upward.specs.Fit.{chain-fits}
 use Rattle.upward.specs.Bytes.{chain-page, chain-bytes}
 use Rattle.lift.specs.Seek.{count-spot}
 use Rattle.lift.specs.Lift.{Lift}

@@ -98,6 +98,3 @@ module _ (st : Config) (near : ℕ) where
   separator-least r w h =
       let row = rootRow st (lone r) r in
       with-least (lone r) r (separate st near (splitPoint st (recordSize r)) 6 nil row w .0) (separate-least (splitPoint st (recordSize r)) 6 nil row w h) h
-
-  pub separator-count : (r : Row) (w : Work) → isNil (rootRow st (lone r) r) ≡ false → 1 ≤ nodeCount (separator st near r w .0)
-  separator-count r w h = some-node (separator st near r w .0) (omega (arith, separator-least r w h))

@@ -7,6 +7,7 @@ use lib.ListN.{length, drop, getD}
 use lib.Seq.{getD-drop, drop-drop, drop-at}
 use Rattle.model.specs.Row.{Row, nil, agg, lit, rec, _⊹_, size, two, header, bytes, count}
 use Rattle.model.specs.Reading.{twoAt}
+use Rattle.reads.specs.At.{first-byte, number-at, past}
 use Rattle.laws.specs.Laws.{length-bytes, size-⊹, bytes-⊹}
 use Rattle.reads.specs.Valid.{names-own}
 use Rattle.reads.specs.Decode.{two-bytes}
@@ -45,13 +46,6 @@ pub record Linked (l : List ℕ) (n : ℕ) : Type 0 where
   pub below : Below n row
   pub small : size row < 65536
 
--- Where every page that the row names, also in the records below it, is below n.
-pub below-named : (n : ℕ) (row : Row) → ((q : ℕ) → 1 ≤ count q row → q < n) → Below n row
-below-named n nil h = tt
-below-named n (agg l cs rest) h = (below-named n cs (λ q k. h q (omega arith)), below-named n rest (λ q k. h q (omega arith)))
-below-named n (lit l c rest) h = below-named n rest h
-below-named n (rec p s r rest) h = (h p (names-own p s r rest), below-named n rest (λ q k. h q (omega arith)))
-
 -- ── the scan of the headers ──
 
 -- At pos: what is left of the bytes is a row, whose links lead from img to goal.
@@ -73,22 +67,6 @@ pub record Found (l : List ℕ) (n q pos : ℕ) (img goal : List ℕ) : Type 0 w
   pub proxy : getD l pos 0 ≡ 3 → (long ≡ 8) × ((twoAt l (pos + 6) < n) × Scan l n q (pos + 8) (over (4096 * twoAt l (pos + 6) + 4084) (two q) img) goal)
   pub past : (getD l pos 0 ≡ 1 → ⊥) → (getD l pos 0 ≡ 3 → ⊥) → Scan l n q (pos + long) img goal
 
-module _ (l : List ℕ) (pos : ℕ) (s : List ℕ) (e : drop pos l ≡ s) where
-  byte-at : (i : ℕ) → getD l (pos + i) 0 ≡ getD s i 0
-  byte-at i = sym (getD-drop pos l i 0) ∙ ap (λ (z : List ℕ). getD z i 0) e
-
-  first-byte : getD l pos 0 ≡ getD s 0 0
-  first-byte = let z : pos + 0 ≡ pos = omega arith in rw z at (byte-at 0)
-
-  number-at : (i m : ℕ) → m < 65536 → getD s i 0 ≡ m % 256 → getD s (i + 1) 0 ≡ m / 256 % 256 → twoAt l (pos + i) ≡ m
-  unfolding twoAt
-  number-at i m h a b =
-      let z : pos + i + 1 ≡ pos + (i + 1) = omega arith in
-      rw (z, byte-at i, byte-at (i + 1), a, b) (two-bytes m h)
-
-  past-at : (m : ℕ) (first rest : List ℕ) → length first ≡ m → s ≡ first ++ rest → drop (pos + m) l ≡ rest
-  past-at m first rest k f = sym (drop-drop m pos l) ∙ ap (drop m) (e ∙ f) ∙ drop-at first rest m k
-
 module _ (l : List ℕ) (n q pos : ℕ) (img goal : List ℕ) (few : n ≤ 1024) where
   found-by : (r : Row) → drop pos l ≡ bytes r → pos + size r ≡ length l → size r < 65536 → Below n r → links q r img ≡ goal → 0 < size r → Found l n q pos img goal
   found-by nil e z t b s h = absurd (omega arith)
@@ -102,7 +80,7 @@ module _ (l : List ℕ) (n q pos : ℕ) (img goal : List ℕ) (few : n ≤ 1024)
         within = omega arith;
         into = λ k. record {
           row = cs ⊹ rest;
-          is = past-at l pos (bytes (agg lb cs rest)) e 6 (header 1 (lb .label) (6 + size cs)) (bytes (cs ⊹ rest)) refl body;
+          is = past l pos 6 (header 1 (lb .label) (6 + size cs)) (bytes (cs ⊹ rest)) refl (e ∙ body);
           ends = omega (arith, size-⊹ cs rest);
           small = omega (arith, size-⊹ cs rest);
           below = below-⊹ n cs rest (b .0) (b .1);
@@ -122,7 +100,7 @@ module _ (l : List ℕ) (n q pos : ℕ) (img goal : List ℕ) (few : n ≤ 1024)
         proxy = λ k. absurd (omega (arith, kind));
         past = λ k m. record {
           row = rest;
-          is = past-at l pos (bytes (lit lb c rest)) e (6 + length c) (header 2 (lb .label) (6 + length c) ++ c) (bytes rest) (omega arith) (sym (append-assoc (header 2 (lb .label) (6 + length c)) c (bytes rest)));
+          is = past l pos (6 + length c) (header 2 (lb .label) (6 + length c) ++ c) (bytes rest) (omega arith) (e ∙ sym (append-assoc (header 2 (lb .label) (6 + length c)) c (bytes rest)));
           ends = omega arith;
           small = omega arith;
           below = b;
@@ -144,7 +122,7 @@ module _ (l : List ℕ) (n q pos : ℕ) (img goal : List ℕ) (few : n ≤ 1024)
             rw name (b .0),
             record {
               row = rest;
-              is = past-at l pos (bytes (rec p t x rest)) e 8 (header 3 0 8 ++ two p) (bytes rest) refl refl;
+              is = past l pos 8 (header 3 0 8 ++ two p) (bytes rest) refl e;
               ends = omega arith;
               small = omega arith;
               below = b .1;

@@ -14,6 +14,7 @@ use Rattle.model.specs.Row.{Row, nil, agg, lit, rec, size, lone, base, recordSi
 use Rattle.model.specs.Tree.{Tree, end, branch, leaf, _⊞_, shown, breadth, width, Node, below, further, nodeAt, named, placeAt, placeOf}
 use Rattle.model.specs.declared.Place.{Place}
 use Rattle.model.specs.Reading.{pageOf}
+use Rattle.reads.specs.At.{past}
 use Rattle.laws.specs.Fits.{Valid}
 use Rattle.laws.specs.Laws.{length-bytes, cond-case, breadth-shown}
 use Rattle.laws.specs.Image.{Stored}
@@ -24,10 +25,6 @@ use Rattle.places.specs.Order.{nodeAt-left, nodeAt-right, lone-root}
 record Behind (img : List ℕ) (pos : ℕ) (c : List ℕ) : Type 0 where
   same : take (length c) (drop (pos + 6) img) ≡ c
   inside : pos + 6 + length c ≤ length img
-
--- what is left of an image past some bytes that stand there
-past : (img : List ℕ) (pos n : ℕ) (first rest : List ℕ) → length first ≡ n → drop pos img ≡ first ++ rest → drop (pos + n) img ≡ rest
-past img pos n first rest k e = sym (drop-drop n pos img) ∙ ap (drop n) e ∙ drop-at first rest n k
 
 behind : (img : List ℕ) (pos l m : ℕ) (c post : List ℕ) → drop pos img ≡ header 2 l m ++ (c ++ post) → Behind img pos c
 behind img pos l m c post e = record {

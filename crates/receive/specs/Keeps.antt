@@ -22,13 +22,6 @@ steady-helper : (s : Spot) (row : Row) → Steady s row → isInside s ≡ false
 steady-helper (here left) row o e = o .1
 steady-helper (inside left h rest s) row o e = absurd (true≢false e)
 
--- One node is some.
-pub one-some : (one : Row) → nodeCount one ≡ 1 → isNil one ≡ false
-one-some nil e = absurd (omega arith)
-one-some (agg h cs rest) e = refl
-one-some (lit h c rest) e = refl
-one-some (rec q b r rest) e = refl
-
 module _ (root : Row) (path : List ℕ) (k : ℕ) (t : Taking) (e : taking root path k ≡ some t) where
   -- A place at the top of a record's row is in a helper: beside a record's only node its proxy is passed instead.
   pub taking-helper : isInside (t .spot) ≡ false → lone (fill (t .spot) (t .rest)) ≡ false

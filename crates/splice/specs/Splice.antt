@@ -79,19 +79,6 @@ whole (inside (lit l c left) h rest s) a b k =
     whole-apart (inside (lit l c left) h rest s) a b (isNil-⊹ left (agg h (fill s a) rest) refl) (isNil-⊹ left (agg h (fill s b) rest) refl)
 whole (inside (rec p t r left) h rest s) a b k = whole-apart (inside (rec p t r left) h rest s) a b refl refl
 
-pub recordSize-fill : (s : Spot) (a b : Row) → KeepsRoot s a b → recordSize (fill s b) + size a ≡ recordSize (fill s a) + size b
-recordSize-fill s a b k =
-    let v = whole s a b k in
-    omega (arith, v .size-was, v .size-is, size-around (v .spot) a, size-around (v .spot) b)
-
--- a row put in, and one in a proxy's place
-pub recordSize-put : (s : Spot) (n z : Row) → KeepsRoot s z (n ⊹ z) → recordSize (fill s (n ⊹ z)) ≡ recordSize (fill s z) + size n
-recordSize-put s n z k = omega (arith, recordSize-fill s z (n ⊹ z) k, size-⊹ n z)
-
-pub recordSize-for : (s : Spot) (q : ℕ) (t : Bool) (r n z : Row) → KeepsRoot s (rec q t r z) (n ⊹ z)
-    → recordSize (fill s (n ⊹ z)) + 8 ≡ recordSize (fill s (rec q t r z)) + size n
-recordSize-for s q t r n z k = omega (arith, recordSize-fill s (rec q t r z) (n ⊹ z) k, size-⊹ n z)
-
 -- ── the place ──
 
 -- A record l; the row `old`, of `gone` bytes, stands in it at the byte pos, in the node at par, and `tail` after it; the row `put`, whose bytes are new, is to take its place.

@@ -72,24 +72,6 @@ length-before pos m (here left) = ap (λ (n : ℕ). pos + n) (length-bytes left)
 length-before pos m (inside left h rest s) =
     simp (length-append, length-bytes left) (omega (arith, length-before (pos + size left + 6) m s))
 
--- A filling among children does not change how many nodes the row has.
-pub nodeCount-fill : (s : Spot) (x : Row) → nodeCount (fill s x) ≡ nodeCount (fill s nil) + cond (isInside s) 0 (nodeCount x)
-nodeCount-fill (here left) x = omega (arith, nodeCount-⊹ left x, nodeCount-⊹ left nil)
-nodeCount-fill (inside left h rest s) x = omega (arith, nodeCount-⊹ left (agg h (fill s x) rest), nodeCount-⊹ left (agg h (fill s nil) rest))
-
-isNil-agg : (left rest : Row) (h : Head) (a b : Row) → isNil (left ⊹ agg h a rest) ≡ isNil (left ⊹ agg h b rest)
-isNil-agg nil rest h a b = refl
-isNil-agg (agg l cs left) rest h a b = refl
-isNil-agg (lit l c left) rest h a b = refl
-isNil-agg (rec p s r left) rest h a b = refl
-
--- Nor whether it is lone.
-pub lone-inside : (left : Row) (h : Head) (rest : Row) (s : Spot) (x y : Row) → lone (fill (inside left h rest s) x) ≡ lone (fill (inside left h rest s) y)
-lone-inside nil h rest s x y = refl
-lone-inside (agg l cs left) h rest s x y = isNil-agg left rest h (fill s x) (fill s y)
-lone-inside (lit l c left) h rest s x y = isNil-agg left rest h (fill s x) (fill s y)
-lone-inside (rec p t r left) h rest s x y = refl
-
 -- ── a spot one row further left ──
 
 abbrev pub push : Row → Spot → Spot
@@ -136,10 +118,6 @@ at-low (inside left k rest s) pos = omega (arith, at-low s (pos + size left + 6)
 pub at-high : (s : Spot) (pos : ℕ) → at pos s ≤ pos + around s
 at-high (here left) pos = omega arith
 at-high (inside left k rest s) pos = omega (arith, at-high s (pos + size left + 6))
-
-pub parent-before : (s : Spot) (outer pos : ℕ) → outer + 6 ≤ pos → parent outer pos s + 6 ≤ at pos s
-parent-before (here left) outer pos h = omega arith
-parent-before (inside left k rest s) outer pos h = parent-before s (pos + size left) (pos + size left + 6) (omega arith)
 
 -- Where the parent is outside the row, no node of the row holds the filling.
 pub before-plain : (s : Spot) (outer pos m n : ℕ) → outer < pos → parent outer pos s < pos → before s m ≡ before s n

@@ -16,32 +16,9 @@ use Rattle.split.specs.Group.{Env}
 use Rattle.split.specs.Separate.{Sep}
 use Rattle.split.specs.Same.{Marked, separate-same}
 
--- The marks of the pages past the image's end, where growth has them as used.
-pub env-from : (n near : ℕ) (u img : List ℕ) (w : Work) → Marked u w → ((x : ℕ) → n ≤ x → w .used x ≡ true) → n ≤ 1024 → 4096 * n ≤ length img → 1 ≤ near → near < n → Env n near u img
-env-from n near u img w m past few room low start = record {
-  few = few;
-  image = room;
-  low = low;
-  start = start;
-  past = λ q h k. m .same q k ∙ past q h;
-}
-
 module _ (st : Config) (near p : ℕ) (dry : Bool) (l u img : List ℕ) (w : Work) (many : st .pages ≤ 1024) (inside : near < 1024) (m : Marked u w) where
   pub row-same : (at : ℕ) (row : Row) → separate st near p at nil row w .0 ≡ separateI st near dry p at nil row u img .row
   row-same at row = sym (separate-same st many near inside dry p at nil row u img w m .row)
-
-  -- A level that stands in the bytes, by what the model's split makes of it.
-  abbrev pub sep-from : {pos end : ℕ} (room : ℕ) (k : Kids l pos end) → Below (st .pages) (k .row) → Fits (separate st near p pos nil (k .row) w .0) → size (separate st near p pos nil (k .row) w .0) ≤ room
-      → Sep (st .pages) near p (st .tolerance) dry l u img pos end room
-  sep-from {pos} room k b f h = record {
-    st = st;
-    pages = refl;
-    tolerance = refl;
-    kids = k;
-    below = b;
-    fits = subst Fits (row-same pos (k .row)) f;
-    within = subst (λ (r : Row). size r ≤ room) (row-same pos (k .row)) h;
-  }
 
 below-root : (st : Config) (n : ℕ) (b : Bool) (r : Row) → Below n r → Below n (rootRow st b r)
 below-root st n false r h = h
@@ -79,6 +56,3 @@ module _ (st : Config) (near most room : ℕ) (dry : Bool) (l u img post : List 
 
   pub root-below : Below (st .pages) (root-level .row)
   root-below = subst (Below (st .pages)) (sym root-row) (below-root st (st .pages) (lone r) r b)
-
-  abbrev pub root-sep : Sep (st .pages) near (splitPoint st (recordSize r)) (st .tolerance) dry l u img 6 (recordSize r) room
-  root-sep = sep-from st near (splitPoint st (recordSize r)) dry l u img w many inside m room root-level root-below (root-good .0) (root-good .1)

@@ -9,6 +9,7 @@ use lib.Seq.{getD-drop, getD-take, drop-drop, drop-at, take-append-seam}
 use lib.Dec.{eqb}
 use Rattle.model.specs.Row.{Head, Row, nil, agg, lit, rec, store, size, lone, base, recordSize, header, two, bytes, recordBytes, trailer, Held, recordPage, count, Config}
 use Rattle.model.specs.Reading.{Reads, twoAt, pageOf}
+use Rattle.reads.specs.At.{first-byte, number-at, past}
 use Rattle.laws.specs.Fits.{HeadFits, Fits, RecordFits, Valid}
 use Rattle.laws.specs.Laws.{length-bytes}
 use Rattle.laws.specs.Image.{Stored, length-record}
@@ -48,24 +49,6 @@ pub record Here (img : List ℕ) (page pos : ℕ) (row : Row) : Type 0 where
   pub fits : Fits row
   pub stored : Stored (pageOf img) page row
   pub names : (q : ℕ) → 1 ≤ count q row → PageIn img q
-
--- ── what is read ──
-
-module _ (img : List ℕ) (pos : ℕ) (s : List ℕ) (e : drop pos img ≡ s) where
-  byte-at : (i : ℕ) → getD img (pos + i) 0 ≡ getD s i 0
-  byte-at i = sym (getD-drop pos img i 0) ∙ ap (λ (z : List ℕ). getD z i 0) e
-
-  first-byte : getD img pos 0 ≡ getD s 0 0
-  first-byte = let z : pos + 0 ≡ pos = omega arith in rw z at (byte-at 0)
-
-  number-at : (i n : ℕ) → n < 65536 → getD s i 0 ≡ n % 256 → getD s (i + 1) 0 ≡ n / 256 % 256 → twoAt img (pos + i) ≡ n
-  unfolding twoAt
-  number-at i n h a b =
-      let z : pos + i + 1 ≡ pos + (i + 1) = omega arith in
-      rw (z, byte-at i, byte-at (i + 1), a, b) (two-bytes n h)
-
-past : (img : List ℕ) (pos n : ℕ) (first rest : List ℕ) → length first ≡ n → drop pos img ≡ first ++ rest → drop (pos + n) img ≡ rest
-past img pos n first rest k e = sym (drop-drop n pos img) ∙ ap (drop n) e ∙ drop-at first rest n k
 
 -- ── an aggregate, a literal, a proxy ──
 

@@ -561,12 +561,3 @@ module _ (img : List ℕ) (st : Config) (root : Row) (r : Reads img st root) whe
         let one : s .row ≡ row = same-row (subst (λ (q : ℕ). In root q (s .holder) (s .row) (s .before) (s .after) (s .depth)) same (s .within)) w in
         let i : List·Memᴰ (node n) (items (4096 * s .page + base (s .row)) (s .row)) = split-mem (node n) (items (4096 * s .page + base (s .row)) (s .row)) (s .left) (s .right) (s .split) in
         rw (same, one) at i
-
-    -- A place is a node's exactly if it is a node item of its page's record.
-    pub place-item : (x : Place) → x .page ≡ page → x .offset < 4096
-        → (List·Memᴰ (addr x) (spots (4096 + base root) root) → List·Memᴰ (node (addr x)) (items (4096 * page + base row) row))
-        × (List·Memᴰ (node (addr x)) (items (4096 * page + base row) row) → List·Memᴰ (addr x) (spots (4096 + base root) root))
-    place-item x p o = (
-      spot-item (addr x) (omega arith) (omega arith),
-      λ m. let s = item-spot (addr x) m in split-mem (addr x) (spots (4096 + base root) root) (s .before ++ expand (s .left)) (expand (s .right) ++ s .after) (spot-split s),
-    )

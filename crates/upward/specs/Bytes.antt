@@ -16,32 +16,6 @@ use Rattle.reads.specs.Reading.{reads-valid}
 use Rattle.stands.specs.Here.{Here, OnPage, AggView, agg-view, lit-view, RecView, rec-view, root-page}
 use Rattle.upward.specs.Chain.{Spot, here, inside, fill, before, Chain, top, below, lastPage, lastSettled, lastHolder, whole}
 use Rattle.upward.specs.Taking.{Taking, taking, taking-whole}
-use Rattle.upward.specs.Stops.{behind, size-fill}
-
--- ── the bytes of a row around a spot ──
-
--- The bytes before the spot, if what fills it has n bytes.
-abbrev pub front : Spot → (n : ℕ) → List ℕ
-front (here left) n = bytes left
-front (inside left h rest s) n = bytes left ++ header 1 (h .label) (6 + (before s + n + behind s)) ++ front s n
-
--- The bytes behind what fills it.
-abbrev pub back : Spot → List ℕ
-back (here left) = []
-back (inside left h rest s) = back s ++ bytes rest
-
-pub bytes-fill : (s : Spot) (x : Row) → bytes (fill s x) ≡ front s (size x) ++ bytes x ++ back s
-bytes-fill (here left) x = bytes-⊹ left x ∙ ap (λ (z : List ℕ). bytes left ++ z) (sym (append-nil (bytes x))) ∙ sym (append-assoc (bytes left) (bytes x) [])
-bytes-fill (inside left h rest s) x =
-    bytes-⊹ left (agg h (fill s x) rest) ∙ rw (bytes-fill s x, size-fill s x) (simp append-assoc)
-
-pub length-front : (s : Spot) (n : ℕ) → length (front s n) ≡ before s
-length-front (here left) n = length-bytes left
-length-front (inside left h rest s) n = simp (length-append, length-bytes, length-front s n) (omega arith)
-
-pub length-back : (s : Spot) → length (back s) ≡ behind s
-length-back (here left) = refl
-length-back (inside left h rest s) = simp (length-append, length-bytes, length-back s)
 
 -- ── the records of a chain ──
 
@@ -68,11 +42,6 @@ module _ (img : List ℕ) where
       let z : pos + 8 + size rest ≡ pos + (8 + size rest) = omega arith in
       subst (λ (n : ℕ). Here img page n b) z (here-⊹ page (pos + 8) rest b (rec-view img page pos p s r (rest ⊹ b) v .after))
 
-  -- The aggregates around what fills a spot of the row at pos stand in the image.
-  abbrev pub Around : (page pos : ℕ) → Spot → Row → Type 0
-  Around page pos (here left) x = Unit {0}
-  Around page pos (inside left h rest s) x = AggView img page (pos + size left) h (fill s x) rest × Around page (pos + size left + 6) s x
-
   -- What fills a spot stands there,
   pub here-fill : (page pos : ℕ) (s : Spot) (x : Row) → Here img page pos (fill s x) → Here img page (pos + before s) x
   here-fill page pos (here left) x v = here-⊹ page pos left x v
@@ -80,13 +49,6 @@ module _ (img : List ℕ) where
       let g = agg-view img page (pos + size left) h (fill s x) rest (here-⊹ page pos left (agg h (fill s x) rest) v) in
       let z : pos + size left + 6 + before s ≡ pos + (size left + 6 + before s) = omega arith in
       subst (λ (n : ℕ). Here img page n x) z (here-fill page (pos + size left + 6) s x (g .children))
-
-  -- and so do the aggregates around it.
-  pub here-around : (page pos : ℕ) (s : Spot) (x : Row) → Here img page pos (fill s x) → Around page pos s x
-  here-around page pos (here left) x v = tt
-  here-around page pos (inside left h rest s) x v =
-      let g = agg-view img page (pos + size left) h (fill s x) rest (here-⊹ page pos left (agg h (fill s x) rest) v) in
-      (g, here-around page (pos + size left + 6) s x (g .children))
 
   proxy-in : (c : Chain) (s : Spot) (q : ℕ) (b : Bool) (rest row : Row) → OnPage img (lastPage c) (lastHolder c) (fill s (rec q b row rest))
       → Here img (lastPage c) (proxyAt c s q b rest row) (rec q b row rest)
@@ -107,22 +69,12 @@ module _ (img : List ℕ) where
         → Here img (lastPage c) (proxyAt c s q b rest row) (rec q b row rest)
     chain-here c s q b rest row e = proxy-in c s q b rest row (chain-page c (fill s (rec q b row rest)) e)
 
-    pub chain-proxy : (c : Chain) (s : Spot) (q : ℕ) (b : Bool) (rest row : Row) → whole (below c s q b rest) row ≡ root
-        → RecView img (lastPage c) (proxyAt c s q b rest row) q b row rest
-    chain-proxy c s q b rest row e = rec-view img (lastPage c) (proxyAt c s q b rest row) q b row rest (chain-here c s q b rest row e)
-
     -- The bytes of its page.
     pub chain-bytes : (c : Chain) (row : Row) → whole c row ≡ root → pageOf img (lastPage c) ≡ recordPage (lastHeld c row)
     chain-bytes top row e =
         let m : Stored (pageOf img) 0 (store root) = rw (r .same) (stored-image st root (reads-valid img st root r)) in
         rw e (m .0)
     chain-bytes (below c s q b rest) row e = chain-here c s q b rest row e .stored .0
-
-    -- The byte of its page that says whether it is settled.
-    pub chain-settled : (c : Chain) (row : Row) → whole c row ≡ root → getD img (4096 * lastPage c + 4081) 0 ≡ cond (lastSettled c) 1 0
-    chain-settled c row e =
-        sym (getD-drop (4096 * lastPage c) img 4081 0) ∙ sym (getD-take 4096 (drop (4096 * lastPage c) img) 4081 0 (omega arith))
-        ∙ ap (λ (z : List ℕ). getD z 4081 0) (chain-bytes c row e) ∙ in-trailer (lastHeld c row) (chain-page c row e .fits) 1
 
     -- Where the new node goes, the row that follows it stands now.
     pub taking-here : (path : List ℕ) (k : ℕ) (t : Taking) → taking root path k ≡ some t

@@ -77,11 +77,6 @@ in-found k c s i path (rec q b r rest) n e o =
     let (m, g, f) = unmap (further (width r)) (nodeAt (i - width r) path (shown rest)) n (sym right ∙ e) in
     in-found k c (past s (rec q b r nil)) (i - width r) path rest m g (open-same (further (width r)) k m n (λ n. refl) (λ n. refl) f o))
 
--- A place for child k of an aggregate that has k children or more.
-pub taking-found : (root : Row) (path : List ℕ) (k : ℕ) (p : Node) → named (shown root) path ≡ some p → p .kind ≡ 1 → k ≤ p .children
-    → (t : Taking) × (taking root path k ≡ some t)
-taking-found root path k p e a b = in-found k top (here nil) 0 path root p e (record { kind = λ t. let z : _≡_ {A = ℕ} 1 2 = sym a ∙ t in omega arith; many = b })
-
 -- A place for what passes the tests of an insert.
 pub taking-accepted : (root : Row) (path : List ℕ) (k : ℕ) (x : New) (full : Bool) → Accepted (shown root) path k x full
     → (t : Taking) × (taking root (pathOf path) k ≡ some t)
@@ -96,10 +91,3 @@ taking-accepted root path k x full a = go (entries path) (a .named) (a .aggregat
         → childrenBelow k (namedIf (shown root) o) ≡ false → Found (taking root (orEmpty o) k)
     go none f g h = absurd (true≢false f)
     go (some p) f g h = under p (named (shown root) p) refl f g h
-
--- The two together: the model's insert, from the root record downwards, is the code's, from the record that takes the node upwards.
-pub grow-upward : (st : Config) (x : New) (root : Row) (path : List ℕ) (k : ℕ) (p : Node) → named (shown root) path ≡ some p → p .kind ≡ 1 → k ≤ p .children
-    → (t : Taking) × (taking root path k ≡ some t) × (wholeOf t ≡ root) × (grow st root path k x ≡ risen st x t (atRest st root))
-grow-upward st x root path k p e a b =
-    let (t, f) = taking-found root path k p e a b in
-    (t, f, taking-whole root path k t f, grow-rises st x root path k t f)

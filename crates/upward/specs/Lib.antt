@@ -2,6 +2,6 @@ pub mod Chain
 pub mod Taking
 pub mod Exists
 pub mod Beside
-pub mod Stops
+pub mod Fit
 pub mod Steady
 pub mod Bytes

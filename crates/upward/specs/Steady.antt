@@ -12,7 +12,6 @@ use Rattle.model.specs.Growth.{Work, freeFrom, taken, apart, asRow, place}
 use Rattle.laws.specs.Laws.{size-⊹, ⊹-assoc}
 use Rattle.upward.specs.Chain.{Spot, here, inside, fill, past, into, Chain, top, below, lastPage}
 use Rattle.upward.specs.Taking.{Taking, takingAt, takingAfter, takingChild, takingIn, taking, received}
-use Rattle.upward.specs.Stops.{size-fill, lone-⊹}
 
 -- ── the spots of taking places ──
 
@@ -95,6 +94,18 @@ in-steady k c s i path (rec q b r rest) t e =
 
 -- ── one node more ──
 
+nil-⊹ : (a x y : Row) → isNil x ≡ isNil y → isNil (a ⊹ x) ≡ isNil (a ⊹ y)
+nil-⊹ nil x y e = e
+nil-⊹ (agg h cs rest) x y e = refl
+nil-⊹ (lit h c rest) x y e = refl
+nil-⊹ (rec p s r rest) x y e = refl
+
+lone-⊹ : (a x y : Row) → lone x ≡ lone y → isNil x ≡ isNil y → lone (a ⊹ x) ≡ lone (a ⊹ y)
+lone-⊹ nil x y l e = l
+lone-⊹ (agg h cs rest) x y l e = nil-⊹ rest x y e
+lone-⊹ (lit h c rest) x y l e = nil-⊹ rest x y e
+lone-⊹ (rec p s r rest) x y l e = refl
+
 -- two rows that are not empty are no lone node
 two-rows : (a b : Row) → isNil a ≡ false → isNil b ≡ false → lone (a ⊹ b) ≡ false
 two-rows nil b e f = absurd (true≢false e)
@@ -116,12 +127,6 @@ module _ (root : Row) (path : List ℕ) (k : ℕ) (t : Taking) (e : taking root 
   -- Nodes at the place leave the record with the root that it had: a helper, or an aggregate.
   pub taking-lone : lone (fill (t .spot) (one ⊹ t .rest)) ≡ lone (fill (t .spot) (t .rest))
   taking-lone = steady-lone (t .spot) one (t .rest) some-node (in-steady k top (here nil) 0 path root t e)
-
-  -- The record grows by their bytes.
-  pub taking-size : recordSize (fill (t .spot) (one ⊹ t .rest)) ≡ recordSize (fill (t .spot) (t .rest)) + size one
-  taking-size =
-      rw taking-lone
-      (omega (arith, size-fill (t .spot) (one ⊹ t .rest), size-fill (t .spot) (t .rest), size-⊹ one (t .rest)))
 
 -- ── the new node ──
 
@@ -148,19 +153,3 @@ module _ (st : Config) (x : New) (parent : Head) (page : ℕ) (w : Work) where
       go true b = refl
       go false true = refl
       go false false = refl
-
-module _ (st : Config) (x : New) (root : Row) (path : List ℕ) (k : ℕ) (t : Taking) (e : taking root path k ≡ some t) (w : Work) where
-  pub received-row : received st x t w .0 ≡ fill (t .spot) (asPlaced st x (t .parent) (lastPage (t .chain)) w ⊹ t .rest)
-  received-row = ap (fill (t .spot)) (place-row st x (t .parent) (lastPage (t .chain)) w (t .rest))
-
-  -- The record keeps its root, a helper or an aggregate,
-  pub received-lone : lone (received st x t w .0) ≡ lone (fill (t .spot) (t .rest))
-  received-lone =
-      let one = asPlaced st x (t .parent) (lastPage (t .chain)) w in
-      ap lone received-row ∙ taking-lone root path k t e one (placed-some st x (t .parent) (lastPage (t .chain)) w)
-
-  -- and grows by the bytes of the new node, or of its proxy.
-  pub received-size : recordSize (received st x t w .0) ≡ recordSize (fill (t .spot) (t .rest)) + size (asPlaced st x (t .parent) (lastPage (t .chain)) w)
-  received-size =
-      let one = asPlaced st x (t .parent) (lastPage (t .chain)) w in
-      ap recordSize received-row ∙ taking-size root path k t e one (placed-some st x (t .parent) (lastPage (t .chain)) w)

@@ -16,7 +16,7 @@ use Rattle.upward.specs.Chain.{Spot, here, inside, fill, Chain, top, below, las
 use Rattle.writes.specs.Memory.{Mem}
 use Rattle.reads.specs.Decode.{stored-same}
 use Rattle.writes.specs.Links.{Loose, self, loose-⊹, loose-parts, stored-⊹, stored-parts}
-use Rattle.upward.specs.Stops.{fits-fill}
+use Rattle.upward.specs.Fit.{fits-fill}
 
 -- ── what fills a spot ──
 

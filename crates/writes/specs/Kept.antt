@@ -16,7 +16,7 @@ use Rattle.upward.specs.Chain.{Spot, fill, Chain, top, below, lastPage, lastSet
 use Rattle.writes.specs.Memory.{Mem, blank, setMem, putMem, keptMem, riseMem, placeMem, State, separatorM}
 use Rattle.writes.specs.Links.{Loose, self, stored-loose, loose-agree, set-other, put-other, put-same, put-stored}
 use Rattle.writes.specs.Steps.{Now, Kept, Step, bit-le, bit-false, step-own, step-separator}
-use Rattle.upward.specs.Stops.{fits-fill}
+use Rattle.upward.specs.Fit.{fits-fill}
 use Rattle.writes.specs.Back.{fits-whole, fits-rise}
 use Rattle.writes.specs.Around.{count-fill, loose-fill, Around, assemble, disassemble, own, beyond, around-agree, beyond-first, count-whole, Low, rise-stays, rise-goes, chain-low}
 

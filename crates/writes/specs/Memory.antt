@@ -118,6 +118,3 @@ module _ (st : Config) where
 
   abbrev pub separatorM : (near : ℕ) → Row → Work → Mem → State
   separatorM near r w m = record { row = separator st near r w .0; work = separator st near r w .1; mem = separatorMem st near r w m }
-
-  abbrev pub riseM : Chain → Row → Work → Mem → State
-  riseM c r w m = record { row = rise st c (r, w) .0; work = rise st c (r, w) .1; mem = riseMem st c r w m }

@@ -6,7 +6,8 @@ use native.Mathlib.Omega.{arith}
 use lib.ListN.{length}
 use borrow.Author.Needs.{needs}
 use Rattle.pages.specs.Write.{setPage, pageBytesOf}
-use Rattle.fresh.specs.Apart.{found-inside, own, wet, idle}
+use Rattle.split.specs.Group.{wet, still}
+use Rattle.fresh.specs.Apart.{found-inside, own}
 use Rattle.fresh.proofs.place_apart.Statement.{statement}
 use Rattle.fresh.proofs.place_apart.Tie as tie
 
@@ -43,7 +44,7 @@ returns c =
     let old = s .args .image .now in
     let new = setPage q (pageBytesOf (s .args .node .now) 1 (s .args .page)) old in
     let i : c .before .before .before .before .if1 .image ≡ cond (s .args .dry) old new =
-    ⊎-elim (λ w. wet (s .args .dry) old new _ (w .0 .taken) (w .5 ∙ w .2 .ensures)) (λ w. idle (s .args .dry) old new _ (w .0 .left) (w .1)) (c .before .before .before .before .if1 .came) in
+    ⊎-elim (λ w. wet (s .args .dry) _ old new (w .0 .taken) (w .5 ∙ w .2 .ensures)) (λ w. still (s .args .dry) _ old new (w .0 .left) (w .1)) (c .before .before .before .before .if1 .came) in
     λ st e row l b. own st _ q _ (s .args .dry) row (s .args .node .now) _ old _ _ _ e (f .first-free .ensures st e) l b i (c .before .before .put-proxy .ensures)
 
 pub place-apart-spec : {M : Type 1} → statement M
