@@ -5,7 +5,9 @@ use Prim.Native.Nat.{ℕ, zero, suc, _+_, _-_, _≤_}
 use native.Mathlib.Omega.{arith}
 use borrow.Author.Tests.{ltb-true, ltb-false, le-ltb}
 use lib.Dec.{ltb}
-use lib.IntN.{pos, negsuc, subℕ, _-ℤ_}
+use lib.IntN.{ℤ, pos, negsuc, subℕ, _-ℤ_}
+use mir.Syntax.{w32}
+use mir.Val.{SFits}
 use Rattle.model.specs.Claims.{InLean}
 
 pub minus-is : (d p : ℕ) → pos d -ℤ pos p ≡ subℕ d p
@@ -21,3 +23,8 @@ lean-bounds d p h = go (ltb d p) refl h
     go : (b : Bool) → ltb d p ≡ b → InLean (cond b (negsuc (p - suc d)) (pos (d - p))) → (p ≤ d + 525) × (d ≤ p + 132)
     go true e h = omega (arith, ltb-true d p e)
     go false e h = omega (arith, ltb-false d p e)
+
+-- An i32 holds it.
+pub lean-signed : (z : ℤ) → InLean z → SFits w32 z
+lean-signed (pos n) h = record { sfits = omega arith }
+lean-signed (negsuc n) h = record { sfits = omega arith }

@@ -1,15 +1,15 @@
 -- What the searches read, and where they lead.
 use mathlib.Core.Path.{_≡_, refl, sym, ap, ap₂, _∙_}
-use mathlib.Core.Bool.{Bool, true, false, cond, not, _&&_, _||_}
+use mathlib.Core.Bool.{Bool, true, false, cond, not, _&&_, _||_, false≢true}
 use mathlib.Core.List.{List, []}
 use mathlib.Core.Logic.{_⊎_, inl, inr}
 use Prim.Native.Nat.{ℕ, zero, suc, _+_, _<_, _≤_}
 use native.Mathlib.Omega.{arith}
 use native.Mathlib.Nat.{add-zero, add-assoc}
-use borrow.Author.Tests.{lt-ltb, le-ltb, lt-leb, le-leb, eq-eqb, ne-eqb, ltb-true, ltb-false}
-use lib.Dec.{ltb, leb, eqb}
+use borrow.Author.Tests.{lt-ltb, le-ltb, lt-leb, le-leb, ltb-true, ltb-false}
+use lib.Dec.{ltb, leb}
 use lib.ListN.{length, getD}
-use Rattle.model.specs.Row.{Row, nil, agg, lit, rec, _⊹_, size, isNil, loneRec, bytes, Config}
+use Rattle.model.specs.Row.{Row, nil, agg, lit, rec, _⊹_, size, isNil, loneRec, bytes, standing, mayStand, Config}
 use Rattle.model.specs.Reading.{twoAt}
 use Rattle.model.specs.Growth.{stops, startOf}
 use Rattle.laws.specs.Laws.{length-bytes}
@@ -40,22 +40,28 @@ not-or : (a b : Bool) → not (a || b) ≡ not a && not b
 not-or true b = refl
 not-or false b = refl
 
-into-read : (st : Config) (tol : ℕ) (r : Row) → st .tolerance ≡ tol → goesInto st r ≡ eqb (kindOf r) 1 && (ltb 6 (sizeOf r) && leb tol (sizeOf r))
-into-read st tol nil e = refl
-into-read st tol (agg h cs rest) e =
+-- By the table an aggregate may stand only in an aggregate, of the nodes that a row can hold.
+into-read : (st : Config) (tol : ℕ) (r : Row) → 0 < size r → st .tolerance ≡ tol → goesInto st r ≡ mayStand (kindOf r) 1 && (ltb 6 (sizeOf r) && leb tol (sizeOf r))
+unfolding mayStand standing
+into-read st tol nil k e = absurd (omega arith)
+into-read st tol (agg h cs rest) k e =
     not-or (isNil cs) (ltb (6 + size cs) (st .tolerance))
     ∙ ap₂ _&&_ (some-test cs ∙ sym (ltb-shift 6 (size cs) (6 + size cs) refl)) (not-ltb (6 + size cs) (st .tolerance) _ refl ∙ ap (λ t. leb t (6 + size cs)) e)
-into-read st tol (lit h c rest) e = refl
-into-read st tol (rec p s r rest) e = refl
+into-read st tol (lit h c rest) k e = refl
+into-read st tol (rec p s r rest) k e = refl
 
 pub not-next : (a b d : ℕ) → ((a < b) × (leb a d ≡ false)) ⊎ (b ≤ a) → ltb a b && leb a d ≡ false
 not-next a b d (inl (h, e)) = rw (lt-ltb a b h, e)
 not-next a b d (inr h) = rw (le-ltb a b h)
 
-pub not-into : (a b d : ℕ) → ((a ≡ 1) × (ltb 6 b ≡ true) × (leb d b ≡ false)) ⊎ (((a ≡ 1) × (ltb 6 b ≡ false)) ⊎ (a ≡ 1 → ⊥)) → eqb a 1 && (ltb 6 b && leb d b) ≡ false
-not-into a b d (inl (e, k, m)) = rw (eq-eqb a 1 e, k, m)
-not-into a b d (inr (inl (e, k))) = rw (eq-eqb a 1 e, k)
-not-into a b d (inr (inr e)) = rw (ne-eqb a 1 e)
+pub not-into : (a r : Bool) (b d : ℕ) → r ≡ a → ((r ≡ true) × (ltb 6 b ≡ true) × (leb d b ≡ false)) ⊎ (((r ≡ true) × (ltb 6 b ≡ false)) ⊎ (r ≡ false)) → a && (ltb 6 b && leb d b) ≡ false
+not-into a r b d q (inl (e, k, m)) = rw (← q, e, k, m)
+not-into a r b d q (inr (inl (e, k))) = rw (← q, e, k)
+not-into a r b d q (inr (inr e)) = rw (← q, e)
+
+-- The table's answer on a byte that was read as a number.
+pub by-byte : {b k : ℕ} {r : Bool} → k ≡ b → r ≡ mayStand k 1 → r ≡ mayStand b 1
+by-byte e q = q ∙ ap (λ (k : ℕ). mayStand k 1) e
 
 -- ── where d starts ──
 
@@ -73,11 +79,12 @@ start-by st p pos (agg h cs rest) k =
 start-by st p pos (lit h c rest) k = refl
 start-by st p pos (rec q s r rest) k = refl
 
-pub kids-size : (r : Row) → kindOf r ≡ 1 → sizeOf r ≡ 6 + size (kidsOf r)
-kids-size nil e = absurd (omega arith)
-kids-size (agg h cs rest) e = refl
-kids-size (lit h c rest) e = absurd (omega arith)
-kids-size (rec p s r rest) e = absurd (omega arith)
+kids-size : (r : Row) → 0 < size r → mayStand (kindOf r) 1 ≡ true → sizeOf r ≡ 6 + size (kidsOf r)
+unfolding mayStand standing
+kids-size nil k e = absurd (omega arith)
+kids-size (agg h cs rest) k e = refl
+kids-size (lit h c rest) k e = absurd (false≢true e)
+kids-size (rec p s r rest) k e = absurd (false≢true e)
 
 -- The search at pos, in a row that ends at stop, leads to t.
 pub record Sought (l : List ℕ) (st : Config) (p pos stop t : ℕ) : Type 0 where
@@ -93,11 +100,11 @@ module _ (l : List ℕ) (st : Config) (p tol pos stop t n : ℕ) (te : st .toler
 
   -- the choice in terms of what is read
   read : t ≡ cond (ltb (pos + n) stop && leb (pos + n) p) (startOf st p (pos + n) (restOf (w .kids .row)))
-      (cond (eqb (getD l pos 0) 1 && (ltb 6 n && leb tol n)) (startOf st p (pos + 6) (kidsOf (w .kids .row))) pos)
+      (cond (mayStand (getD l pos 0) 1 && (ltb 6 n && leb tol n)) (startOf st p (pos + 6) (kidsOf (w .kids .row))) pos)
   read =
       let r = w .kids .row in
       let e : stop ≡ pos + sizeOf r + size (restOf r) = omega (arith, first (w .kids) .total, w .kids .ends) in
-      rw (n-is, first (w .kids) .kind-is, ← goes-read p (pos + sizeOf r) stop (restOf r) e, ← into-read st tol r te)
+      rw (n-is, first (w .kids) .kind-is, ← goes-read p (pos + sizeOf r) stop (restOf r) e, ← into-read st tol r (w .kids .some) te)
       (sym (w .same) ∙ start-by st p pos r (w .kids .some))
 
   pub next-step : pos + n < stop → ltb (pos + n) stop && leb (pos + n) p ≡ true → Sought l st p (pos + n) stop t
@@ -112,10 +119,10 @@ module _ (l : List ℕ) (st : Config) (p tol pos stop t n : ℕ) (te : st .toler
     same = sym (rw h at read);
   }
 
-  pub into-step : ltb (pos + n) stop && leb (pos + n) p ≡ false → getD l pos 0 ≡ 1 → ltb 6 n ≡ true → leb tol n ≡ true → Sought l st p (pos + 6) (pos + n) t
+  pub into-step : ltb (pos + n) stop && leb (pos + n) p ≡ false → mayStand (getD l pos 0) 1 ≡ true → ltb 6 n ≡ true → leb tol n ≡ true → Sought l st p (pos + 6) (pos + n) t
   into-step h e k m =
-      let s : sizeOf (w .kids .row) ≡ 6 + size (kidsOf (w .kids .row)) = kids-size (w .kids .row) (sym (first (w .kids) .kind-is) ∙ e) in
-      let g : eqb (getD l pos 0) 1 && (ltb 6 n && leb tol n) ≡ true = rw (eq-eqb (getD l pos 0) 1 e, k, m) in
+      let s : sizeOf (w .kids .row) ≡ 6 + size (kidsOf (w .kids .row)) = kids-size (w .kids .row) (w .kids .some) (rw (first (w .kids) .kind-is) at e) in
+      let g : mayStand (getD l pos 0) 1 && (ltb 6 n && leb tol n) ≡ true = rw (e, k, m) in
       record {
         kids = record {
           row = kidsOf (w .kids .row);
@@ -127,7 +134,7 @@ module _ (l : List ℕ) (st : Config) (p tol pos stop t n : ℕ) (te : st .toler
         same = sym (rw (h, g) at read);
       }
 
-  pub here-step : ltb (pos + n) stop && leb (pos + n) p ≡ false → eqb (getD l pos 0) 1 && (ltb 6 n && leb tol n) ≡ false → pos ≡ t
+  pub here-step : ltb (pos + n) stop && leb (pos + n) p ≡ false → mayStand (getD l pos 0) 1 && (ltb 6 n && leb tol n) ≡ false → pos ≡ t
   here-step h g = sym (rw (h, g) at read)
 
 -- ── the child at one level ──
@@ -179,17 +186,17 @@ module _ (l : List ℕ) (p pos end t n : ℕ) (w : Going l p pos end t) (is : n 
 -- ── whether the split goes on ──
 
 module _ (l : List ℕ) (x end : ℕ) (w : Kids l x end) (st : Config) (tol n : ℕ) (te : st .tolerance ≡ tol) (is : n ≡ twoAt l (x + 4)) where
-  into-is : goesInto st (w .row) ≡ eqb (getD l x 0) 1 && (ltb 6 n && leb tol n)
-  into-is = rw (is, first w .size-is, first w .kind-is) (into-read st tol (w .row) te)
+  into-is : goesInto st (w .row) ≡ mayStand (getD l x 0) 1 && (ltb 6 n && leb tol n)
+  into-is = rw (is, first w .size-is, first w .kind-is) (into-read st tol (w .row) (w .some) te)
 
-  pub into-no : (getD l x 0 ≡ 1 → ⊥) → false ≡ goesInto st (w .row)
-  into-no h = sym (into-is ∙ rw (ne-eqb (getD l x 0) 1 h))
+  pub into-no : mayStand (getD l x 0) 1 ≡ false → false ≡ goesInto st (w .row)
+  into-no h = sym (into-is ∙ rw h)
 
-  pub into-empty : getD l x 0 ≡ 1 → n ≤ 6 → false ≡ goesInto st (w .row)
-  into-empty h g = sym (into-is ∙ rw (eq-eqb (getD l x 0) 1 h, le-ltb 6 n g))
+  pub into-empty : mayStand (getD l x 0) 1 ≡ true → n ≤ 6 → false ≡ goesInto st (w .row)
+  into-empty h g = sym (into-is ∙ rw (h, le-ltb 6 n g))
 
-  pub into-size : getD l x 0 ≡ 1 → 6 < n → leb tol n ≡ goesInto st (w .row)
-  into-size h g = sym (into-is ∙ rw (eq-eqb (getD l x 0) 1 h, lt-ltb 6 n g))
+  pub into-size : mayStand (getD l x 0) 1 ≡ true → 6 < n → leb tol n ≡ goesInto st (w .row)
+  into-size h g = sym (into-is ∙ rw (h, lt-ltb 6 n g))
 
 -- ── whether a group stays ──
 
@@ -211,8 +218,17 @@ stays-not (agg h cs rest) l e z k = refl
 stays-not (lit h c rest) l e z k = refl
 stays-not (rec p s r rest) l e z k = sym (not-nil rest (omega (arith, length-bytes (rec p s r rest), ap length e)))
 
-pub stays-kind : (g : Row) (l : List ℕ) → l ≡ bytes g → length l ≡ 8 → eqb (getD l 0 0) 3 ≡ (isNil g || loneRec g)
+-- Of the nodes that a row can hold only a proxy may not be a record's root.
+pub stays-kind : (g : Row) (l : List ℕ) → l ≡ bytes g → length l ≡ 8 → not (mayStand 0 (getD l 0 0)) ≡ (isNil g || loneRec g)
+unfolding mayStand standing
 stays-kind nil l e z = absurd (omega (arith, ap length e))
-stays-kind (agg h cs rest) l e z = ap (λ (b : List ℕ). eqb (getD b 0 0) 3) e
-stays-kind (lit h c rest) l e z = ap (λ (b : List ℕ). eqb (getD b 0 0) 3) e
-stays-kind (rec p s r rest) l e z = ap (λ (b : List ℕ). eqb (getD b 0 0) 3) e ∙ sym (rest-nil rest (omega (arith, length-bytes (rec p s r rest), ap length e)))
+stays-kind (agg h cs rest) l e z = ap (λ (b : List ℕ). not (mayStand 0 (getD b 0 0))) e
+stays-kind (lit h c rest) l e z = ap (λ (b : List ℕ). not (mayStand 0 (getD b 0 0))) e
+stays-kind (rec p s r rest) l e z =
+    ap (λ (b : List ℕ). not (mayStand 0 (getD b 0 0))) e ∙ sym (rest-nil rest (omega (arith, length-bytes (rec p s r rest), ap length e)))
+
+pub stays-unknown : {A : Type 0} (g : Row) (l : List ℕ) → l ≡ bytes g → length l ≡ 8 → 4 < getD l 0 0 → A
+stays-unknown nil l e z k = absurd (omega (arith, ap length e))
+stays-unknown (agg h cs rest) l e z k = absurd (omega (arith, ap (λ (b : List ℕ). getD b 0 0) e))
+stays-unknown (lit h c rest) l e z k = absurd (omega (arith, ap (λ (b : List ℕ). getD b 0 0) e))
+stays-unknown (rec p s r rest) l e z k = absurd (omega (arith, ap (λ (b : List ℕ). getD b 0 0) e))

@@ -123,6 +123,16 @@ node l pos (rec p b r rest) h k s =
       rest = at-rest l (two p) (s .post) pos 3 0 8 rest e refl m;
     }
 
+kind-low : (r : Row) → kindOf r < 5
+kind-low nil = omega arith
+kind-low (agg h cs rest) = omega arith
+kind-low (lit h c rest) = omega arith
+kind-low (rec p s r rest) = omega arith
+
 -- The first node of a row that stands.
 pub first : {l : List ℕ} {pos end : ℕ} (w : Kids l pos end) → Node l pos (w .row)
 first {l} {pos} {end} w = node l pos (w .row) (w .some) (omega (arith, w .ends, w .small)) (w .stands)
+
+-- Its kind has an entry in the table.
+pub first-low : {l : List ℕ} {pos end : ℕ} (w : Kids l pos end) → getD l pos 0 < 5
+first-low w = rw (first w .kind-is) (kind-low (w .row))

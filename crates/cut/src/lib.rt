@@ -1,9 +1,11 @@
 // Where a record splits: the split point, the node d, the child of a level at which the split goes on.
+use kinds::may_stand;
 use octets::two;
+use octets::wide;
 ghost use mathlib.Core.Path.{_≡_};
 ghost use mathlib.Core.Bool.{_||_};
 ghost use Prim.Native.Nat.{ℕ, _+_, _≤_, _<_};
-ghost use lib.ListN.{length};
+ghost use lib.ListN.{length, getD};
 ghost use lib.IntN.{subℕ};
 ghost use Rattle.model.specs.Row.{Row, size, bytes, isNil, loneRec, Config};
 ghost use Rattle.model.specs.Growth.{splitPoint, startOf};
@@ -31,7 +33,7 @@ pub fn start_of(buf: &[u8], start: usize, end: usize, p: usize, tolerance: usize
         let next = pos + size;
         if next < stop && next <= p {
             pos = next;
-        } else if buf[pos] == 1 && 6 < size && tolerance <= size {
+        } else if may_stand(wide(buf[pos]), 1) && 6 < size && tolerance <= size {
             pos += 6;
             stop = next;
         } else {
@@ -56,13 +58,13 @@ pub fn child(buf: &[u8], start: usize, end: usize, p: usize) -> usize
     }
 }
 
-// Whether the split goes on inside the node at x.
+// Whether the split goes on inside the node at x: only where an aggregate may stand in it.
 pub fn enters(buf: &[u8], x: usize, tolerance: usize) -> bool
-    requires { ⌜ x + 6 ≤ length (now buf) ⌝ }
+    requires { ⌜ (x + 6 ≤ length (now buf)) × (getD (now buf) x 0 < 5) ⌝ }
     ensures { λ r. ⌜ ((end : ℕ) (w : Kids (now (buf .entry)) x end) (st : Config) → st .tolerance ≡ tolerance → r ≡ goesInto st (w .row)) ⌝ }
 {
     let size = two(buf, x + 4);
-    if buf[x] != 1 {
+    if !may_stand(wide(buf[x]), 1) {
         return false;
     }
     if size <= 6 {
@@ -71,7 +73,7 @@ pub fn enters(buf: &[u8], x: usize, tolerance: usize) -> bool
     tolerance <= size
 }
 
-// Whether a group is left alone: no node, or one proxy.
+// Whether a group is left alone: no node, or one proxy, the node that may not be a record's root.
 pub fn stays(part: &[u8]) -> bool
     ensures { λ r. ⌜ ((g : Row) → now (part .entry) ≡ bytes g → r ≡ (isNil g || loneRec g)) ⌝ }
 {
@@ -82,7 +84,11 @@ pub fn stays(part: &[u8]) -> bool
     if n != 8 {
         return false;
     }
-    part[0] == 3
+    let kind = wide(part[0]);
+    if 4 < kind {
+        return false;
+    }
+    !may_stand(0, kind)
 }
 
 // The lean: the start of d minus p.

@@ -61,7 +61,7 @@ module _ (st : Config) (x : New) (parent : Head) (page : ℕ) (w : Work) where
           });
           full = λ rest. rw (e, ← z) (ap (λ (b : Bool). w .full || b) (own .full));
           image = rw (e, ← z) (own .image);
-          past = rw (own .used) (set-past (st .pages) q u₀ i beyond);
+          past = rw (own .used) (set-past (st .pages) q 1 u₀ i beyond);
         }
 
     pub placed-within : (node o : List ℕ) → apart st parent (x .head) ≡ false → node ≡ bytes (asRow st x nil) → o ≡ over 0 node o₀ → Placed dry img₀ o₀ (length node) false u₀ img₀ o

@@ -1,49 +1,16 @@
 // The check of an image: the length, page 0, all trailers and free pages, then the walk from page 1 through the proxies.
+use kinds::may_stand;
 use octets::two;
 use octets::wide;
 ghost use mathlib.Core.Path.{_≡_};
 ghost use mathlib.Core.Bool.{true};
 ghost use Prim.Native.Nat.{_+_, _-_, _*_, _≤_, _<_};
 ghost use lib.ListN.{length};
-ghost use Rattle.model.specs.Row.{mayStand};
 ghost use Rattle.model.specs.Reading.{lengthOk};
 ghost use Rattle.walks.specs.Tests.{sizeOf, twoChildren, shapeOf, headOf, isMarked, marked, namesOf, rootFits, allZero, matrixOk, stateOf, numbersOk, settingsOk, firstOk};
 ghost use Rattle.walks.specs.Walk.{state, entersOf, nodeOf, listOf, proxyOf};
 ghost use Rattle.walks.specs.Check.{scanFrom, trailersOf, walkOk, checkBy};
 ghost use Rattle.inspect.specs.Leaf.{standsOf, aggregateOf, literalOf, Only};
-
-// Row: the holder, 0 a record's page. Column: the kind.
-pub const MAY_STAND: [u8; 25] = [
-    // a record's page
-    0,
-    1,
-    1,
-    0,
-    1,
-    // an aggregate
-    0,
-    1,
-    1,
-    1,
-    0,
-    // a literal, a proxy
-    0,
-    0,
-    0,
-    0,
-    0,
-    0,
-    0,
-    0,
-    0,
-    0,
-    // a helper
-    0,
-    1,
-    1,
-    1,
-    0,
-];
 
 // ── nodes ──
 
@@ -62,14 +29,6 @@ pub fn size_of(part: &[u8]) -> usize
         return 0;
     }
     n
-}
-
-// Whether a node of a kind may stand in a holder.
-pub fn may_stand(holder: usize, kind: usize) -> bool
-    requires { ⌜ (holder < 5) × (kind < 5) ⌝ }
-    ensures { λ r. ⌜ r ≡ mayStand holder kind ⌝ }
-{
-    MAY_STAND[holder * 5 + kind] == 1
 }
 
 // Whether a list of nodes starts with a whole node and goes on after it.

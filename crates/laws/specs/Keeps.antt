@@ -124,8 +124,8 @@ base-kept r r′ (more r₁ h) n k = go (lone r) refl
 
 -- ── a record after growth ──
 
--- the separator of a settled record has one node
-separator-lone : (st : Config) (near : ℕ) (r : Row) (w : Work) → lone r ≡ true → lone (separator st near r w .0) ≡ true
+-- The separator of a record of one node has one node.
+pub separator-lone : (st : Config) (near : ℕ) (r : Row) (w : Work) → lone r ≡ true → lone (separator st near r w .0) ≡ true
 unfolding separator
 separator-lone st near nil w e = absurd (false≢true e)
 separator-lone st near (agg l cs rest) w e = rw e e

@@ -123,7 +123,7 @@ module _ (st : Config) where
   shown-withRow true (lit l c rest) new e = refl
   shown-withRow true (rec p s r rest) new e = refl
 
-  shown-separator : (near : ℕ) (r : Row) (w : Work) → Shows (shown r) (separator st near r w)
+  pub shown-separator : (near : ℕ) (r : Row) (w : Work) → Shows (shown r) (separator st near r w)
   unfolding separator
   shown-separator near r w = shown-withRow (lone r) r _ (shown-separate st near _ 6 nil (rootRow st (lone r) r) w)
 
@@ -132,7 +132,7 @@ module _ (st : Config) where
   shown-kept q o =
       cond-case (Shows (shown (o .0))) (leb (recordSize (o .0)) 4080) (λ e. refl) (λ e. shown-separator q (o .0) (counted st (o .0) (o .1)))
 
-  shown-close : (q : ℕ) (s : Bool) (rest : Row) (o : Out) → Shows (shown (o .0) ⊞ shown rest) (close st q s rest o)
+  pub shown-close : (q : ℕ) (s : Bool) (rest : Row) (o : Out) → Shows (shown (o .0) ⊞ shown rest) (close st q s rest o)
   unfolding close
   shown-close q true rest o = ap (λ t. t ⊞ shown rest) (shown-kept q o)
   shown-close q false rest o =

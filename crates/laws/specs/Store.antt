@@ -39,6 +39,22 @@ lone-agg (lit l c rest) e b = absurd (false≢true b)
 lone-agg (rec p s r rest) e b = absurd (false≢true e)
 
 module _ (st : Config) (x : New) (a : NewFits x) where
+  -- Whether a page was missing or not, the rows fit and no level is too deep.
+  pub grow-good : (root : Row) (path : List ℕ) (n : ℕ) → Valid st root → length path ≤ 22
+      → Fits (store (grow st root path n x .0)) × (height (grow st root path n x .0) ≤ 24)
+  grow-good nil path n v p = absurd (false≢true (v .top))
+  grow-good (lit l c rest) path n v p = absurd (false≢true (v .top))
+  grow-good (rec q s r rest) path n v p = absurd (false≢true (v .top))
+  grow-good (agg m cs rest) path n v p =
+      let root = agg m cs rest in
+      let new = grow st root path n x .0 in
+      let e = isNil-nil rest (settled-lone root (v .rows .0 .shape)) in
+      let fit : recordSize (agg m cs nil) ≤ 4080 = rw e at (v .rows .0 .fits) in
+      let high : height cs ≤ 23 = omega (arith, v .levels) in (
+        rw e (grow-fits st (v .ranges) x (a .head) (a .long) (a .byte) m cs path n (v .rows .1 .0) (v .rows .1 .1) fit high p),
+        omega (arith, height-shown new, ap levels (shown-grow st x root path n), levels-insertAt x n 0 path (shown root), height-shown root, v .levels),
+      )
+
   pub valid-grow : (root : Row) (path : List ℕ) (n : ℕ) → Valid st root → length path ≤ 22 → grow st root path n x .1 .full ≡ false → Valid st (grow st root path n x .0)
   valid-grow nil path n v p full = absurd (false≢true (v .top))
   valid-grow (lit l c rest) path n v p full = absurd (false≢true (v .top))
@@ -46,14 +62,11 @@ module _ (st : Config) (x : New) (a : NewFits x) where
   valid-grow (agg m cs rest) path n v p full =
       let root = agg m cs rest in
       let new = grow st root path n x .0 in
-      let e = isNil-nil rest (settled-lone root (v .rows .0 .shape)) in
-      let fit : recordSize (agg m cs nil) ≤ 4080 = rw e at (v .rows .0 .fits) in
-      let high : height cs ≤ 23 = omega (arith, v .levels) in
-      let rows : Fits (store new) = rw e (grow-fits st (v .ranges) x (a .head) (a .long) (a .byte) m cs path n (v .rows .1 .0) (v .rows .1 .1) fit high p) in
+      let good = grow-good root path n v p in
       record {
         ranges = v .ranges;
-        rows = rows;
-        top = lone-agg new (settled-lone new (rows .0 .shape)) (ap isBranch (shown-grow st x root path n) ∙ branch-insert x n path m (shown cs) (shown rest));
-        levels = omega (arith, height-shown new, ap levels (shown-grow st x root path n), levels-insertAt x n 0 path (shown root), height-shown root, v .levels);
+        rows = good .0;
+        top = lone-agg new (settled-lone new (good .0 .0 .shape)) (ap isBranch (shown-grow st x root path n) ∙ branch-insert x n path m (shown cs) (shown rest));
+        levels = good .1;
         placed = placed-grow st x root path n (v .placed) full;
       }

@@ -39,7 +39,7 @@ receiverOf t = record { page = lastPage (t .chain); at = offsetIn (t .spot) (t .
 
 -- ── an accepted insert ──
 
-named-some : (root : Row) (o : Option (List ℕ)) → isNone (namedIf (shown root) o) ≡ false → (y : Place) × (placeOf root (orEmpty o) ≡ some y)
+pub named-some : (root : Row) (o : Option (List ℕ)) → isNone (namedIf (shown root) o) ≡ false → (y : Place) × (placeOf root (orEmpty o) ≡ some y)
 named-some root none e = absurd (true≢false e)
 named-some root (some p) e = go (named (shown root) p) refl e
   where
@@ -49,12 +49,12 @@ named-some root (some p) e = go (named (shown root) p) refl e
 
 module _ (img : List ℕ) (st : Config) (root : Row) (reads : Reads img st root) (path : List ℕ) (k : ℕ) (x : New) (full : Bool) (a : Accepted (shown root) path k x full) where
   -- Find gives the parent's place.
-  find-parent : (y : Place) → placeOf root (pathOf path) ≡ some y → findOf img path .place ≡ y
+  pub find-parent : (y : Place) → placeOf root (pathOf path) ≡ some y → findOf img path .place ≡ y
   unfolding findOf findIn
   find-parent y e = rw (opens img st root reads, le-ltb 92 (length path) (omega (arith, a .short)), a .named, e)
 
   -- An insert that is accepted aims at the node that find gives for the parent's path.
-  pub aimed : (parent : ℕ) → parent ≡ 4096 * findOf img path .place .page + findOf img path .place .offset → Aimed img parent k
+  abbrev pub aimed : (parent : ℕ) → parent ≡ 4096 * findOf img path .place .page + findOf img path .place .offset → Aimed img parent k
   aimed parent e =
       let (t, f) = taking-accepted root path k x full a in
       let (y, n) = named-some root (entries path) (a .named) in

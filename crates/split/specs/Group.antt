@@ -137,26 +137,29 @@ free-or st used (suc k) q =
     cond-case (λ (i : ℕ). (used i ≡ false) ⊎ (i ≡ 0)) (used q) (λ _. free-or st used k (cond (ltb (suc q) (st .pages)) (suc q) 2)) (λ e. inl e)
 
 -- A page is found inside the image, or it is 0.
-pub free-inside : (st : Config) (n near : ℕ) (u : List ℕ) → st .pages ≡ n → n ≤ 1024 → near < n → Past n u → (k : ℕ) → freeFrom st k (usedBy u) near < n
-free-inside st n near u e few start past k =
-    let q = freeFrom st k (usedBy u) near in
-    let h : q < 1024 = free-below st (omega (arith, e)) (usedBy u) k near (omega arith) in
-    go q h (free-or st (usedBy u) k near) (ltb q n) refl
+pub free-within : (st : Config) (n near : ℕ) (used : ℕ → Bool) → st .pages ≡ n → n ≤ 1024 → near < n → ((q : ℕ) → n ≤ q → q < 1024 → used q ≡ true) → (k : ℕ) → freeFrom st k used near < n
+free-within st n near used e few start past k =
+    let q = freeFrom st k used near in
+    let h : q < 1024 = free-below st (omega (arith, e)) used k near (omega arith) in
+    go q h (free-or st used k near) (ltb q n) refl
   where
-    go : (q : ℕ) → q < 1024 → (usedBy u q ≡ false) ⊎ (q ≡ 0) → (b : Bool) → ltb q n ≡ b → q < n
+    go : (q : ℕ) → q < 1024 → (used q ≡ false) ⊎ (q ≡ 0) → (b : Bool) → ltb q n ≡ b → q < n
     go q h f true g = ltb-true q n g
     go q h (inl f) false g = absurd (true≢false (sym (past q (ltb-false q n g) h) ∙ f))
     go q h (inr f) false g = omega arith
 
-pub set-past : (n q : ℕ) (u : List ℕ) → q < n → Past n u → Past n (set u q 1)
+pub free-inside : (st : Config) (n near : ℕ) (u : List ℕ) → st .pages ≡ n → n ≤ 1024 → near < n → Past n u → (k : ℕ) → freeFrom st k (usedBy u) near < n
+free-inside st n near u e few start past k = free-within st n near (usedBy u) e few start past k
+
+pub set-past : (n q v : ℕ) (u : List ℕ) → q < n → Past n u → Past n (set u q v)
 unfolding usedBy
-set-past n q u h past x k m = ap (λ (i : ℕ). not (eqb i 0)) (getD-set-other u q x 1 0 (λ e. omega arith)) ∙ past x k m
+set-past n q v u h past x k m = ap (λ (i : ℕ). not (eqb i 0)) (getD-set-other u q x v 0 (λ e. omega arith)) ∙ past x k m
 
 module _ (st : Config) (n near : ℕ) (dry : Bool) (e : st .pages ≡ n) (few : n ≤ 1024) (start : near < n) where
   pub group-past : (g : Row) (u img : List ℕ) → Past n u → Past n (groupI st near dry g u img .used)
   unfolding groupI
   group-past g u img h =
-      cond-case (λ (c : Cutting). Past n (c .used)) (isNil g || loneRec g) (λ _. h) (λ _. set-past n _ u (free-inside st n near u e few start h (st .pages)) h)
+      cond-case (λ (c : Cutting). Past n (c .used)) (isNil g || loneRec g) (λ _. h) (λ _. set-past n _ 1 u (free-inside st n near u e few start h (st .pages)) h)
 
   two-past : (p : ℕ) (a b : Row) (u img : List ℕ) → Past n u → Past n (twoGroupsI st near dry p a b u img .used)
   unfolding twoGroupsI

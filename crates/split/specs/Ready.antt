@@ -20,7 +20,7 @@ module _ (st : Config) (near p : ℕ) (dry : Bool) (l u img : List ℕ) (w : Wor
   pub row-same : (at : ℕ) (row : Row) → separate st near p at nil row w .0 ≡ separateI st near dry p at nil row u img .row
   row-same at row = sym (separate-same st many near inside dry p at nil row u img w m .row)
 
-below-root : (st : Config) (n : ℕ) (b : Bool) (r : Row) → Below n r → Below n (rootRow st b r)
+pub below-root : (st : Config) (n : ℕ) (b : Bool) (r : Row) → Below n r → Below n (rootRow st b r)
 below-root st n false r h = h
 below-root st n true nil h = tt
 below-root st n true (agg l cs rest) h = h .0

@@ -141,10 +141,10 @@ helper-first (rec q s r rest) more true e = absurd (false≢true e)
 helper-first r more false e = refl
 
 module _ (img : List ℕ) (h : Held) (p : PageIn img (h .page)) (e : pageOf img (h .page) ≡ recordPage h) (f : recordSize (h .row) ≤ 4080) (b : h .holder < 1024) where
-  page-byte : (i : ℕ) → i < 4096 → getD img (4096 * h .page + i) 0 ≡ getD (recordPage h) i 0
+  pub page-byte : (i : ℕ) → i < 4096 → getD img (4096 * h .page + i) 0 ≡ getD (recordPage h) i 0
   page-byte i k = sym (getD-drop (4096 * h .page) img i 0) ∙ sym (getD-take 4096 (drop (4096 * h .page) img) i 0 k) ∙ ap (λ (z : List ℕ). getD z i 0) e
 
-  page-number : (i : ℕ) → i < 4095 → twoAt img (4096 * h .page + i) ≡ twoAt (recordPage h) i
+  pub page-number : (i : ℕ) → i < 4095 → twoAt img (4096 * h .page + i) ≡ twoAt (recordPage h) i
   unfolding twoAt
   page-number i k =
       let z : 4096 * h .page + i + 1 ≡ 4096 * h .page + (i + 1) = omega arith in

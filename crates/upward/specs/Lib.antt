@@ -5,3 +5,5 @@ pub mod Beside
 pub mod Fit
 pub mod Steady
 pub mod Bytes
+pub mod Levels
+pub mod Full

@@ -5,7 +5,7 @@ use mathlib.Core.List.{List}
 use Prim.Native.Nat.{ℕ, _+_, _<_}
 use native.Mathlib.Omega.{arith}
 use lib.Dec.{eqb, leb}
-use Rattle.model.specs.Row.{Head, Row, nil, agg, lit, rec, store, _⊹_, recordSize, count, outside, Config}
+use Rattle.model.specs.Row.{Head, Row, nil, agg, lit, rec, store, _⊹_, recordSize, recordPage, count, outside, Config}
 use Rattle.model.specs.Tree.{New}
 use Rattle.model.specs.Growth.{Work, Out, mark, freeFrom, taken, separator, counted, freed, kept, apart, place, atRest}
 use Rattle.laws.specs.Bound.{fits-parts}
@@ -17,6 +17,7 @@ use Rattle.writes.specs.Memory.{Mem, blank, setMem, putMem, keptMem, ris
 use Rattle.writes.specs.Links.{Loose, self, stored-loose, loose-agree, set-other, put-other, put-same, put-stored}
 use Rattle.writes.specs.Steps.{Now, Kept, Step, bit-le, bit-false, step-own, step-separator}
 use Rattle.upward.specs.Fit.{fits-fill}
+use Rattle.upward.specs.Bytes.{lastHeld}
 use Rattle.writes.specs.Back.{fits-whole, fits-rise}
 use Rattle.writes.specs.Around.{count-fill, loose-fill, Around, assemble, disassemble, own, beyond, around-agree, beyond-first, count-whole, Low, rise-stays, rise-goes, chain-low}
 
@@ -91,10 +92,11 @@ module _ (st : Config) (first : List ℕ) where
             settings = k .frame 0 (omega (arith, beyond-first st c)) ∙ a .settings;
           })
 
-  -- an unsettled record leaves its page, and the record above is ready
-  goes-up : (c : Chain) (s : Spot) (q : ℕ) (b : Bool) (rest old r : Row) (w : Work) (m : Mem) → (w .full ≡ false → Ready (below c s q b rest) old r w m)
+  -- An unsettled record leaves its page, and the record above is ready; its page is as it was.
+  pub goes-up : (c : Chain) (s : Spot) (q : ℕ) (b : Bool) (rest old r : Row) (w : Work) (m : Mem) → (w .full ≡ false → Ready (below c s q b rest) old r w m)
       → let sep = separatorM st q r (freed st q (counted st r w)) (setMem q blank m) in
-      Fits (sep .row) → sep .work .full ≡ false → Ready c (fill s (rec q b old rest)) (fill s (sep .row ⊹ rest)) (sep .work) (sep .mem)
+      Fits (sep .row) → sep .work .full ≡ false
+      → Ready c (fill s (rec q b old rest)) (fill s (sep .row ⊹ rest)) (sep .work) (sep .mem) × (sep .mem (lastPage c) ≡ recordPage (lastHeld c (fill s (rec q b old rest))))
   goes-up c s q b rest old r w m ready f full =
       let c′ = below c s q b rest in
       let m₁ = setMem q blank m in
@@ -113,16 +115,18 @@ module _ (st : Config) (first : List ℕ) where
       let a = ready (k .was) in
       let t = a .now .tally in
       let same : (p : ℕ) → 0 < beyond st c′ p → sep .mem p ≡ m p = λ p z. k .frame p z ∙ clear p (omega (arith, t p, bit-le (w .used p))) in
-      let around = around-agree st m (sep .mem) c′ old same (a .around) in
-      record {
-        around = around .2;
-        now = record {
-          tally = λ p. omega (arith, k .now .tally p, count-fill p s (sep .row) rest);
-          free = k .now .free;
-          loose = loose-fill (sep .mem) s (sep .row) rest (stored-loose (sep .mem) (lastPage c) (fill s rest) (around .0)) (k .now .loose);
-        };
-        settings = same 0 (beyond-first st c′) ∙ a .settings;
-      }
+      let around = around-agree st m (sep .mem) c′ old same (a .around) in (
+        record {
+          around = around .2;
+          now = record {
+            tally = λ p. omega (arith, k .now .tally p, count-fill p s (sep .row) rest);
+            free = k .now .free;
+            loose = loose-fill (sep .mem) s (sep .row) rest (stored-loose (sep .mem) (lastPage c) (fill s rest) (around .0)) (k .now .loose);
+          };
+          settings = same 0 (beyond-first st c′) ∙ a .settings;
+        },
+        around .1,
+      )
 
   -- Growth from the last record of a chain upwards.
   pub rise-done : (c : Chain) (old r : Row) (w : Work) (m : Mem) → Low c old → (w .full ≡ false → Ready c old r w m)
@@ -160,7 +164,7 @@ module _ (st : Config) (first : List ℕ) where
           let f′ : Fits (rise st c (up, sep .work) .0) = subst (λ (o : Out). Fits (o .0)) e f in
           let g = fits-parts (sep .row) rest (fits-fill s (sep .row ⊹ rest) (fits-rise st c (up, sep .work) f′)) .0 in
           subst (λ (o : Out). Done (o .0) (o .1) (riseMem st c up (sep .work) (sep .mem))) (sym e)
-          (ih (fill s (rec q false old rest)) up (sep .work) (sep .mem) (low .1) (goes-up c s q false rest old r w m ready g) f′ (subst (λ (o : Out). o .1 .full ≡ false) e full))
+          (ih (fill s (rec q false old rest)) up (sep .work) (sep .mem) (low .1) (λ z. goes-up c s q false rest old r w m ready g z .0) f′ (subst (λ (o : Out). o .1 .full ≡ false) e full))
 
 -- ── the new node ──
 

@@ -3,19 +3,14 @@ use borrow.Author.Needs.{needs}
 use mathlib.Core.Path.{_≡_, refl}
 use Prim.Native.Nat.{ℕ, _≤_}
 use native.Mathlib.Omega.{arith}
-use lib.IntN.{ℤ, pos, negsuc, subℕ, _-ℤ_}
+use lib.IntN.{subℕ, _-ℤ_}
 use mir.Syntax.{w32}
-use mir.Val.{SFits, toZ}
+use mir.Val.{toZ}
 use mir.Facts.{toZ-pos, toZ-ofZ}
-use Rattle.model.specs.Claims.{InLean}
 use Rattle.laws.specs.Bound.{in-lean}
-use Rattle.cut.specs.Lean.{minus-is}
+use Rattle.cut.specs.Lean.{minus-is, lean-signed}
 use Rattle.cut.proofs.lean.Statement.{statement}
 use Rattle.cut.proofs.lean.Tie as tie
-
-fits : (z : ℤ) → InLean z → SFits w32 z
-fits (pos n) h = record { sfits = omega arith }
-fits (negsuc n) h = record { sfits = omega arith }
 
 exact : (d p : ℕ) → d ≤ 8324 → p ≤ 8192 → toZ w32 d -ℤ toZ w32 p ≡ subℕ d p
 exact d p h k = rw (toZ-pos w32 {n = d} (omega arith), toZ-pos w32 {n = p} (omega arith)) (minus-is d p)
@@ -29,14 +24,14 @@ cast-result-2 c = search needs
 sub-result : tie.Need-sub-result
 sub-result c =
     let a = c .args in
-    rw (exact (a .d) (a .p) (omega arith) (omega arith)) (fits (subℕ (a .d) (a .p)) (in-lean (a .d) (a .p) (c .pre .1 .0) (c .pre .0)))
+    rw (exact (a .d) (a .p) (omega arith) (omega arith)) (lean-signed (subℕ (a .d) (a .p)) (in-lean (a .d) (a .p) (c .pre .1 .0) (c .pre .0)))
 
 returns : tie.Need-returns
 returns c =
     let a = c .args in
     let w = in-lean (a .d) (a .p) (c .pre .1 .0) (c .pre .0) in
     let e = exact (a .d) (a .p) (omega arith) (omega arith) in
-    rw (e, toZ-ofZ {z = subℕ (a .d) (a .p)} (fits (subℕ (a .d) (a .p)) w)) (refl, w)
+    rw (e, toZ-ofZ {z = subℕ (a .d) (a .p)} (lean-signed (subℕ (a .d) (a .p)) w)) (refl, w)
 
 pub lean-spec : {M : Type 1} → statement M
 lean-spec = tie.close (tie.spec cast-result cast-result-2 sub-result returns)

@@ -7,6 +7,7 @@ use lib.ListN.{length, length-take}
 use Prim.Native.Nat.{ℕ, _-_, _<_}
 use borrow.Fn.Kinds.{In}
 use borrow.Fn.PlainCycle.{Measures, is, falls, and}
+use Rattle.cut.specs.Stands.{first-low}
 use Rattle.cut.specs.Level.{inner-fits}
 use Rattle.split.specs.Separate.{at-x, x-fits, left-job, left-end, env-left, right-job, done-apart, header-room, inner-sep, inner-room, env-inner, rest-job, done-inside}
 use Rattle.split.proofs.separate.Reads as separate
@@ -88,7 +89,7 @@ enters-requires t c κs =
     let s = c .before .before .before .before .before .before .before .before .before .before .before .before .before in
     let w = s .pre .1 .1 .1 .1 in
     let xe = c .before .before .before .before .before .before .before .before .before .child .ensures (w .kids) in
-    omega (arith, x-fits w xe)
+    (omega (arith, x-fits w xe), first-low (at-x w xe))
 
 add-two : (t : ℕ) → separate-lts.Need-add-two (claims t) (separate-at t) separate.Post
 add-two t c =

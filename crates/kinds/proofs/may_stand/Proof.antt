@@ -1,8 +1,8 @@
 use mathlib.Core.Path.{refl}
 use borrow.Author.Needs.{needs}
 use Rattle.model.specs.Row.{mayStand, standing}
-use Rattle.inspect.proofs.may_stand.Statement.{statement}
-use Rattle.inspect.proofs.may_stand.Tie as tie
+use Rattle.kinds.proofs.may_stand.Statement.{statement}
+use Rattle.kinds.proofs.may_stand.Tie as tie
 
 mul-result : tie.Need-mul-result
 mul-result c = search needs

@@ -1,0 +1,194 @@
+-- The tests of an insert on an image: what find and read say of the parent, and which number each test gives.
+use mathlib.Core.Path.{_≡_, refl, sym, ap, subst, _∙_}
+use mathlib.Core.Bool.{Bool, true, false, not, _&&_, _||_}
+use mathlib.Core.List.{List, [], _∷_}
+use mathlib.Core.Option.{Option, none, some}
+use Prim.Native.Nat.{ℕ, _+_, _*_, _≤_, _<_}
+use native.Mathlib.Omega.{arith}
+use borrow.Author.Tests.{le-ltb, lt-ltb, eq-eqb, ne-eqb}
+use lib.ListN.{length}
+use lib.Dec.{ltb, eqb}
+use Rattle.model.specs.Row.{Row, Config}
+use Rattle.model.specs.Tree.{Node, shown, nodes, named, placeOf, fromPlace}
+use Rattle.model.specs.Reading.{Reads}
+use Rattle.model.specs.Answers.{lowest}
+use Rattle.model.specs.Calls.{entries, namedIf, namedBy, isNone, isLiteral, childrenBelow, newOf, insertNumber, checkOf, findIn, findOf, readIn, readOf}
+use Rattle.model.specs.declared.Place.{Place}
+use Rattle.model.specs.declared.FindAnswer.{FindAnswer}
+use Rattle.model.specs.declared.ReadNode.{ReadNode}
+use Rattle.reads.specs.Reading.{reads-valid}
+use Rattle.places.specs.Named.{named-in, named-place}
+use Rattle.places.specs.From.{from-found}
+use Rattle.agree.specs.Open.{opens, passing}
+use Rattle.agree.specs.Insert.{accepted}
+use Rattle.receive.specs.Aim.{Aimed, aimed}
+use Rattle.receive.specs.Receive.{parent-room}
+use Rattle.admit.specs.declared.Admitted.{Admitted}
+
+abbrev pub refusedBy : (number : ℕ) → Admitted
+refusedBy n = record { number = n; parent = 0 }
+
+-- `kindBad` of a new node, by its content's length.
+abbrev pub badKind : (kind len : ℕ) → Bool
+badKind kind len = not (eqb kind 1 || eqb kind 2) || (eqb kind 1 && not (eqb len 0))
+
+pub not-one : (kind len : ℕ) → (kind ≡ 1 → ⊥) → not (eqb kind 2) ≡ badKind kind len
+not-one kind len z = rw (ne-eqb kind 1 z) (go (eqb kind 2))
+  where
+    go : (b : Bool) → not b ≡ (not (false || b) || (false && not (eqb len 0)))
+    go true = refl
+    go false = refl
+
+-- The byte of the image at which the node that find gives stands.
+abbrev pub foundAt : (img path : List ℕ) → ℕ
+foundAt img path = 4096 * findOf img path .place .page + findOf img path .place .offset
+
+-- ── an accepted insert ──
+
+abbrev pub aims : (img : List ℕ) (st : Config) (root : Row) (reads : Reads img st root) (path : List ℕ) (child kind label parent : ℕ) (content : List ℕ)
+    → insertNumber (shown root) path child (newOf kind label content) false ≡ 0 → parent ≡ 4096 * findOf img path .place .page + findOf img path .place .offset
+    → Aimed img parent child
+aims img st root reads path child kind label parent content z e =
+    aimed img st root reads path child (newOf kind label content) false (accepted (shown root) path child (newOf kind label content) false z) parent e
+
+-- ── the parent, by find and read ──
+
+-- The node that a path names, and what read says of it at the place that find gives.
+pub record Found (img : List ℕ) (root : Row) (path : List ℕ) : Type 0 where
+  pub node : Node
+  pub names : namedBy (shown root) path ≡ some node
+  pub kind : readOf img (findOf img path .place) .kind ≡ node .kind
+  pub children : readOf img (findOf img path .place) .children ≡ node .children
+
+module _ (img : List ℕ) (st : Config) (root : Row) (reads : Reads img st root) (path : List ℕ) (short : length path ≤ 88) where
+  -- Find refuses a path of this length only if it names no node.
+  find-named : (n : Node) → namedBy (shown root) path ≡ some n → findOf img path .number ≡ 0
+  unfolding findOf findIn
+  find-named n e = rw (opens img st root reads, le-ltb 92 (length path) (omega arith), e)
+
+  find-unnamed : namedBy (shown root) path ≡ none → findOf img path .number ≡ 7
+  unfolding findOf findIn
+  find-unnamed e = rw (opens img st root reads, le-ltb 92 (length path) (omega arith), e)
+
+  pub not-named : (findOf img path .number ≡ 0 → ⊥) → isNone (namedBy (shown root) path) ≡ true
+  not-named z = go (namedBy (shown root) path) refl
+    where
+      go : (o : Option Node) → namedBy (shown root) path ≡ o → isNone o ≡ true
+      go none e = refl
+      go (some n) e = absurd (z (find-named n e))
+
+  find-place : (p : List ℕ) (n : Node) (y : Place) → entries path ≡ some p → named (shown root) p ≡ some n → placeOf root p ≡ some y → findOf img path .place ≡ y
+  unfolding findOf findIn
+  find-place p n y e f g = rw (opens img st root reads, le-ltb 92 (length path) (omega arith), e, f, g)
+
+  read-there : (n : Node) (ms : List Node) (y : Place) → fromPlace (placeOf root) y (nodes (shown root)) ≡ n ∷ ms
+      → (readOf img y .kind ≡ n .kind) × (readOf img y .children ≡ n .children)
+  unfolding readOf readIn
+  read-there n ms y e = (rw (opens img st root reads, e), rw (opens img st root reads, e))
+
+  found-at : (p : List ℕ) (n : Node) → entries path ≡ some p → named (shown root) p ≡ some n → Found img root path
+  found-at p n e f =
+      let (y, g) = named-place root p n f in
+      let m = named-in (shown root) p n f in
+      let (ms, h) = from-found st root (reads-valid img st root reads) y n (m .0) (ap (placeOf root) (m .1) ∙ g) in
+      let z : findOf img path .place ≡ y = find-place p n y e f g in
+      let r = read-there n ms y h in
+      record {
+        node = n;
+        names = ap (namedIf (shown root)) e ∙ f;
+        kind = ap (λ (y : Place). readOf img y .kind) z ∙ r .0;
+        children = ap (λ (y : Place). readOf img y .children) z ∙ r .1;
+      }
+
+  pub found : findOf img path .number ≡ 0 → Found img root path
+  found z = go (entries path) refl
+    where
+      never : namedBy (shown root) path ≡ none → Found img root path
+      never e = absurd (omega (arith, find-unnamed e))
+
+      at : (p : List ℕ) → entries path ≡ some p → (o : Option Node) → named (shown root) p ≡ o → Found img root path
+      at p e none f = never (ap (namedIf (shown root)) e ∙ f)
+      at p e (some n) f = found-at p n e f
+
+      go : (o : Option (List ℕ)) → entries path ≡ o → Found img root path
+      go none e = never (ap (namedIf (shown root)) e)
+      go (some p) e = at p e (named (shown root) p) refl
+
+-- ── the numbers ──
+
+-- No test of the arguments alone applies.
+pub record Formed (path : List ℕ) (kind : ℕ) (content : List ℕ) : Type 0 where
+  pub short : length path ≤ 88
+  pub good : badKind kind (length content) ≡ false
+  pub small : length content ≤ 520
+
+module _ (img path : List ℕ) (child kind : ℕ) (content : List ℕ) where
+  -- The insert's number, whatever the store and the label.
+  abbrev pub Number : ℕ → Type 0
+  Number n = (st : Config) (root : Row) → Reads img st root → (label : ℕ) → n ≡ insertNumber (shown root) path child (newOf kind label content) false
+
+  abbrev pub Answers : Admitted → Type 0
+  Answers r = Number (r .number) × (r .number ≡ 0 → r .parent ≡ foundAt img path)
+
+  pub refuses : (r : Admitted) (n : ℕ) → 1 ≤ n → r ≡ refusedBy n → Number n → Answers r
+  refuses r n z e a = subst Answers (sym e) (a, λ y. absurd (omega arith))
+
+  -- ── by the arguments alone ──
+
+  pub too-long : 88 < length path → Number 4
+  unfolding insertNumber
+  too-long a = λ st root reads label. rw (lt-ltb 88 (length path) a)
+
+  pub wrong-kind : length path ≤ 88 → badKind kind (length content) ≡ true → Number 5
+  unfolding insertNumber
+  wrong-kind a b = λ st root reads label. rw (le-ltb 88 (length path) a, b)
+
+  pub long-content : length path ≤ 88 → badKind kind (length content) ≡ false → 520 < length content → Number 6
+  unfolding insertNumber
+  long-content a b c = λ st root reads label. rw (le-ltb 88 (length path) a, b, lt-ltb 520 (length content) c)
+
+  -- ── by the parent ──
+
+  module _ (w : Formed path kind content) where
+    -- The tests of the parent are left.
+    formed : (st : Config) (root : Row) (label : ℕ) → let parent = namedBy (shown root) path in
+        lowest ((7, isNone parent) ∷ (8, isLiteral parent) ∷ (9, childrenBelow child parent) ∷ (12, false) ∷ []) ≡ insertNumber (shown root) path child (newOf kind label content) false
+    unfolding insertNumber
+    formed st root label = rw (le-ltb 88 (length path) (w .short), w .good, le-ltb 520 (length content) (w .small))
+
+    module _ (f : FindAnswer) (is : f ≡ findOf img path) where
+      pub no-node : (f .number ≡ 0 → ⊥) → Number 7
+      no-node z = λ st root reads label.
+          let e = not-named img st root reads path (w .short) (λ y. z (ap (λ (f : FindAnswer). f .number) is ∙ y)) in
+          sym (rw e) ∙ formed st root label
+
+      module _ (there : f .number ≡ 0) (n : ReadNode) (told : n ≡ readOf img (f .place)) where
+        parent-found : (st : Config) (root : Row) → Reads img st root → Found img root path
+        parent-found st root reads = found img st root reads path (w .short) (sym (ap (λ (f : FindAnswer). f .number) is) ∙ there)
+
+        read-is : n ≡ readOf img (findOf img path .place)
+        read-is = told ∙ ap (λ (f : FindAnswer). readOf img (f .place)) is
+
+        -- The tests of the parent, by what was read.
+        by-read : (st : Config) (root : Row) → Reads img st root → (label : ℕ)
+            → lowest ((8, eqb (n .kind) 2) ∷ (9, ltb (n .children) child) ∷ (12, false) ∷ []) ≡ insertNumber (shown root) path child (newOf kind label content) false
+        by-read st root reads label =
+            let u = parent-found st root reads in
+            let a : n .kind ≡ u .node .kind = ap (λ (n : ReadNode). n .kind) read-is ∙ u .kind in
+            let b : n .children ≡ u .node .children = ap (λ (n : ReadNode). n .children) read-is ∙ u .children in
+            (λ i. lowest ((8, eqb (a i) 2) ∷ (9, ltb (b i) child) ∷ (12, false) ∷ [])) ∙ sym (rw (u .names)) ∙ formed st root label
+
+        pub literal-parent : n .kind ≡ 2 → Number 8
+        literal-parent l = λ st root reads label. sym (rw (eq-eqb (n .kind) 2 l)) ∙ by-read st root reads label
+
+        pub past-children : (n .kind ≡ 2 → ⊥) → n .children < child → Number 9
+        past-children k l = λ st root reads label. sym (rw (ne-eqb (n .kind) 2 k, lt-ltb (n .children) child l)) ∙ by-read st root reads label
+
+        pub accepts : (n .kind ≡ 2 → ⊥) → child ≤ n .children → Number 0
+        accepts k l = λ st root reads label. sym (rw (ne-eqb (n .kind) 2 k, le-ltb (n .children) child l)) ∙ by-read st root reads label
+
+  -- The parent of an accepted insert stands in the image.
+  pub parent-small : checkOf img ≡ 0 → Number 0 → foundAt img path < 4194304
+  parent-small c n =
+      let (s, reads) = passing img c in
+      parent-room img (foundAt img path) child (aims img (s .0) (s .1) reads path child kind 0 (foundAt img path) content (sym (n (s .0) (s .1) reads 0)) refl) .1

@@ -1,0 +1,4 @@
+pub mod Leaning
+pub mod Content
+pub mod Names
+pub mod Off
