@@ -7,27 +7,16 @@ use follow::node_at;
 use model::Place;
 use model::WriteAnswer;
 use octets::copy_in;
+use octets::put32;
 use octets::two;
 ghost use mathlib.Core.Path.{_≡_};
 ghost use Prim.Native.Nat.{_+_, _≤_, _<_};
 ghost use lib.ListN.{length};
-ghost use Rattle.octets.specs.Over.{over};
-ghost use Rattle.model.specs.Calls.{four, checkOf, climbOf};
+ghost use Rattle.model.specs.Calls.{checkOf, climbOf};
 ghost use Rattle.follow.specs.Scan.{NodeAt};
 ghost use Rattle.ascend.specs.Route.{spot, before};
 ghost use Rattle.ascend.specs.Rise.{Rose, placeAtByte};
 ghost use Rattle.ascend.specs.Search.{Standing, first, Search, Tracing, numberOf, wayOf, Wrote};
-
-// Writes the four-byte number v at `at`.
-fn put32(s: &mut [u8; 92], at: usize, v: usize)
-    requires { ⌜ (at + 4 ≤ 92) × (length (now s) ≡ 92) ⌝ }
-    ensures { λ _. ⌜ now (s .exit) ≡ over at (four v) (now (s .entry)) ⌝ }
-{
-    s[at] = (v % 256) as u8;
-    s[at + 1] = (v / 256 % 256) as u8;
-    s[at + 2] = (v / 65536 % 256) as u8;
-    s[at + 3] = (v / 16777216 % 256) as u8;
-}
 
 // How many nodes the one at byte i shows: a proxy as many as its record.
 fn nodes_in(image: &[u8], i: usize) -> usize

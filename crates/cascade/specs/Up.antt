@@ -46,13 +46,13 @@ use Rattle.cascade.specs.Settled.{leanNow, lean-in}
 
 -- ── a record's row with something else at a spot ──
 
-some-left : (a b : Row) → isNil a ≡ false → isNil (a ⊹ b) ≡ false
+pub some-left : (a b : Row) → isNil a ≡ false → isNil (a ⊹ b) ≡ false
 some-left nil b e = absurd (true≢false e)
 some-left (agg h cs rest) b e = refl
 some-left (lit h c rest) b e = refl
 some-left (rec p s r rest) b e = refl
 
-some-fill : (s : Spot) (x : Row) → isNil x ≡ false → isNil (fill s x) ≡ false
+pub some-fill : (s : Spot) (x : Row) → isNil x ≡ false → isNil (fill s x) ≡ false
 some-fill (here left) x e = isNil-⊹ left x e
 some-fill (inside left h rest s) x e = isNil-⊹ left (agg h (fill s x) rest) refl
 
@@ -63,16 +63,16 @@ lone-inside (agg h cs left) x y e f g = isNil-⊹ left x f ∙ sym (isNil-⊹ le
 lone-inside (lit h c left) x y e f g = isNil-⊹ left x f ∙ sym (isNil-⊹ left y g)
 lone-inside (rec p s r left) x y e f g = refl
 
-lone-fill : (s : Spot) (x y : Row) → KeepsRoot s x y → lone (fill s x) ≡ lone (fill s y)
+pub lone-fill : (s : Spot) (x y : Row) → KeepsRoot s x y → lone (fill s x) ≡ lone (fill s y)
 lone-fill (here left) x y k = k refl .0 ∙ sym (k refl .1)
 lone-fill (inside left h rest s) x y k = lone-inside left (agg h (fill s x) rest) (agg h (fill s y) rest) refl refl refl
 
-size-fill : (s : Spot) (x y : Row) → KeepsRoot s x y → recordSize (fill s y) + size x ≡ recordSize (fill s x) + size y
+pub size-fill : (s : Spot) (x y : Row) → KeepsRoot s x y → recordSize (fill s y) + size x ≡ recordSize (fill s x) + size y
 size-fill s x y k =
     let e : cond {A = ℕ} (lone (fill s x)) 0 6 ≡ cond (lone (fill s y)) 0 6 = ap (λ (b : Bool). cond b 0 6) (lone-fill s x y k) in
     omega (arith, e, size-around s x, size-around s y)
 
-below-count : (n : ℕ) (r : Row) → ((q : ℕ) → 1 ≤ count q r → q < n) → Below n r
+pub below-count : (n : ℕ) (r : Row) → ((q : ℕ) → 1 ≤ count q r → q < n) → Below n r
 below-count n nil f = tt
 below-count n (agg h cs rest) f = (below-count n cs (λ q k. f q (omega arith)), below-count n rest (λ q k. f q (omega arith)))
 below-count n (lit h c rest) f = below-count n rest f
@@ -84,11 +84,11 @@ below-parts n (agg h cs rest) b k = let z = below-parts n rest b (k .1) in ((k .
 below-parts n (lit h c rest) b k = below-parts n rest b k
 below-parts n (rec p s r rest) b k = let z = below-parts n rest b (k .1) in ((k .0, z .0), z .1)
 
-below-spot : (n : ℕ) (s : Spot) (x : Row) → Below n (fill s x) → Below n x
+pub below-spot : (n : ℕ) (s : Spot) (x : Row) → Below n (fill s x) → Below n x
 below-spot n (here left) x k = below-parts n left x k .1
 below-spot n (inside left h rest s) x k = below-spot n s x (below-parts n left (agg h (fill s x) rest) k .1 .0)
 
-below-fill : (n : ℕ) (s : Spot) (x y : Row) → Below n (fill s x) → Below n y → Below n (fill s y)
+pub below-fill : (n : ℕ) (s : Spot) (x y : Row) → Below n (fill s x) → Below n y → Below n (fill s y)
 below-fill n (here left) x y k b = below-⊹ n left y (below-parts n left x k .0) b
 below-fill n (inside left h rest s) x y k b =
     let z = below-parts n left (agg h (fill s x) rest) k in

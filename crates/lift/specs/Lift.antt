@@ -18,6 +18,22 @@ use Rattle.splice.specs.Splice.{KeepsRoot, Place, put-for}
 use Rattle.lift.specs.Seek.{Proxied}
 use Rattle.lift.specs.Inner.{Filled}
 
+-- A record that stands on its page: its length, as the page says it,
+module _ (img : List ℕ) (h : Held) (is : pageOf img (h .page) ≡ recordPage h) (small : recordSize (h .row) ≤ 4080) where
+  pub page-used : twoAt img (4096 * h .page + 4082) ≡ recordSize (h .row)
+  unfolding twoAt
+  page-used =
+      let at-byte : (i : ℕ) → i < 4096 → getD img (4096 * h .page + i) 0 ≡ getD (recordPage h) i 0 = λ i k.
+      sym (getD-drop (4096 * h .page) img i 0) ∙ sym (getD-take 4096 (drop (4096 * h .page) img) i 0 k) ∙ ap (λ (z : List ℕ). getD z i 0) is in
+      let z : 4096 * h .page + 4082 + 1 ≡ 4096 * h .page + 4083 = omega arith in
+      rw (z, at-byte 4082 (omega arith), at-byte 4083 (omega arith)) (used-page h small)
+
+  -- and its bytes.
+  pub page-part : (n : ℕ) → n ≡ twoAt img (4096 * h .page + 4082) → take (4096 * h .page + n - 4096 * h .page) (drop (4096 * h .page) img) ≡ recordBytes (h .row)
+  page-part n e =
+      let z : 4096 * h .page + n - 4096 * h .page ≡ recordSize (h .row) = omega (arith, page-used) in
+      rw z (sym (take-take (recordSize (h .row)) 4096 (drop (4096 * h .page) img) (omega arith)) ∙ ap (take (recordSize (h .row))) is ∙ take-page h small)
+
 -- The record on page `holder` names `page` one time, by a proxy at the spot; the bytes of `put` are to take the proxy's place.
 pub record Lift (img : List ℕ) (holder page : ℕ) (sep : List ℕ) : Type 0 where
   pub spot : Spot
@@ -49,20 +65,11 @@ module _ (img : List ℕ) (holder page : ℕ) (sep : List ℕ) (w : Lift img hol
   abbrev held : Held
   held = record { page = holder; settled = w .above; holder = w .up; row = before }
 
-  -- its length, as the page says it
   pub used : twoAt img (4096 * holder + 4082) ≡ recordSize before
-  unfolding twoAt
-  used =
-      let at-byte : (i : ℕ) → i < 4096 → getD img (4096 * holder + i) 0 ≡ getD (recordPage held) i 0 = λ i k.
-      sym (getD-drop (4096 * holder) img i 0) ∙ sym (getD-take 4096 (drop (4096 * holder) img) i 0 k) ∙ ap (λ (z : List ℕ). getD z i 0) (w .is) in
-      let z : 4096 * holder + 4082 + 1 ≡ 4096 * holder + 4083 = omega arith in
-      rw (z, at-byte 4082 (omega arith), at-byte 4083 (omega arith)) (used-page held (w .small))
+  used = page-used img held (w .is) (w .small)
 
-  -- and its bytes
   pub part : (n : ℕ) → n ≡ twoAt img (4096 * holder + 4082) → take (4096 * holder + n - 4096 * holder) (drop (4096 * holder) img) ≡ recordBytes before
-  part n e =
-      let z : 4096 * holder + n - 4096 * holder ≡ recordSize before = omega (arith, used) in
-      rw z (sym (take-take (recordSize before) 4096 (drop (4096 * holder) img) (omega (arith, w .small))) ∙ ap (take (recordSize before)) (w .is) ∙ take-page held (w .small))
+  part n e = page-part img held (w .is) (w .small) n e
 
   pub sep-least : 8 ≤ length sep
   sep-least = omega (arith, w .least, length-bytes (w .put), ap length (w .comes))

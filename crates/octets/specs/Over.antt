@@ -4,7 +4,7 @@ use mathlib.Core.List.{List, [], _∷_, _++_, append-assoc, append-nil}
 use Prim.Native.Nat.{ℕ, suc, _+_, _-_, _/_, _%_, _<_, _≤_}
 use native.Mathlib.Omega.{arith}
 use native.Mathlib.Nat.{add-zero, zero-add, add-assoc}
-use native.Mathlib.Numerals.{add-one}
+use native.Mathlib.Numerals.{add-one, add-two, add-three}
 use lib.ListN.{length, take, drop, getD, set, replicate, length-append, length-take, length-drop, length-replicate, drop-of-length-le, take-append-drop, replicate-append-replicate}
 use lib.Seq.{take-append-le, drop-append-le, take-append-add, drop-append-add, take-at, drop-at, set-at, drop-cons, take-suc, take-all, length-take-le, drop-drop, sets-eq}
 use Rattle.model.specs.Row.{two}
@@ -86,6 +86,11 @@ pub two-at : (at v : ℕ) (l : List ℕ) → at + 1 < length l → v < 65536 →
 two-at at v l h k =
     let e : v / 256 ≡ v / 256 % 256 = omega arith in
     ap (set (set l at (v % 256)) (at + 1)) e ∙ two-sets at (v % 256) (v / 256 % 256) l h
+
+-- four stores
+pub four-sets : (at a b c d : ℕ) (l : List ℕ) → at + 3 < length l → set (set (set (set l at a) (at + 1) b) (at + 2) c) (at + 3) d ≡ over at (a ∷ b ∷ c ∷ d ∷ []) l
+unfolding over
+four-sets at a b c d l h = rw (add-one, add-two, add-three) (sets-eq (a ∷ b ∷ c ∷ d ∷ []) l at (omega arith) ∙ append-assoc (take at l) (a ∷ b ∷ c ∷ d ∷ []) (drop (at + 4) l))
 
 -- two writes in a row, of adjacent pieces, are one
 pub over-then : (at k : ℕ) (xs ys l m n : List ℕ) → m ≡ over at xs l → n ≡ over k ys m → k ≡ at + length xs → at + (length xs + length ys) ≤ length l → n ≡ over at (xs ++ ys) l

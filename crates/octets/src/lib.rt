@@ -4,6 +4,7 @@ ghost use Prim.Native.Nat.{_+_, _≤_, _<_};
 ghost use lib.ListN.{length, replicate};
 ghost use Rattle.model.specs.Row as row;
 ghost use Rattle.model.specs.Reading.{twoAt};
+ghost use Rattle.model.specs.Calls.{four};
 ghost use Rattle.octets.specs.Over.{over};
 
 // A byte as a number of the machine.
@@ -30,6 +31,17 @@ pub fn put16(s: &mut [u8], at: usize, v: usize)
 {
     s[at] = (v % 256) as u8;
     s[at + 1] = (v / 256) as u8;
+}
+
+// Writes the low four bytes of the number v at `at`, low byte first.
+pub fn put32(s: &mut [u8], at: usize, v: usize)
+    requires { ⌜ at + 4 ≤ length (now s) ⌝ }
+    ensures { λ _. ⌜ now (s .exit) ≡ over at (four v) (now (s .entry)) ⌝ }
+{
+    s[at] = (v % 256) as u8;
+    s[at + 1] = (v / 256 % 256) as u8;
+    s[at + 2] = (v / 65536 % 256) as u8;
+    s[at + 3] = (v / 16777216 % 256) as u8;
 }
 
 // Copies all of src into dst from `at`.

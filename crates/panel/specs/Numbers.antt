@@ -4,6 +4,7 @@ use Prim.Native.Nat.{ℕ}
 use Rattle.model.specs.declared.Settings.{Settings}
 use Rattle.model.specs.declared.Place.{Place}
 use Rattle.model.specs.declared.ReadNode.{ReadNode}
+use Rattle.model.specs.declared.InsertAnswer.{InsertAnswer}
 
 abbrev pub settings : (pages target tolerance form : ℕ) → Settings
 settings p t o f = record { pages = p; target = t; tolerance = o; form = f }
@@ -14,3 +15,7 @@ placeNumbers x = x .page ∷ x .offset ∷ []
 -- Kind, label, number of children, start of the content in the image, its length.
 abbrev pub readNumbers : ReadNode → List ℕ
 readNumbers r = r .kind ∷ r .label ∷ r .children ∷ r .start ∷ r .len ∷ []
+
+-- Page and offset of the new node, records split.
+abbrev pub insertNumbers : InsertAnswer → List ℕ
+insertNumbers a = a .place .page ∷ a .place .offset ∷ a .splits ∷ []

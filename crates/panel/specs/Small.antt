@@ -5,20 +5,24 @@ use mathlib.Core.List.{List, [], _∷_, _++_}
 use mathlib.Core.Option.{Option, none, some}
 use Prim.Native.Nat.{ℕ, _+_, _*_, _≤_, _<_}
 use native.Mathlib.Omega.{arith}
-use borrow.Author.Tests.{eqb-true, eqb-false}
+use borrow.Author.Tests.{eqb-true, eqb-false, lt-ltb}
 use lib.ListN.{length, drop, length-append}
 use lib.Dec.{ltb, eqb}
-use Rattle.model.specs.Row.{Row, Config}
+use Rattle.model.specs.Row.{Row, image, Config}
 use Rattle.model.specs.Tree.{Tree, shown, Node, nodes, named, placeOf, fromPlace}
 use Rattle.model.specs.Reading.{Reads}
-use Rattle.model.specs.Answers.{lowest, findRefused, writeRefused, shortBuffer}
-use Rattle.model.specs.Calls.{isNone, namedBy, placeOr, pathOf, pathBytes, write, climbIn, climbFrom, nextIn, nextFrom, findIn, findOf, climbOf, readOf, nextOf, pageBytes, recordPages, recordsOf, checkOf}
+use Rattle.model.specs.Answers.{lowest, insertRefused, findRefused, writeRefused, shortBuffer}
+use Rattle.model.specs.Calls.{insertNumber, newOf, grown, insertOf, isNone, namedBy, placeOr, pathOf, pathBytes, write, climbIn, climbFrom, nextIn, nextFrom, findIn, findOf, climbOf, readOf, nextOf, pageBytes, recordPages, recordsOf, checkOf}
 use Rattle.model.specs.declared.Place.{Place}
 use Rattle.model.specs.declared.Next.{Next}
 use Rattle.model.specs.declared.Next.the-variants as next-is
 use Rattle.model.specs.declared.NextAnswer.{NextAnswer}
 use Rattle.model.specs.declared.FindAnswer.{FindAnswer}
 use Rattle.model.specs.declared.WriteAnswer.{WriteAnswer}
+use Rattle.model.specs.Growth.{Out}
+use Rattle.model.specs.Plain.{insert, Typed}
+use Rattle.model.specs.declared.InsertAnswer.{InsertAnswer}
+use Rattle.grows.specs.Growth.{growth}
 use Rattle.laws.specs.Laws.{cond-case}
 use Rattle.laws.specs.Keeps.{height-shown}
 use Rattle.reads.specs.Reading.{reads-valid, reads-length}
@@ -147,3 +151,32 @@ records-small img buffer = by-store _ img (λ n z e. records-zero img n z e (upP
 
 pub read-small : (img : List ℕ) (x : Place) → readOf img x .start + readOf img x .len ≤ 4194304
 read-small img x = by-store _ img (λ n z e. read-zero img n z e x) (λ st root r. read-start-small img st root r x)
+
+-- ── insert ──
+
+module _ (img path : List ℕ) (child kind label : ℕ) (content : List ℕ) (typed : Typed (insert path child kind label content)) where
+  inserted-small : (st : Config) (root : Row) → Reads img st root → SmallPlace (insertOf img path child kind label content .0 .place)
+  unfolding insertOf
+  inserted-small st root r = rw (opens img st root r) (go (eqb n 0) refl)
+    where
+      o : Out
+      o = grown st root path child (newOf kind label content)
+
+      n : ℕ
+      n = insertNumber (shown root) path child (newOf kind label content) (o .1 .full)
+
+      small : n ≡ 0 → SmallPlace (placeOr (placeOf (o .0) (pathOf path ++ child ∷ [])))
+      small e =
+          let v = growth st root path child (newOf kind label content) (r .passes) (lt-ltb label 65536 (typed .0)) (typed .1) e in
+          small-place (image st (o .0)) st (o .0) (record { passes = v .keeps; same = refl }) (pathOf path ++ child ∷ [])
+
+      go : (b : Bool) → eqb n 0 ≡ b → SmallPlace (cond {A = InsertAnswer × List ℕ} b (record { number = 0; place = placeOr (placeOf (o .0) (pathOf path ++ child ∷ [])); splits = o .1 .splits; lean = o .1 .lean }, image st (o .0)) (insertRefused n, img) .0 .place)
+      go true e = small (eqb-true n 0 e)
+      go false e = no-place
+
+  insert-zero : (n : ℕ) → (n ≡ 0 → ⊥) → checkOf img ≡ n → SmallPlace (insertOf img path child kind label content .0 .place)
+  unfolding insertOf
+  insert-zero n z e = rw (refuses img n e z) no-place
+
+  pub insert-small : SmallPlace (insertOf img path child kind label content .0 .place)
+  insert-small = by-store _ img insert-zero inserted-small

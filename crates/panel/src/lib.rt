@@ -5,9 +5,9 @@ use model::Settings;
 ghost use mathlib.Core.Path.{_≡_};
 ghost use mathlib.Core.List.{List, [], _∷_};
 ghost use Rattle.model.specs.Answers.{nextNumbers};
-ghost use Rattle.model.specs.Calls.{formatOf, checkOf, findOf, climbOf, readOf, nextOf, recordsOf};
+ghost use Rattle.model.specs.Calls.{formatOf, checkOf, insertOf, findOf, climbOf, readOf, nextOf, recordsOf};
 ghost use Rattle.records.specs.Up.{upPages};
-ghost use Rattle.panel.specs.Numbers.{settings, placeNumbers, readNumbers};
+ghost use Rattle.panel.specs.Numbers.{settings, insertNumbers, placeNumbers, readNumbers};
 ghost use Rattle.panel.specs.Small.{SmallNext};
 
 #[no_mangle]
@@ -37,6 +37,28 @@ pub extern "C" fn nl_check(image: &[u8]) -> u32
     ensures { λ r. ⌜ r ≡ checkOf (now (image .entry)) ⌝ }
 {
     store::check(image)
+}
+
+#[no_mangle]
+pub extern "C" fn nl_insert(
+    image: &mut [u8],
+    parent: &[u8],
+    child: u32,
+    kind: u32,
+    label: u16,
+    content: &[u8],
+    answer: &mut [u32; 3],
+    lean: &mut i32,
+) -> u32
+    ensures number { λ r. ⌜ r ≡ insertOf (now (image .entry)) (now (parent .entry)) child kind label (now (content .entry)) .0 .number ⌝ }
+    ensures answer { λ _. ⌜ now (answer .exit) ≡ insertNumbers (insertOf (now (image .entry)) (now (parent .entry)) child kind label (now (content .entry)) .0) ⌝ }
+    ensures lean { λ _. ⌜ now (lean .exit) ≡ insertOf (now (image .entry)) (now (parent .entry)) child kind label (now (content .entry)) .0 .lean ⌝ }
+    ensures image { λ _. ⌜ now (image .exit) ≡ insertOf (now (image .entry)) (now (parent .entry)) child kind label (now (content .entry)) .1 ⌝ }
+{
+    let a = store::insert(image, parent, child, kind as usize, label, content);
+    *answer = [a.place.page as u32, a.place.offset as u32, a.splits];
+    *lean = a.lean;
+    a.number
 }
 
 #[no_mangle]

@@ -72,7 +72,7 @@ pub bytes-say : (c : List ℕ) → every isByte c ≡ true → IsByte c
 bytes-say [] e = tt
 bytes-say (b ∷ c) e = let h = both (isByte b) (every isByte c) e in (ltb-true b 256 (h .0), bytes-say c (h .1))
 
-bytes-hold : (c : List ℕ) → IsByte c → every isByte c ≡ true
+pub bytes-hold : (c : List ℕ) → IsByte c → every isByte c ≡ true
 bytes-hold [] h = refl
 bytes-hold (b ∷ c) h = rw (lt-ltb b 256 (h .0)) (bytes-hold c (h .1))
 

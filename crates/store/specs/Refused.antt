@@ -2,13 +2,17 @@
 use mathlib.Core.Path.{_≡_, refl, sym, ap}
 use mathlib.Core.List.{List}
 use Prim.Native.Nat.{ℕ}
-use Rattle.model.specs.Answers.{findRefused, writeRefused, readRefused, nextRefused}
-use Rattle.model.specs.Calls.{checkOf, findOf, climbOf, readOf, nextOf, recordsOf}
+use Rattle.model.specs.Answers.{insertRefused, findRefused, writeRefused, readRefused, nextRefused}
+use Rattle.model.specs.Calls.{checkOf, insertOf, findOf, climbOf, readOf, nextOf, recordsOf}
 use Rattle.model.specs.declared.Place.{Place}
 use Rattle.model.specs.declared.WriteAnswer.{WriteAnswer}
 use Rattle.agree.specs.Open.{refuses}
 
 module _ (img : List ℕ) (n : ℕ) (e : n ≡ checkOf img) (z : n ≡ 0 → ⊥) where
+  pub insert-refused : (path : List ℕ) (child kind label : ℕ) (content : List ℕ) → (insertRefused n, img) ≡ insertOf img path child kind label content
+  unfolding insertOf
+  insert-refused path child kind label content = rw (refuses img n (sym e) z)
+
   pub find-refused : (path : List ℕ) → findRefused n ≡ findOf img path
   unfolding findOf
   find-refused path = rw (refuses img n (sym e) z)

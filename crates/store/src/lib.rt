@@ -1,5 +1,6 @@
 // The public calls: each for any bytes and arguments, the lowest refusal number first, and nothing written where it is refused.
 use model::FindAnswer;
+use model::InsertAnswer;
 use model::Next;
 use model::NextAnswer;
 use model::Place;
@@ -8,7 +9,7 @@ use model::Settings;
 use model::WriteAnswer;
 ghost use mathlib.Core.Path.{_≡_};
 ghost use mathlib.Core.List.{List};
-ghost use Rattle.model.specs.Calls.{formatOf, checkOf, findOf, climbOf, readOf, partOf, nextOf, recordsOf};
+ghost use Rattle.model.specs.Calls.{formatOf, checkOf, insertOf, findOf, climbOf, readOf, partOf, nextOf, recordsOf};
 ghost use Rattle.store.specs.Part.{slice};
 ghost use Rattle.records.specs.Up.{upPages};
 
@@ -24,6 +25,30 @@ pub fn check(image: &[u8]) -> u32
     ensures { λ r. ⌜ r ≡ checkOf (now (image .entry)) ⌝ }
 {
     inspect::check(image)
+}
+
+// Puts a new node as child `child` of the aggregate that the path names, and gives its place, how many records were split and the lean of the first split.
+pub fn insert(
+    image: &mut [u8],
+    path: &[u8],
+    child: u32,
+    kind: usize,
+    label: u16,
+    content: &[u8],
+) -> InsertAnswer
+    ensures answer { λ r. ⌜ r ≡ insertOf (now (image .entry)) (now (path .entry)) child kind label (now (content .entry)) .0 ⌝ }
+    ensures image { λ _. ⌜ now (image .exit) ≡ insertOf (now (image .entry)) (now (path .entry)) child kind label (now (content .entry)) .1 ⌝ }
+{
+    let n = check(image);
+    if n != 0 {
+        return InsertAnswer {
+            number: n,
+            place: Place { page: 0, offset: 0 },
+            splits: 0,
+            lean: 0,
+        };
+    }
+    insert::insert_of(image, path, child, kind, label, content)
 }
 
 // The place of the node that a path names.

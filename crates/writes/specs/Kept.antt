@@ -237,17 +237,22 @@ module _ (st : Config) (root : Row) (v : Valid st root) (m : Mem) (stored : Stor
         settings = refl;
       }
 
-  -- From a new row for the last record of a chain, with its work and its memory, upwards.
-  pub rise-kept : (c : Chain) (old : Row) → whole c old ≡ root → (r : Row) (w : Work) (m₁ : Mem)
-      → (w .full ≡ false → Now (λ q. beyond st c q + own c q) r w m₁) → (w .full ≡ false → (q : ℕ) → 0 < beyond st c q → m₁ q ≡ m q)
-      → Fits (rise st c (r, w) .0) → rise st c (r, w) .1 .full ≡ false → Done st (m 0) (rise st c (r, w) .0) (rise st c (r, w) .1) (riseMem st c r w m₁)
-  rise-kept c old e r w m₁ now same =
-      rise-done st (m 0) c old r w m₁ (chain-low c old (subst (λ (r : Row). Fits (store r)) (sym e) (v .rows)))
-      (λ z. record {
-        around = around-agree st m m₁ c old (same z) (at-rest c old e .around);
-        now = now z;
-        settings = same z 0 (beyond-first st c);
-      })
+  -- The new node at a spot of the last record of a chain: the record is ready, and its page is as it was.
+  pub ready-place : (c : Chain) (s : Spot) (rest : Row) → whole c (fill s rest) ≡ root → (x : New) (parent : Head)
+      → let o = placeM st x parent (lastPage c) s rest (atRest st root) m in
+      Fits (o .row) → o .work .full ≡ false → Ready st (m 0) c (fill s rest) (o .row) (o .work) (o .mem) × (o .mem (lastPage c) ≡ m (lastPage c))
+  ready-place c s rest e x parent f full =
+      let w = atRest st root in
+      let o = placeM st x parent (lastPage c) s rest w m in
+      let r = at-rest c (fill s rest) e in
+      let k = step-place st x parent (lastPage c) s rest (λ q. beyond st c q + own c q) w m f (λ _. r .now) full in (
+        record {
+          around = around-agree st m (o .mem) c (fill s rest) (λ q y. k .frame q (omega arith)) (r .around);
+          now = k .now;
+          settings = k .frame 0 (omega (arith, beyond-first st c)) ∙ r .settings;
+        },
+        k .frame (lastPage c) (omega (arith, self (lastPage c))),
+      )
 
   -- The new node at a spot of the last record of a chain, and growth from there upwards.
   pub insert-kept : (c : Chain) (s : Spot) (rest : Row) → whole c (fill s rest) ≡ root → (x : New) (parent : Head)
@@ -255,8 +260,6 @@ module _ (st : Config) (root : Row) (v : Valid st root) (m : Mem) (stored : Stor
       let u = rise st c (o .row, o .work) in
       Fits (u .0) → u .1 .full ≡ false → Done st (m 0) (u .0) (u .1) (riseMem st c (o .row) (o .work) (o .mem))
   insert-kept c s rest e x parent f full =
-      let w = atRest st root in
-      let o = placeM st x parent (lastPage c) s rest w m in
-      let k : o .work .full ≡ false → Kept (λ q. beyond st c q + own c q) w m o =
-      step-place st x parent (lastPage c) s rest (λ q. beyond st c q + own c q) w m (fits-rise st c (o .row, o .work) f) (λ _. at-rest c (fill s rest) e .now) in
-      rise-kept c (fill s rest) e (o .row) (o .work) (o .mem) (λ z. k z .now) (λ z q y. k z .frame q (omega arith)) f full
+      let o = placeM st x parent (lastPage c) s rest (atRest st root) m in
+      rise-done st (m 0) c (fill s rest) (o .row) (o .work) (o .mem) (chain-low c (fill s rest) (subst (λ (r : Row). Fits (store r)) (sym e) (v .rows)))
+      (λ z. ready-place c s rest e x parent (fits-rise st c (o .row, o .work) f) z .0) f full

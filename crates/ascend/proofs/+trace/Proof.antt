@@ -8,7 +8,7 @@ use Rattle.ascend.proofs.trace.Reads as trace
 use Rattle.ascend.proofs.trace.Kinds as trace-kinds
 use Rattle.ascend.proofs.+trace.Lts-trace as trace-lts
 use Rattle.ascend.proofs.child_at.Reads as child-at-reads
-use Rattle.ascend.proofs.put32.Reads as put32-reads
+use Rattle.octets.proofs.put32.Reads as put32-reads
 use Rattle.ascend.proofs.+trace.{statement}
 use Rattle.ascend.proofs.+trace.Tie.{close}
 
@@ -70,7 +70,7 @@ trace-put32-requires t c κs =
     let f = c .before .before .before .before .before .before .before .child-at .ensures (w .search) .0 in
     let k = c .before .before .before .before .before .if1 .left in
     let n = c .before .before .trace .ensures (trace-below _ _ _ _ _ w _ f k) in
-    (omega (arith, room-below _ _ _ _ _ w _ f k _ _ _ _ n), n .long)
+    omega (arith, room-below _ _ _ _ _ w _ f k _ _ _ _ n, n .long)
 
 trace-sub-t11 : (t : ℕ) → trace-lts.Need-sub-t11 (claims t) (trace-at t) trace.Post
 trace-sub-t11 t c =

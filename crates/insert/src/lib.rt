@@ -1,0 +1,117 @@
+// An insert on an image that passes the check: the node goes into the record that takes it, and growth goes on from there. First dry, then writing.
+use admit::admit;
+use cascade::Grown;
+use cascade::rise;
+use fresh::place_node;
+use fresh::put_node;
+use fresh::usage;
+use locate::find_child;
+use model::InsertAnswer;
+use model::Place;
+use octets::two;
+use receive::find_receiver;
+use splice::splice;
+ghost use mathlib.Core.Path.{_≡_};
+ghost use lib.ListN.{length};
+ghost use Rattle.model.specs.Row.{recordSize, recordBytes};
+ghost use Rattle.octets.specs.Over.{over};
+ghost use Rattle.model.specs.Answers.{insertRefused};
+ghost use Rattle.model.specs.Calls.{checkOf, insertOf};
+ghost use Rattle.insert.specs.Taken.{Taken, taken};
+ghost use Rattle.insert.specs.Begin.{Begin, Grew};
+
+// Writes to the front of buf the record on the page with the new node's bytes at byte `at`, in the node at par, and gives its length.
+fn take_in(image: &[u8], page: usize, at: usize, par: usize, new: &[u8], buf: &mut [u8]) -> usize
+    requires { ⌜ Taken (now image) page at par (now new) × (length (now buf) ≡ 4608) ⌝ }
+    ensures { λ r. ⌜ ((w : Taken (now (image .entry)) page at par (now (new .entry)))
+        → (r ≡ recordSize (taken w)) × (now (buf .exit) ≡ over 0 (recordBytes (taken w)) (now (buf .entry)))) ⌝ }
+{
+    let a = 4096 * page;
+    let e = a + two(image, a + 4082);
+    splice(&image[a..e], at, par, 0, new, buf)
+}
+
+// Puts the node, whose label is `label`, as child k of the aggregate at the byte `parent`, with all that growth does. A dry run counts and leaves the image.
+fn once(image: &mut [u8], parent: usize, k: usize, label: usize, node: &[u8], dry: bool) -> Grown
+    requires { ⌜ Begin dry (now image) parent k label (now node) ⌝ }
+    ensures { λ r. ⌜ ((w : Begin dry (now (image .entry)) parent k label (now (node .entry))) → Grew w (r .full) (r .splits) (r .lean) (now (image .exit))) ⌝ }
+{
+    let pages = image.len() / 4096;
+    let target = image[2] as usize;
+    let tolerance = two(image, 4);
+    let above = two(image, parent + 2);
+    let mut used = usage(image, pages);
+    let t = find_receiver(image, parent, k);
+    let mut new = [0u8; 526];
+    let f = place_node(
+        image,
+        &mut used,
+        pages,
+        t.page,
+        above,
+        label,
+        node,
+        dry,
+        &mut new,
+    );
+    let mut buf = [0u8; 4608];
+    let len = take_in(image, t.page, t.at, t.par, &new[..f.size], &mut buf);
+    rise(
+        image,
+        &mut used,
+        pages,
+        target,
+        tolerance,
+        t.page,
+        &mut buf,
+        len,
+        f.full,
+        dry,
+    )
+}
+
+fn refused(number: u32) -> InsertAnswer
+    ensures { λ r. ⌜ r ≡ insertRefused number ⌝ }
+{
+    InsertAnswer {
+        number: number,
+        place: Place { page: 0, offset: 0 },
+        splits: 0,
+        lean: 0,
+    }
+}
+
+// Insert, on an image that passes the check. The dry run finds whether the store is full, so that a refused insert alters no byte.
+pub fn insert_of(
+    image: &mut [u8],
+    path: &[u8],
+    child: u32,
+    kind: usize,
+    label: u16,
+    content: &[u8],
+) -> InsertAnswer
+    requires { ⌜ checkOf (now image) ≡ 0 ⌝ }
+    ensures answer { λ r. ⌜ r ≡ insertOf (now (image .entry)) (now (path .entry)) child kind label (now (content .entry)) .0 ⌝ }
+    ensures image { λ _. ⌜ now (image .exit) ≡ insertOf (now (image .entry)) (now (path .entry)) child kind label (now (content .entry)) .1 ⌝ }
+{
+    let k = child as usize;
+    let l = label as usize;
+    let a = admit(image, path, k, kind, content);
+    if a.number != 0 {
+        return refused(a.number);
+    }
+    let mut node = [0u8; 526];
+    let n = put_node(&mut node, kind, l, content);
+    let tried = once(image, a.parent, k, l, &node[..n], true);
+    if tried.full {
+        return refused(12);
+    }
+    let made = once(image, a.parent, k, l, &node[..n], false);
+    let place = find_child(image, path, k);
+    InsertAnswer {
+        number: 0,
+        place: place,
+        splits: made.splits,
+        lean: made.lean,
+    }
+}
