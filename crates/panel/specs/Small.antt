@@ -9,7 +9,7 @@ use borrow.Author.Tests.{eqb-true, eqb-false, lt-ltb}
 use lib.ListN.{length, drop, length-append}
 use lib.Dec.{ltb, eqb}
 use Rattle.model.specs.Row.{Row, image, Config}
-use Rattle.model.specs.Tree.{Tree, shown, Node, nodes, named, placeOf, fromPlace}
+use Rattle.model.specs.Tree.{Tree, shown, New, Node, nodes, named, placeOf, fromPlace}
 use Rattle.model.specs.Reading.{Reads}
 use Rattle.model.specs.Answers.{lowest, insertRefused, findRefused, writeRefused, shortBuffer}
 use Rattle.model.specs.Calls.{insertNumber, newOf, grown, insertOf, isNone, namedBy, placeOr, pathOf, pathBytes, write, climbIn, climbFrom, nextIn, nextFrom, findIn, findOf, climbOf, readOf, nextOf, pageBytes, recordPages, recordsOf, checkOf}
@@ -20,8 +20,10 @@ use Rattle.model.specs.declared.NextAnswer.{NextAnswer}
 use Rattle.model.specs.declared.FindAnswer.{FindAnswer}
 use Rattle.model.specs.declared.WriteAnswer.{WriteAnswer}
 use Rattle.model.specs.Growth.{Out}
-use Rattle.model.specs.Plain.{insert, Typed}
+use Rattle.model.specs.Claims.{InLean}
 use Rattle.model.specs.declared.InsertAnswer.{InsertAnswer}
+use Rattle.laws.specs.Fits.{IsByte}
+use Rattle.reads.specs.Valid.{bytes-hold}
 use Rattle.grows.specs.Growth.{growth}
 use Rattle.laws.specs.Laws.{cond-case}
 use Rattle.laws.specs.Keeps.{height-shown}
@@ -154,29 +156,43 @@ read-small img x = by-store _ img (λ n z e. read-zero img n z e x) (λ st root 
 
 -- ── insert ──
 
-module _ (img path : List ℕ) (child kind label : ℕ) (content : List ℕ) (typed : Typed (insert path child kind label content)) where
-  inserted-small : (st : Config) (root : Row) → Reads img st root → SmallPlace (insertOf img path child kind label content .0 .place)
+-- A place that fits, and a lean in its range.
+pub record SmallInsert (a : InsertAnswer) : Type 0 where
+  pub place : SmallPlace (a .place)
+  pub lean : InLean (a .lean)
+
+zero-insert : (n : ℕ) → SmallInsert (insertRefused n)
+zero-insert n = record { place = no-place; lean = omega arith }
+
+module _ (img path : List ℕ) (child kind label : ℕ) (content : List ℕ) (small : label < 65536) (byte : IsByte content) where
+  inserted-small : (st : Config) (root : Row) → Reads img st root → SmallInsert (insertOf img path child kind label content .0)
   unfolding insertOf
   inserted-small st root r = rw (opens img st root r) (go (eqb n 0) refl)
     where
+      x : New
+      x = newOf kind label content
+
       o : Out
-      o = grown st root path child (newOf kind label content)
+      o = grown st root path child x
 
       n : ℕ
-      n = insertNumber (shown root) path child (newOf kind label content) (o .1 .full)
+      n = insertNumber (shown root) path child x (o .1 .full)
 
-      small : n ≡ 0 → SmallPlace (placeOr (placeOf (o .0) (pathOf path ++ child ∷ [])))
-      small e =
-          let v = growth st root path child (newOf kind label content) (r .passes) (lt-ltb label 65536 (typed .0)) (typed .1) e in
-          small-place (image st (o .0)) st (o .0) (record { passes = v .keeps; same = refl }) (pathOf path ++ child ∷ [])
+      answer : InsertAnswer
+      answer = record { number = 0; place = placeOr (placeOf (o .0) (pathOf path ++ child ∷ [])); splits = o .1 .splits; lean = o .1 .lean }
 
-      go : (b : Bool) → eqb n 0 ≡ b → SmallPlace (cond {A = InsertAnswer × List ℕ} b (record { number = 0; place = placeOr (placeOf (o .0) (pathOf path ++ child ∷ [])); splits = o .1 .splits; lean = o .1 .lean }, image st (o .0)) (insertRefused n, img) .0 .place)
-      go true e = small (eqb-true n 0 e)
-      go false e = no-place
+      accepted : n ≡ 0 → SmallInsert answer
+      accepted e =
+          let v = growth st root path child x (r .passes) (lt-ltb label 65536 small) (bytes-hold content byte) e in
+          record { place = small-place (image st (o .0)) st (o .0) (record { passes = v .keeps; same = refl }) (pathOf path ++ child ∷ []); lean = v .lean }
 
-  insert-zero : (n : ℕ) → (n ≡ 0 → ⊥) → checkOf img ≡ n → SmallPlace (insertOf img path child kind label content .0 .place)
+      go : (b : Bool) → eqb n 0 ≡ b → SmallInsert (cond {A = InsertAnswer × List ℕ} b (answer, image st (o .0)) (insertRefused n, img) .0)
+      go true e = accepted (eqb-true n 0 e)
+      go false e = zero-insert n
+
+  insert-zero : (n : ℕ) → (n ≡ 0 → ⊥) → checkOf img ≡ n → SmallInsert (insertOf img path child kind label content .0)
   unfolding insertOf
-  insert-zero n z e = rw (refuses img n e z) no-place
+  insert-zero n z e = rw (refuses img n e z) (zero-insert n)
 
-  pub insert-small : SmallPlace (insertOf img path child kind label content .0 .place)
+  pub insert-small : SmallInsert (insertOf img path child kind label content .0)
   insert-small = by-store _ img insert-zero inserted-small

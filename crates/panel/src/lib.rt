@@ -57,7 +57,8 @@ pub extern "C" fn nl_insert(
 {
     let a = store::insert(image, parent, child, kind as usize, label, content);
     *answer = [a.place.page as u32, a.place.offset as u32, a.splits];
-    *lean = a.lean;
+    let l = a.lean;
+    *lean = l;
     a.number
 }
 
