@@ -83,6 +83,66 @@ static inline void make_chain(uint8_t *image, unsigned pages, unsigned (*fill)(u
     }
 }
 
+/* Literals of 520 bytes and a last one that fills what is left. */
+static inline unsigned fill_literals(uint8_t *at, unsigned left, unsigned page) {
+    unsigned n = 0;
+    while (left - n > 526 + 6) {
+        memset(put_node(at + n, 2, 9, 526), (int)(page % 255 + 1), 520);
+        n += 526;
+    }
+    if (left - n > 526) {
+        put_node(at + n, 2, 9, 6);
+        n += 6;
+    }
+    memset(put_node(at + n, 2, 9, left - n), 8, left - n - 6);
+    return left;
+}
+
+/* An image with `free` free pages. The root's record begins (or, with `last`, ends) with a proxy to the first of `full` nested records of 4,080
+ * bytes, each of which begins with a proxy to the next; if `full` is 0, to one with two nodes. An insert after the first node of the deepest
+ * splits all the `full` ones (and none if there are none). All other pages hold records filled by `fill`, under fans of up to 500 proxies.
+ * Gives the child number for that insert. */
+static inline uint32_t make_nested(uint8_t *image, unsigned pages, unsigned free, unsigned full, int last,
+                                   unsigned (*fill)(uint8_t *, unsigned, unsigned)) {
+    memset(image, 0, (size_t)pages * 4096);
+    put_settings(image, pages);
+    uint32_t before = 0;
+    unsigned nested = full ? full : 1, end = pages - free, fans = (end - 2 - nested + 500) / 501, next = 2 + nested + fans;
+    uint8_t *root = image + 4096, *at = root + 6;
+    if (!last) at = put_proxy(at, 2);
+    for (unsigned f = 0; f < fans; f++) at = put_proxy(at, 2 + nested + f);
+    if (last) at = put_proxy(at, 2);
+    put_node(root, 1, 7, (unsigned)(at - root));
+    put_trailer(root, 1, 1, (unsigned)(at - root), 0);
+    for (unsigned i = 0; i < nested; i++) {
+        uint8_t *page = image + 4096u * (2 + i);
+        at = page + 6;
+        if (i + 1 < nested) at = put_proxy(at, 3 + i);
+        if (full)
+            at += fill_literals(at, 4080 - (unsigned)(at - page), i);
+        else
+            at = put_node(put_node(at, 1, 9, 6), 1, 9, 6);
+        put_node(page, 4, 0, (unsigned)(at - page));
+        put_trailer(page, 1, 0, (unsigned)(at - page), 1 + i);
+    }
+    for (unsigned f = 0; f < fans; f++) {
+        uint8_t *fan = image + 4096u * (2 + nested + f);
+        at = put_node(put_node(fan, 4, 0, 0), 2, 1, 6);
+        before++;
+        for (unsigned k = 0; k < 500 && next < end; k++, next++) {
+            at = put_proxy(at, next);
+            uint8_t *page = image + 4096u * next;
+            unsigned n = 6 + fill(page + 6, 4074, next);
+            for (unsigned i = 6; i < n; i += page[i + 4] + 256u * page[i + 5]) before++;
+            put_node(page, 4, 0, n);
+            put_trailer(page, 1, 0, n, 2 + nested + f);
+        }
+        put_node(fan, 4, 0, (unsigned)(at - fan));
+        put_trailer(fan, 1, 0, (unsigned)(at - fan), 1);
+    }
+    return last ? before + 1 : 1;
+}
+
 /* 677 aggregates of 6 bytes: the most nodes that have room beside a proxy. */
 static inline unsigned fill_small(uint8_t *at, unsigned left, unsigned page) {
     unsigned n = 0;

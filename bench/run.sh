@@ -6,4 +6,6 @@ cc=${CC:-gcc}
 echo "bench: proving and building the archive (minutes)"
 rt staticlib panel >/dev/null
 "$cc" -std=c99 -D_POSIX_C_SOURCE=200809L -O3 -Wall -Wextra bench/check.c target/staticlib/libpanel.a -o target/bench_check
+"$cc" -std=c99 -D_POSIX_C_SOURCE=200809L -O3 -Wall -Wextra bench/insert.c target/staticlib/libpanel.a -o target/bench_insert
 target/bench_check
+target/bench_insert

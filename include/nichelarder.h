@@ -10,7 +10,14 @@
  *  - no pointer may be null, also where its length is 0;
  *  - a length is the number of bytes that the pointer leads to;
  *  - a buffer that is lent for writing overlaps neither the image nor another buffer of the same call.
- * The functions keep no state and allocate nothing: they may be called from several threads on different images.
+ * The image and the buffers stay the caller's; the library keeps no pointer. The functions keep no state and allocate nothing: they may be called
+ * from several threads on different images. They need up to 320 KB of stack on the deepest images, 16 KB on usual ones (each record nested in
+ * another takes some 250 bytes).
+ *
+ * The format, for those who look at bytes: a record is a tree of nodes, each a header of six bytes (kind, label, size, two bytes each, low byte first)
+ * and what it holds. Kind 1 is an aggregate, 2 a literal, 3 a proxy: two bytes that name the page of the record that stands in its place, 4 a helper:
+ * the root of a record that holds several nodes. A page ends in 16 bytes: whether it has a record, whether that is settled, its length and the
+ * page that holds its proxy. Calls show neither proxies nor helpers.
  */
 #ifndef NICHELARDER_H
 #define NICHELARDER_H
@@ -32,21 +39,27 @@ extern "C" {
 #define NL_AGGREGATE 1u
 #define NL_LITERAL 2u
 
+/* What a call returns: 0, or why it refused, and what to do about it. */
 enum nl_refusal {
     NL_OK = 0,
     NL_LENGTH = 1,    /* the image's length is not 2 to 1,024 pages: lend the whole image and nothing more */
-    NL_SETTINGS = 2,  /* a setting is out of range, or the page count is not the image's */
-    NL_BROKEN = 3,    /* the image does not pass the check: it is damaged, or was never formatted */
-    NL_LEVEL = 4,     /* the path has over 23 entries (92 bytes); over 22 (88 bytes) for an insert */
-    NL_KIND = 5,      /* insert: the kind is not 1 or 2, or an aggregate has content */
-    NL_LONG = 6,      /* insert: the content has over 520 bytes */
-    NL_ABSENT = 7,    /* the path names no node, or is not whole entries */
-    NL_CLOSED = 8,    /* insert: the parent is a literal */
-    NL_GAP = 9,       /* insert: the child number is above the number of children */
-    NL_STRAY = 10,    /* no node starts at the place: it is from before an insert or a format, or made up */
-    NL_SHORT = 11,    /* the lent buffer is too short: nothing was written */
-    NL_FULL = 12      /* insert: a page is needed and none is free */
+    NL_SETTINGS = 2,  /* format: a setting is out of range, or the page count is not the image's: correct the arguments */
+    NL_BROKEN = 3,    /* the image does not pass the check: it is damaged or was never formatted; load it again, or format it */
+    NL_LEVEL = 4,     /* the path has over 23 entries (92 bytes), for an insert over 22 (88 bytes): a tree has 24 levels, put the node higher */
+    NL_KIND = 5,      /* insert: the kind is not 1 or 2, or an aggregate has content: content goes into a literal */
+    NL_LONG = 6,      /* insert: the content has over 520 bytes: divide it over several literals */
+    NL_ABSENT = 7,    /* the path names no node, or is not whole entries of four bytes: look the node up again */
+    NL_CLOSED = 8,    /* insert: the parent is a literal, which has no children: choose an aggregate */
+    NL_GAP = 9,       /* insert: the child number is above the number of children: the number of children itself appends */
+    NL_STRAY = 10,    /* no node starts at the place: it is from before an insert or a format; find it again by its path */
+    NL_SHORT = 11,    /* the lent buffer is too short, and nothing was written: NL_PATH bytes take every path, 2 * NL_PAGES every list of records */
+    NL_FULL = 12      /* insert: a page is needed and none is free: nothing was changed; format a larger image and insert again what this one holds */
 };
+
+/* The names of the numbers 0 to 12 for messages: static const char *const names[] = NL_REFUSAL_NAMES; */
+#define NL_REFUSAL_NAMES                                                                                                                  \
+    { "ok", "wrong length", "wrong settings", "broken image", "path too long", "wrong kind", "content too long", "no such node",           \
+      "parent is a literal", "child number too high", "no node at this place", "buffer too short", "store full" }
 
 /* Makes any bytes an image with a root aggregate alone. matrix: 256 entries, 16 * class of parent + class of child, each 0 (apart) or 2
  * (free choice); a label's class is the label below 15, else 15. Usual: target 128, tolerance 409, form 1, matrix all 2.

@@ -1,4 +1,4 @@
-/* The deepest image, a chain through 1,022 record pages, passes every call; run under a small stack. */
+/* The deepest image, a chain through 1,022 record pages, passes every call, and the longest cascade is done; run under a small stack. */
 #include <stdio.h>
 #include <stdlib.h>
 
@@ -9,6 +9,31 @@ static int wrong(const char *what) {
     printf("deep: %s\n", what);
     return 1;
 }
+
+#ifdef NL_HAS_INSERT
+/* A literal after the first node of the deepest record of a chain: all its records split, if there are pages. */
+static uint32_t insert_deep(uint8_t *image, size_t len, unsigned chain, uint32_t answer[3]) {
+    static const uint8_t content[10];
+    int32_t lean;
+    memset(image, 0, len);
+    make_chain(image, chain, fill_small);
+    put16(image, (unsigned)(len / 4096));
+    return nl_insert(image, len, content, 0, 1, NL_LITERAL, 9, content, sizeof content, answer, &lean);
+}
+
+static int inserts(uint8_t *image, size_t len) {
+    uint32_t answer[3], read[5];
+    /* a chain through all pages: none is free, and nothing changes */
+    if (insert_deep(image, len, 1024, answer) != NL_FULL || answer[0] || answer[1] || answer[2]) return wrong("insert into a full image");
+    if (nl_check(image, len) || nl_read(image, len, 1, 0, read) || read[2] != 677u * 1023u) return wrong("the full image after it");
+    /* 511 records, the root's among them: a cascade of 511 splits, after which every page is taken */
+    if (insert_deep(image, len, 512, answer) || answer[2] != 511) return wrong("insert, a cascade of 511 splits");
+    if (nl_check(image, len) || nl_read(image, len, 1, 0, read) || read[2] != 677u * 511u + 1u) return wrong("the image after the cascade");
+    /* with one record more the last split finds no page */
+    if (insert_deep(image, len, 513, answer) != NL_FULL) return wrong("insert, a cascade one page too long");
+    return 0;
+}
+#endif
 
 int main(void) {
     size_t len = 4194304;
@@ -30,6 +55,9 @@ int main(void) {
     /* from the last node of the deepest record up one, and from the root all the way down */
     if (nl_next(image, len, 1023, 4062, following) || following[1] != 1022 || following[2] != 14) return wrong("next, upwards");
     if (nl_next(image, len, 1, 0, following) || following[1] != 1023 || following[2] != 6) return wrong("next, downwards");
+#ifdef NL_HAS_INSERT
+    if (inserts(image, len)) return 1;
+#endif
     free(image);
     puts("deep: passed");
     return 0;

@@ -1,8 +1,9 @@
-"""A second implementation of the base rules, for the tests: slow, small, made from the rules' text alone.
+"""A second implementation of the base rules, for the tests: small, made from the rules' text alone.
 
 As a module it offers the calls over an image held in a bytearray: format_image, check, insert, find, climb, read,
-next_node, records and listing. Each answer is a tuple that begins with the number. As a command it replays call
-scripts, compares every answer and the checksum of the image, and exits with 1 on any difference:
+next_node, records and listing. Each answer is a tuple that begins with the number. To make many inserts in one image,
+keep its store (read_store) and use insert_node and write_changes. As a command it replays call scripts, compares every
+answer and the checksum of the image, and exits with 1 on any difference:
 
     reference.py SCRIPT..
 """
@@ -57,10 +58,15 @@ class Node:
 
 
 class Record:
-    def __init__(self, page, settled, root):
+    """A record: its page, its root and the record that holds its proxy (none for page 1). `shown` keeps the number of
+    logical nodes that its proxy stands for, or None."""
+
+    def __init__(self, page, settled, root, holder=None):
         self.page = page
         self.settled = settled
         self.root = root
+        self.holder = holder
+        self.shown = None
 
 
 class Settings:
@@ -73,11 +79,12 @@ class Settings:
 
 
 class Store:
-    """What an image holds: its settings and its records by page."""
+    """What an image holds: its settings and its records by page. `changed` names the pages that growth has changed."""
 
     def __init__(self, settings, records):
         self.settings = settings
         self.records = records
+        self.changed = set()
 
 
 class Entry:
@@ -107,11 +114,15 @@ def require(true, number):
         raise Refused(number)
 
 
+def is_zero(part):
+    return part.count(0) == len(part)
+
+
 def size(node):
     """Header and all inside it."""
     if node.kind == PROXY:
         return HEADER + 2
-    return HEADER + len(node.content) + sum(size(child) for child in node.children)
+    return HEADER + len(node.content) + sum([size(child) for child in node.children])
 
 
 # ---- From the image to the store: the check
@@ -121,6 +132,10 @@ def settings_in_range(settings, pages):
             and settings.form == 1 and len(settings.matrix) == 256 and all(m in (0, 2) for m in settings.matrix))
 
 
+def page_number(record):
+    return 0 if record is None else record.page
+
+
 def page_of(image, page):
     return bytes(image[page * PAGE:(page + 1) * PAGE])
 
@@ -128,7 +143,7 @@ def page_of(image, page):
 def trailer(page):
     """Kind, settled byte, length used and back link; what must be zero is."""
     kind, settled, used, back = page[CAPACITY], page[CAPACITY + 1], two(page, CAPACITY + 2), two(page, CAPACITY + 4)
-    require(used <= CAPACITY and not any(page[used:CAPACITY]) and not any(page[CAPACITY + 6:]), BROKEN)
+    require(used <= CAPACITY and is_zero(page[used:CAPACITY]) and is_zero(page[CAPACITY + 6:]), BROKEN)
     return kind, settled, used, back
 
 
@@ -136,17 +151,17 @@ def read_settings(image):
     page = page_of(image, 0)
     require(trailer(page) == (SETTINGS, 0, SETTINGS_LENGTH, 0), BROKEN)
     settings = Settings(two(page, 0), page[2], two(page, 4), two(page, 6), page[16:SETTINGS_LENGTH])
-    require(page[3] == 0 and not any(page[8:16]), BROKEN)
+    require(page[3] == 0 and is_zero(page[8:16]), BROKEN)
     require(settings_in_range(settings, len(image) // PAGE), BROKEN)
     return settings
 
 
-def read_record(image, number, back, level, records):
+def read_record(image, number, holder, level, records):
     """The record on a page, its proxies followed; `level` is that of the nodes it shows."""
     page = page_of(image, number)
     kind, settled, used, link = trailer(page)
-    require(kind == RECORD and settled <= 1 and link == back, BROKEN)
-    record = records[number] = Record(number, settled == 1, None)
+    require(kind == RECORD and settled <= 1 and link == page_number(holder), BROKEN)
+    record = records[number] = Record(number, settled == 1, None, holder)
     roots = read_list(image, page[:used], record, 0, level, records)
     require(len(roots) == 1, BROKEN)
     record.root = roots[0]
@@ -178,7 +193,7 @@ def read_node(image, part, record, holder, level, records):
         require(len(inside) == 2, BROKEN)
         number = two(inside, 0)
         require(2 <= number < len(image) // PAGE and number not in records, BROKEN)
-        return Node(PROXY, record=read_record(image, number, record.page, level, records))
+        return Node(PROXY, record=read_record(image, number, record, level, records))
     children = read_list(image, inside, record, kind, level + (kind == AGGREGATE), records)
     require(kind == AGGREGATE or len(children) >= 2, BROKEN)
     return Node(kind, label, children=children)
@@ -190,10 +205,10 @@ def read_store(image):
     require(rest == 0 and 2 <= pages <= PAGES, MISFIT)
     settings = read_settings(image)
     records = {}
-    root = read_record(image, 1, 0, 1, records)
+    root = read_record(image, 1, None, 1, records)
     require(root.settled and root.root.kind == AGGREGATE, BROKEN)
     for number in range(2, pages):
-        require(number in records or not any(page_of(image, number)), BROKEN)
+        require(number in records or is_zero(page_of(image, number)), BROKEN)
     return Store(settings, records)
 
 
@@ -225,22 +240,28 @@ def proxies_under(node):
         yield from proxies_under(child)
 
 
-def back_links(store):
-    links = {1: 0}
-    for record in store.records.values():
+def put_page(image, number, page):
+    image[number * PAGE:(number + 1) * PAGE] = page
+
+
+def write_changes(store, image):
+    """Brings the image up to date: the changed pages, and the back link of each record whose proxy is now in another
+    record."""
+    changed = [store.records[number] for number in store.changed if number in store.records]
+    for record in changed:
         for proxy in proxies_under(record.root):
-            links[proxy.record.page] = record.page
-    return links
-
-
-def store_bytes(store):
-    image = bytearray(store.settings.pages * PAGE)
-    image[:PAGE] = page_bytes(SETTINGS, 0, settings_bytes(store.settings), 0)
-    links = back_links(store)
-    for number, record in store.records.items():
-        page = page_bytes(RECORD, int(record.settled), node_bytes(record.root), links[number])
-        image[number * PAGE:(number + 1) * PAGE] = page
-    return image
+            if proxy.record.holder is not record:
+                proxy.record.holder = record
+                at = proxy.record.page * PAGE + CAPACITY + 4
+                image[at:at + 2] = two_bytes(record.page)
+    for number in store.changed:
+        put_page(image, number, bytes(PAGE))
+    for record in changed:
+        page = page_bytes(RECORD, int(record.settled), node_bytes(record.root), page_number(record.holder))
+        put_page(image, record.page, page)
+        while record is not None:
+            record.shown, record = None, record.holder
+    store.changed = set()
 
 
 # ---- The logical tree
@@ -274,14 +295,51 @@ def document_order(store):
     return entries
 
 
-def children_shown(nodes, record):
-    """For each logical node of a list: the list, the position and the record of the node itself, or, if it is a
-    record's root, of its proxy."""
+def nodes_shown(nodes):
+    """How many logical nodes a list shows."""
+    return sum([record_shown(node.record) if node.kind == PROXY else 1 for node in nodes])
+
+
+def record_shown(record):
+    if record.shown is None:
+        record.shown = nodes_shown(record.root.children) if record.root.kind == HELPER else 1
+    return record.shown
+
+
+def child_shown(nodes, record, number):
+    """Of the logical node of that number in a list: the list, the position and the record of the node itself, or, if it
+    is a record's root, of its proxy."""
     for at, node in enumerate(nodes):
-        if node.kind == PROXY and node.record.root.kind == HELPER:
-            yield from children_shown(node.record.root.children, node.record)
-        else:
-            yield nodes, at, record
+        count = record_shown(node.record) if node.kind == PROXY else 1
+        if number < count:
+            if node.kind == PROXY and node.record.root.kind == HELPER:
+                return child_shown(node.record.root.children, node.record, number)
+            return nodes, at, record
+        number -= count
+    raise Refused(ABSENT)
+
+
+def node_of_path(store, path):
+    """The node that a path names, and its record."""
+    record = store.records[1]
+    node = record.root
+    for number in path_entries(path):
+        nodes, at, record = child_shown(node.children, record, number)
+        node = nodes[at]
+        if node.kind == PROXY:
+            record = node.record
+            node = record.root
+    return node, record
+
+
+def start_of(node, nodes, start):
+    """Where a node starts, in a list that starts at `start` or under it; None if it is not there."""
+    for other in nodes:
+        found = start if other is node else start_of(node, other.children, start + HEADER)
+        if found is not None:
+            return found
+        start += size(other)
+    return None
 
 
 # ---- Growth
@@ -298,6 +356,7 @@ def new_record(store, start, settled, root):
     """Places a record; gives the proxy to it."""
     record = Record(free_page(store, start), settled, root)
     store.records[record.page] = record
+    store.changed.add(record.page)
     return Node(PROXY, record=record)
 
 
@@ -346,8 +405,8 @@ def group_placed(store, start, group):
     return [new_record(store, start, False, group[0] if len(group) == 1 else Node(HELPER, children=group))]
 
 
-def proxy_position(store, record):
-    """The list, the position and the record in which the proxy to a record stands."""
+def proxy_position(record):
+    """The list and the position in which the proxy to a record stands, in the record that holds it."""
     def look(node):
         for at, child in enumerate(node.children):
             if child.record is record:
@@ -357,11 +416,7 @@ def proxy_position(store, record):
                 return found
         return None
 
-    for holder in store.records.values():
-        found = look(holder.root)
-        if found:
-            return found + (holder,)
-    raise AssertionError("a record without a proxy")
+    return look(record.holder.root)
 
 
 def split(store, record):
@@ -372,25 +427,46 @@ def split(store, record):
         return lean, None
     del store.records[record.page]
     separate(store, record.page, record.root, way)
-    siblings, at, holder = proxy_position(store, record)
+    siblings, at = proxy_position(record)
     siblings[at:at + 1] = record.root.children if record.root.kind == HELPER else [record.root]
-    return lean, holder
+    return lean, record.holder
 
 
-def grow(store, parent, child, node):
-    """Puts the node in as the child of that number of an entry; gives the number of splits and the first lean."""
-    siblings, at, record = parent.node.children, 0, parent.record
+def grow(store, parent, record, child, node):
+    """Puts the node in as the child of that number of a parent in a record; gives the number of splits and the first
+    lean."""
+    siblings, at = parent.children, 0
     if child > 0:
-        siblings, at, record = list(children_shown(parent.node.children, parent.record))[child - 1]
+        siblings, at, record = child_shown(parent.children, record, child - 1)
         at += 1
-    if is_apart(store.settings, parent.node, node):
+    if is_apart(store.settings, parent, node):
         node = new_record(store, record.page, True, node)
     siblings.insert(at, node)
+    store.changed.add(record.page)
     leans = []
     while record is not None and size(record.root) > CAPACITY:
         lean, record = split(store, record)
         leans.append(lean)
+        if record is not None:
+            store.changed.add(record.page)
     return len(leans), leans[0] if leans else 0
+
+
+def insert_node(store, path, child, kind, label, content):
+    """The insert on a store; gives (page, offset, splits, lean). A refusal with 12 leaves the store half changed."""
+    require(len(path) <= 4 * (LEVELS - 2), LEVEL)
+    require(kind == LITERAL or (kind == AGGREGATE and not content), BAD_KIND)
+    require(len(content) <= CONTENT, LONG)
+    parent, record = node_of_path(store, path)
+    require(parent.kind == AGGREGATE, CLOSED)
+    require(child <= nodes_shown(parent.children), GAP)
+    node = Node(kind, label, content)
+    splits, lean = grow(store, parent, record, child, node)
+    for page in store.changed & store.records.keys():
+        start = start_of(node, [store.records[page].root], 0)
+        if start is not None:
+            return page, start, splits, lean
+    raise AssertionError("the new node is in no changed record")
 
 
 # ---- Calls
@@ -433,7 +509,11 @@ def format_image(image, pages, target, tolerance, form, matrix, label):
     require(rest == 0 and 2 <= own <= PAGES, MISFIT)
     settings = Settings(pages, target, tolerance, form, matrix)
     require(settings_in_range(settings, own), BAD_SETTINGS)
-    image[:] = store_bytes(Store(settings, {1: Record(1, True, Node(AGGREGATE, label))}))
+    store = Store(settings, {1: Record(1, True, Node(AGGREGATE, label))})
+    store.changed.add(1)
+    image[:] = bytes(len(image))
+    put_page(image, 0, page_bytes(SETTINGS, 0, settings_bytes(settings), 0))
+    write_changes(store, image)
     return (0,)
 
 
@@ -448,17 +528,9 @@ def check(image):
 def insert(image, path, child, kind, label, content):
     """Gives (number, page, offset, splits, lean)."""
     store = read_store(image)
-    require(len(path) <= 4 * (LEVELS - 2), LEVEL)
-    require(kind == LITERAL or (kind == AGGREGATE and not content), BAD_KIND)
-    require(len(content) <= CONTENT, LONG)
-    parent = entry_of_path(document_order(store), path)
-    require(parent.node.kind == AGGREGATE, CLOSED)
-    require(child <= parent.children, GAP)
-    node = Node(kind, label, content)
-    splits, lean = grow(store, parent, child, node)
-    image[:] = store_bytes(store)
-    place = [entry.place() for entry in document_order(store) if entry.node is node][0]
-    return (0,) + place + (splits, lean)
+    answer = insert_node(store, path, child, kind, label, content)
+    write_changes(store, image)
+    return (0,) + answer
 
 
 @answered

@@ -5,28 +5,27 @@ use mathlib.Core.List.{List, [], _∷_}
 use mathlib.Core.Option.{Option, none, some}
 use Prim.Native.Nat.{ℕ, _+_, _*_, _≤_, _<_}
 use native.Mathlib.Omega.{arith}
-use borrow.Author.Tests.{le-ltb, lt-ltb, eq-eqb, ne-eqb}
+use borrow.Author.Tests.{le-ltb, lt-ltb, ne-eqb}
 use lib.ListN.{length}
-use lib.Dec.{ltb, eqb}
+use lib.Dec.{eqb}
 use Rattle.model.specs.Row.{Row, Config}
-use Rattle.model.specs.Tree.{Node, shown, nodes, named, placeOf, fromPlace}
+use Rattle.model.specs.Tree.{Node, shown, named, placeOf}
 use Rattle.model.specs.Reading.{Reads}
 use Rattle.model.specs.Answers.{lowest}
-use Rattle.model.specs.Calls.{entries, namedIf, namedBy, isNone, isLiteral, childrenBelow, newOf, insertNumber, checkOf, findIn, findOf, readIn, readOf}
+use Rattle.model.specs.Calls.{entries, namedIf, namedBy, isNone, isLiteral, childrenBelow, newOf, insertNumber, findIn, findOf}
 use Rattle.model.specs.declared.Place.{Place}
 use Rattle.model.specs.declared.FindAnswer.{FindAnswer}
-use Rattle.model.specs.declared.ReadNode.{ReadNode}
-use Rattle.reads.specs.Reading.{reads-valid}
 use Rattle.places.specs.Named.{named-in, named-place}
-use Rattle.places.specs.From.{from-found}
-use Rattle.agree.specs.Open.{opens, passing}
+use Rattle.agree.specs.Open.{opens}
 use Rattle.agree.specs.Insert.{accepted}
 use Rattle.receive.specs.Aim.{Aimed, aimed}
-use Rattle.receive.specs.Receive.{parent-room}
+use Rattle.receive.specs.Receive.{LeftAt}
+use Rattle.stands.specs.Nodes.{ReadAt, node-read}
+use Rattle.admit.specs.Parent.{parentNumber}
 use Rattle.admit.specs.declared.Admitted.{Admitted}
 
 abbrev pub refusedBy : (number : ℕ) → Admitted
-refusedBy n = record { number = n; parent = 0 }
+refusedBy n = record { number = n; parent = 0; left = 0 }
 
 -- `kindBad` of a new node, by its content's length.
 abbrev pub badKind : (kind len : ℕ) → Bool
@@ -51,14 +50,13 @@ abbrev pub aims : (img : List ℕ) (st : Config) (root : Row) (reads : Reads img
 aims img st root reads path child kind label parent content z e =
     aimed img st root reads path child (newOf kind label content) false (accepted (shown root) path child (newOf kind label content) false z) parent e
 
--- ── the parent, by find and read ──
+-- ── the parent, by find ──
 
--- The node that a path names, and what read says of it at the place that find gives.
+-- The node that a path names, and what is read at the place that find gives.
 pub record Found (img : List ℕ) (root : Row) (path : List ℕ) : Type 0 where
   pub node : Node
   pub names : namedBy (shown root) path ≡ some node
-  pub kind : readOf img (findOf img path .place) .kind ≡ node .kind
-  pub children : readOf img (findOf img path .place) .children ≡ node .children
+  pub read : ReadAt img node (foundAt img path)
 
 module _ (img : List ℕ) (st : Config) (root : Row) (reads : Reads img st root) (path : List ℕ) (short : length path ≤ 88) where
   -- Find refuses a path of this length only if it names no node.
@@ -81,23 +79,15 @@ module _ (img : List ℕ) (st : Config) (root : Row) (reads : Reads img st root)
   unfolding findOf findIn
   find-place p n y e f g = rw (opens img st root reads, le-ltb 92 (length path) (omega arith), e, f, g)
 
-  read-there : (n : Node) (ms : List Node) (y : Place) → fromPlace (placeOf root) y (nodes (shown root)) ≡ n ∷ ms
-      → (readOf img y .kind ≡ n .kind) × (readOf img y .children ≡ n .children)
-  unfolding readOf readIn
-  read-there n ms y e = (rw (opens img st root reads, e), rw (opens img st root reads, e))
-
   found-at : (p : List ℕ) (n : Node) → entries path ≡ some p → named (shown root) p ≡ some n → Found img root path
   found-at p n e f =
       let (y, g) = named-place root p n f in
       let m = named-in (shown root) p n f in
-      let (ms, h) = from-found st root (reads-valid img st root reads) y n (m .0) (ap (placeOf root) (m .1) ∙ g) in
       let z : findOf img path .place ≡ y = find-place p n y e f g in
-      let r = read-there n ms y h in
       record {
         node = n;
         names = ap (namedIf (shown root)) e ∙ f;
-        kind = ap (λ (y : Place). readOf img y .kind) z ∙ r .0;
-        children = ap (λ (y : Place). readOf img y .children) z ∙ r .1;
+        read = subst (λ (y : Place). ReadAt img n (4096 * y .page + y .offset)) (sym z) (node-read img st root reads n (m .0) y (ap (placeOf root) (m .1) ∙ g));
       }
 
   pub found : findOf img path .number ≡ 0 → Found img root path
@@ -128,10 +118,10 @@ module _ (img path : List ℕ) (child kind : ℕ) (content : List ℕ) where
   Number n = (st : Config) (root : Row) → Reads img st root → (label : ℕ) → n ≡ insertNumber (shown root) path child (newOf kind label content) false
 
   abbrev pub Answers : Admitted → Type 0
-  Answers r = Number (r .number) × (r .number ≡ 0 → r .parent ≡ foundAt img path)
+  Answers r = Number (r .number) × ((r .number ≡ 0 → r .parent ≡ foundAt img path) × (r .number ≡ 0 → LeftAt img (r .parent) child (r .left)))
 
   pub refuses : (r : Admitted) (n : ℕ) → 1 ≤ n → r ≡ refusedBy n → Number n → Answers r
-  refuses r n z e a = subst Answers (sym e) (a, λ y. absurd (omega arith))
+  refuses r n z e a = subst Answers (sym e) (a, (λ y. absurd (omega arith), λ y. absurd (omega arith)))
 
   -- ── by the arguments alone ──
 
@@ -162,33 +152,20 @@ module _ (img path : List ℕ) (child kind : ℕ) (content : List ℕ) where
           let e = not-named img st root reads path (w .short) (λ y. z (ap (λ (f : FindAnswer). f .number) is ∙ y)) in
           sym (rw e) ∙ formed st root label
 
-      module _ (there : f .number ≡ 0) (n : ReadNode) (told : n ≡ readOf img (f .place)) where
+      module _ (there : f .number ≡ 0) where
         parent-found : (st : Config) (root : Row) → Reads img st root → Found img root path
         parent-found st root reads = found img st root reads path (w .short) (sym (ap (λ (f : FindAnswer). f .number) is) ∙ there)
 
-        read-is : n ≡ readOf img (findOf img path .place)
-        read-is = told ∙ ap (λ (f : FindAnswer). readOf img (f .place)) is
+        -- The parent's byte,
+        pub parent-is : {parent : ℕ} → parent ≡ 4096 * f .place .page + f .place .offset → parent ≡ foundAt img path
+        parent-is e = e ∙ ap (λ (f : FindAnswer). 4096 * f .place .page + f .place .offset) is
 
-        -- The tests of the parent, by what was read.
-        by-read : (st : Config) (root : Row) → Reads img st root → (label : ℕ)
-            → lowest ((8, eqb (n .kind) 2) ∷ (9, ltb (n .children) child) ∷ (12, false) ∷ []) ≡ insertNumber (shown root) path child (newOf kind label content) false
-        by-read st root reads label =
+        -- the node there in any store that the image reads as,
+        pub parent-read : (st : Config) (root : Row) → Reads img st root → {parent : ℕ} → parent ≡ foundAt img path → (n : Node) × ReadAt img n parent
+        parent-read st root reads e = let u = parent-found st root reads in (u .node, subst (ReadAt img (u .node)) (sym e) (u .read))
+
+        -- and the number that it gives.
+        pub by-parent : {parent : ℕ} (number : ℕ) → parent ≡ foundAt img path → ((n : Node) → ReadAt img n parent → number ≡ parentNumber n child) → Number number
+        by-parent number e t = λ st root reads label.
             let u = parent-found st root reads in
-            let a : n .kind ≡ u .node .kind = ap (λ (n : ReadNode). n .kind) read-is ∙ u .kind in
-            let b : n .children ≡ u .node .children = ap (λ (n : ReadNode). n .children) read-is ∙ u .children in
-            (λ i. lowest ((8, eqb (a i) 2) ∷ (9, ltb (b i) child) ∷ (12, false) ∷ [])) ∙ sym (rw (u .names)) ∙ formed st root label
-
-        pub literal-parent : n .kind ≡ 2 → Number 8
-        literal-parent l = λ st root reads label. sym (rw (eq-eqb (n .kind) 2 l)) ∙ by-read st root reads label
-
-        pub past-children : (n .kind ≡ 2 → ⊥) → n .children < child → Number 9
-        past-children k l = λ st root reads label. sym (rw (ne-eqb (n .kind) 2 k, lt-ltb (n .children) child l)) ∙ by-read st root reads label
-
-        pub accepts : (n .kind ≡ 2 → ⊥) → child ≤ n .children → Number 0
-        accepts k l = λ st root reads label. sym (rw (ne-eqb (n .kind) 2 k, le-ltb (n .children) child l)) ∙ by-read st root reads label
-
-  -- The parent of an accepted insert stands in the image.
-  pub parent-small : checkOf img ≡ 0 → Number 0 → foundAt img path < 4194304
-  parent-small c n =
-      let (s, reads) = passing img c in
-      parent-room img (foundAt img path) child (aims img (s .0) (s .1) reads path child kind 0 (foundAt img path) content (sym (n (s .0) (s .1) reads 0)) refl) .1
+            t (u .node) (subst (ReadAt img (u .node)) (sym e) (u .read)) ∙ sym (rw (u .names)) ∙ formed st root label

@@ -1,2 +1,3 @@
+pub mod Parent
 pub mod Admit
 pub mod Label

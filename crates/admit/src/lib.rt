@@ -1,19 +1,24 @@
 // Every refusal of an insert but a full store's, on an image that passes the check.
 use descend::find_in;
-use follow::read_of;
+use descend::nth;
+use octets::two;
 ghost use mathlib.Core.Path.{_≡_};
 ghost use mathlib.Core.Bool.{false};
 ghost use Prim.Native.Nat.{ℕ, _+_, _*_};
 ghost use Rattle.model.specs.Row.{Row, Config};
-ghost use Rattle.model.specs.Tree.{shown};
+ghost use Rattle.model.specs.Tree.{Node, shown};
 ghost use Rattle.model.specs.Reading.{Reads};
 ghost use Rattle.model.specs.Calls.{checkOf, findOf, insertNumber, newOf};
+ghost use Rattle.stands.specs.Nodes.{ReadAt};
+ghost use Rattle.receive.specs.Receive.{LeftAt};
+ghost use Rattle.admit.specs.Parent.{parentNumber};
 ghost use Rattle.admit.specs.Admit.{refusedBy, badKind};
 
-// The refusal number of an insert but for a full store, and the byte of the image at which the parent stands (0 if refused).
+// The refusal number of an insert but for a full store; if it is 0, the bytes of the image at which the parent and the left sibling stand.
 pub struct Admitted {
     pub number: u32,
     pub parent: usize,
+    pub left: usize,
 }
 
 fn refused(number: u32) -> Admitted
@@ -22,6 +27,7 @@ fn refused(number: u32) -> Admitted
     Admitted {
         number: number,
         parent: 0,
+        left: 0,
     }
 }
 
@@ -35,12 +41,43 @@ fn kind_bad(kind: usize, len: usize) -> bool
     kind != 2
 }
 
+// The number that the parent gives, and where the left sibling stands.
+struct Tried {
+    number: u32,
+    left: usize,
+}
+
+// The tests of the node at the byte `parent` as the parent of a new child: 8 for a literal, 9 if the child's number is above its number of children.
+// The search for the left sibling is the test, so that the children are passed one time.
+fn try_parent(image: &[u8], parent: usize, child: usize) -> Tried
+    requires { ⌜ ((n : Node) × ReadAt (now image) n parent) ⌝ }
+    ensures { λ r. ⌜ ((n : Node) → ReadAt (now (image .entry)) n parent → r .number ≡ parentNumber n child) ⌝ }
+    ensures { λ r. ⌜ (r .number ≡ 0 → LeftAt (now (image .entry)) parent child (r .left)) ⌝ }
+{
+    if image[parent] == 2 {
+        return Tried { number: 8, left: 0 };
+    }
+    if child == 0 {
+        return Tried { number: 0, left: 0 };
+    }
+    let end = parent + two(image, parent + 4);
+    let left = nth(image, parent + 6, end, child - 1, 1024);
+    if !left.found {
+        return Tried { number: 9, left: 0 };
+    }
+    Tried {
+        number: 0,
+        left: left.at,
+    }
+}
+
 // The tests of an insert in the order of the refusal table.
 pub fn admit(image: &[u8], path: &[u8], child: usize, kind: usize, content: &[u8]) -> Admitted
     requires { ⌜ checkOf (now image) ≡ 0 ⌝ }
     ensures { λ r. ⌜ ((st : Config) (root : Row) → Reads (now (image .entry)) st root → (label : ℕ)
         → r .number ≡ insertNumber (shown root) (now (path .entry)) child (newOf kind label (now (content .entry))) false) ⌝ }
     ensures { λ r. ⌜ (r .number ≡ 0 → r .parent ≡ 4096 * findOf (now (image .entry)) (now (path .entry)) .place .page + findOf (now (image .entry)) (now (path .entry)) .place .offset) ⌝ }
+    ensures { λ r. ⌜ (r .number ≡ 0 → LeftAt (now (image .entry)) (r .parent) child (r .left)) ⌝ }
 {
     if 88 < path.len() {
         return refused(4);
@@ -56,16 +93,11 @@ pub fn admit(image: &[u8], path: &[u8], child: usize, kind: usize, content: &[u8
         return refused(7);
     }
     let place = found.place;
-    let node = read_of(image, place);
-    if node.kind == 2 {
-        return refused(8);
-    }
-    if (node.children as usize) < child {
-        return refused(9);
-    }
     let parent = 4096 * place.page + place.offset;
+    let t = try_parent(image, parent, child);
     Admitted {
-        number: 0,
+        number: t.number,
         parent: parent,
+        left: t.left,
     }
 }

@@ -1,7 +1,7 @@
 -- Demand 3: the image's calls and the plain tree's agree over every list of calls.
-use mathlib.Core.Path.{_≡_, refl, subst}
+use mathlib.Core.Path.{_≡_, subst}
 use mathlib.Core.List.{List, [], _∷_}
-use mathlib.Core.Option.{Option, none, some}
+use mathlib.Core.Option.{Option, some}
 use Prim.Native.Nat.{ℕ}
 use Rattle.model.specs.Row.{Row, Config}
 use Rattle.model.specs.Tree.{Tree, shown}

@@ -1,18 +1,18 @@
 -- Format in a list of calls.
-use mathlib.Core.Path.{_≡_, refl, sym, ap, subst, _∙_}
-use mathlib.Core.Bool.{Bool, true, false, cond, not, _&&_, false≢true, true≢false}
+use mathlib.Core.Path.{_≡_, refl, sym, ap}
+use mathlib.Core.Bool.{Bool, true, false, cond, not, _&&_}
 use mathlib.Core.List.{List, [], _∷_}
-use Prim.Native.Nat.{ℕ, _+_, _/_, _≤_, _<_}
+use Prim.Native.Nat.{ℕ, _/_, _<_}
 use native.Mathlib.Omega.{arith}
 use borrow.Author.Tests.{eqb-true, lt-ltb}
 use lib.ListN.{length}
-use lib.Dec.{ltb, eqb}
+use lib.Dec.{eqb}
 use Rattle.model.specs.Row.{Row, nil, agg, Config, image, inRange, valid}
-use Rattle.model.specs.Tree.{Tree, end, branch, shown}
+use Rattle.model.specs.Tree.{end, branch, shown}
 use Rattle.model.specs.Reading.{Reads, lengthOk}
 use Rattle.model.specs.Answers.{lowest}
-use Rattle.model.specs.Calls.{config, accept, formatNumber, formatOf}
-use Rattle.model.specs.Plain.{format, formatted, feedOf, plainAfter}
+use Rattle.model.specs.Calls.{config, formatNumber, formatOf}
+use Rattle.model.specs.Plain.{format, formatted}
 use Rattle.model.specs.Claims.{Stands, Step}
 use Rattle.model.specs.declared.Settings.{Settings}
 use Rattle.agree.specs.Stand.{stands}

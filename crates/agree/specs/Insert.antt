@@ -1,21 +1,20 @@
 -- Insert in a list of calls.
-use mathlib.Core.Path.{_≡_, refl, sym, ap, ap₂, subst, _∙_}
+use mathlib.Core.Path.{_≡_, refl, sym, ap, subst, _∙_}
 use mathlib.Core.Logic.{_↔_}
-use mathlib.Core.Bool.{Bool, true, false, cond, not, _&&_, _||_, false≢true, true≢false}
+use mathlib.Core.Bool.{Bool, true, false, cond, false≢true}
 use mathlib.Core.List.{List, [], _∷_, _++_}
-use mathlib.Core.Option.{Option, none, some}
-use Prim.Native.Nat.{ℕ, _+_, _*_, _≤_, _<_}
+use Prim.Native.Nat.{ℕ, _+_, _≤_}
 use native.Mathlib.Omega.{arith}
-use borrow.Author.Tests.{eqb-true, eqb-false, ltb-false}
+use borrow.Author.Tests.{eqb-true, ltb-false}
 use lib.ListN.{length}
 use lib.Dec.{ltb, eqb}
 use Rattle.model.specs.Row.{Row, Config, image}
 use Rattle.model.specs.Tree.{Tree, shown, New, insertAt, placeOf}
-use Rattle.model.specs.Growth.{Work, Out, grow}
+use Rattle.model.specs.Growth.{Work, Out}
 use Rattle.model.specs.Reading.{Reads}
 use Rattle.model.specs.Answers.{lowest, insertRefused}
-use Rattle.model.specs.Calls.{accept, pathOf, placeOr, namedBy, kindBad, isNone, isLiteral, childrenBelow, insertNumber, newOf, grown, insertOf, opened, onStore}
-use Rattle.model.specs.Plain.{Call, insert, Typed, inserted, imageAfter, growthOn, placesOn, feedOf, plainAnswer, plainAfter}
+use Rattle.model.specs.Calls.{accept, pathOf, placeOr, namedBy, kindBad, isNone, isLiteral, childrenBelow, insertNumber, newOf, grown, insertOf}
+use Rattle.model.specs.Plain.{insert, Typed, inserted, growthOn, placesOn}
 use Rattle.model.specs.Claims.{Stands, FullExactly, Step}
 use Rattle.model.specs.declared.InsertAnswer.{InsertAnswer}
 use Rattle.laws.specs.Laws.{shown-grow}

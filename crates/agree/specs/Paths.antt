@@ -1,13 +1,12 @@
 -- Paths as bytes: the entries of a path spell it again, and a path that names a node is not long.
-use mathlib.Core.Path.{_≡_, refl, sym, ap, ap₂, subst, _∙_}
-use mathlib.Core.Bool.{Bool, true, false, cond}
+use mathlib.Core.Path.{_≡_, refl, ap₂, subst}
+use mathlib.Core.Bool.{true}
 use mathlib.Core.List.{List, [], _∷_, _++_}
 use mathlib.Core.Option.{Option, none, some, Option·map}
 use Prim.Native.Nat.{ℕ, zero, suc, _+_, _*_, _/_, _%_, _≤_, _<_, max}
 use native.Mathlib.Omega.{arith}
 use borrow.Author.Tests.{ltb-true}
 use lib.ListN.{length}
-use lib.Dec.{ltb}
 use Rattle.model.specs.Row.{every, isByte}
 use Rattle.model.specs.Tree.{Tree, end, branch, leaf, Node, below, further, nodeAt}
 use Rattle.model.specs.Calls.{four, pathBytes, entries, orEmpty, pathOf}

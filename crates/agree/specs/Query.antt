@@ -1,23 +1,19 @@
 -- The calls that change nothing answer as the plain tree does.
-use mathlib.Core.Path.{_≡_, refl, sym, ap, ap₂, subst, _∙_}
-use mathlib.Core.Bool.{Bool, true, false, cond, false≢true, true≢false}
-use mathlib.Core.List.{List, [], _∷_, _++_, map}
-use mathlib.Core.Option.{Option, none, some, Option·map}
-use Prim.Native.Nat.{ℕ, zero, suc, _+_, _*_, _≤_, _<_}
+use mathlib.Core.Path.{_≡_, refl, ap, _∙_}
+use mathlib.Core.Bool.{Bool, true, false, cond}
+use mathlib.Core.List.{List, [], _∷_}
+use mathlib.Core.Option.{some}
+use Prim.Native.Nat.{ℕ, _+_, _*_}
 use native.Mathlib.Omega.{arith}
 use borrow.Author.Tests.{eqb-true, eqb-false}
-use lib.ListN.{length, take, drop, length-append}
-use lib.Dec.{ltb, eqb}
-use Rattle.model.specs.Row.{Row, Config, image}
-use Rattle.model.specs.Tree.{Tree, end, branch, leaf, shown, Node, nodes, named, placeOf, fromPlace}
+use lib.ListN.{length, take, drop}
+use lib.Dec.{eqb}
+use Rattle.model.specs.Row.{Row, Config}
+use Rattle.model.specs.Tree.{shown, Node, nodes, placeOf, fromPlace}
 use Rattle.model.specs.Reading.{Reads}
-use Rattle.model.specs.Answers.{shortBuffer, writeRefused}
-use Rattle.model.specs.Calls.{holds, onStore, write, pageBytes, ReadValue, readIn, readFrom, asRead, findOf, climbOf, readOf, partOf, nextOf, recordPages, times, IsOrder, recordsOf}
-use Rattle.model.specs.Plain.{Query, check, find, climb, read, next, records, ask, Answer, checked, found, climbed, seen, following, listed, valueOf, queried, feedOf, handedOf, plainRecords, plainQuery}
+use Rattle.model.specs.Calls.{pageBytes, ReadValue, readIn, readFrom, asRead, findOf, climbOf, readOf, nextOf, recordPages, IsOrder, recordsOf}
+use Rattle.model.specs.Plain.{Query, check, find, climb, read, next, records, ask, checked, seen, listed, valueOf, queried, feedOf, handedOf, plainRecords, plainQuery}
 use Rattle.model.specs.declared.Place.{Place}
-use Rattle.model.specs.declared.WriteAnswer.{WriteAnswer}
-use Rattle.laws.specs.Fits.{Valid}
-use Rattle.laws.specs.Laws.{cond-case}
 use Rattle.reads.specs.Reading.{reads-valid}
 use Rattle.places.specs.Member.{Mem}
 use Rattle.places.specs.Order.{one-root}

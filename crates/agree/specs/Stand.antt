@@ -1,20 +1,18 @@
 -- What holds of any image that reads: it passes, shows its tree, no record is too large, and find then climb gives each path back.
-use mathlib.Core.Path.{_≡_, refl, sym, ap, ap₂, subst, _∙_}
-use mathlib.Core.Bool.{Bool, true, false, cond}
+use mathlib.Core.Path.{_≡_, refl, ap, _∙_}
+use mathlib.Core.Bool.{true}
 use mathlib.Core.List.{List, [], _∷_, _++_}
 use mathlib.Core.Option.{Option, none, some}
-use Prim.Native.Nat.{ℕ, zero, suc, _+_, _*_, _≤_, _<_, max}
+use Prim.Native.Nat.{ℕ, _+_, _≤_}
 use native.Mathlib.Omega.{arith}
 use borrow.Author.Tests.{le-ltb}
 use lib.ListN.{length, drop}
-use lib.Dec.{ltb}
-use Rattle.model.specs.Row.{Row, store, Held, records, recordSize, Config, every, isByte}
-use Rattle.model.specs.Tree.{Tree, shown, Node, nodes, named, placeOf, fromPlace}
+use Rattle.model.specs.Row.{Row, store, Held, records, Config, every, isByte}
+use Rattle.model.specs.Tree.{shown, Node, named, placeOf}
 use Rattle.model.specs.Reading.{Reads}
-use Rattle.model.specs.Calls.{entries, namedIf, namedBy, placeOr, pathBytes, pathOf, write, findIn, climbIn, climbFrom, findOf, climbOf}
+use Rattle.model.specs.Calls.{entries, namedIf, placeOr, pathBytes, findIn, climbIn, findOf, climbOf}
 use Rattle.model.specs.Claims.{largest, ClimbsBack, Stands}
 use Rattle.model.specs.declared.Place.{Place}
-use Rattle.laws.specs.Fits.{Valid}
 use Rattle.laws.specs.Image.{AllFit, fits-records}
 use Rattle.laws.specs.Keeps.{levels, height-shown}
 use Rattle.reads.specs.Reading.{reads-valid}

@@ -10,7 +10,7 @@ use octets::copy_in;
 use octets::put32;
 use octets::two;
 ghost use mathlib.Core.Path.{_≡_};
-ghost use Prim.Native.Nat.{_+_, _≤_, _<_};
+ghost use Prim.Native.Nat.{_+_, _<_};
 ghost use lib.ListN.{length};
 ghost use Rattle.model.specs.Calls.{checkOf, climbOf};
 ghost use Rattle.follow.specs.Scan.{NodeAt};

@@ -1,6 +1,6 @@
 -- The record fits: its new row is written, and growth stops.
-use mathlib.Core.Path.{_≡_, refl, sym, ap, subst, _∙_}
-use mathlib.Core.Bool.{Bool, true, false, cond, _||_, true≢false, false≢true}
+use mathlib.Core.Path.{_≡_, sym, ap, _∙_}
+use mathlib.Core.Bool.{Bool, true, false, cond, true≢false, false≢true}
 use mathlib.Core.List.{List}
 use Prim.Native.Nat.{ℕ, _*_, _<_, _≤_}
 use native.Mathlib.Omega.{arith}
@@ -10,7 +10,7 @@ use lib.IntN.{ℤ}
 use Rattle.model.specs.Row.{Row, recordSize, Config}
 use Rattle.model.specs.Reading.{pageOf}
 use Rattle.model.specs.Growth.{Work, Out}
-use Rattle.upward.specs.Chain.{Chain, top, below, lastPage, lastSettled, lastHolder, whole, rise}
+use Rattle.upward.specs.Chain.{Chain, top, below, lastPage, lastSettled, lastHolder, rise}
 use Rattle.writes.specs.Memory.{Mem, putMem, keptMem, riseMem}
 use Rattle.writes.specs.Around.{rise-low}
 use Rattle.pages.specs.Links.{Below}

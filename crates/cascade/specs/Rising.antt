@@ -1,6 +1,6 @@
 -- Growth on its way up: the last record of a chain has a new row, which is not written yet.
 use mathlib.Core.Path.{_≡_, refl, sym, ap, subst, _∙_}
-use mathlib.Core.Bool.{Bool, true, false, cond, false≢true}
+use mathlib.Core.Bool.{Bool, true, false, cond}
 use mathlib.Core.List.{List}
 use Prim.Native.Nat.{ℕ, _+_, _*_, _<_, _≤_}
 use native.Mathlib.Omega.{arith}
@@ -10,7 +10,7 @@ use Rattle.model.specs.Row.{Row, store, isNil, lone, recordSize, recordBytes, r
 use Rattle.model.specs.Reading.{Reads, twoAt, pageOf}
 use Rattle.model.specs.Growth.{Work, Out, separator, rootRow, splitPoint, startOfD}
 use Rattle.model.specs.Claims.{InLean}
-use Rattle.laws.specs.Fits.{Fits, Valid, Ranges, one, more}
+use Rattle.laws.specs.Fits.{Fits, Valid}
 use Rattle.laws.specs.Bound.{depth, SplitGood, split-good}
 use Rattle.laws.specs.Store.{settled-lone}
 use Rattle.reads.specs.Decode.{in-trailer, two-bytes}
@@ -18,9 +18,8 @@ use Rattle.reads.specs.Reading.{reads-valid, reads-length}
 use Rattle.stands.specs.Here.{PageIn, OnPage, page-byte, page-number}
 use Rattle.upward.specs.Chain.{Chain, top, below, lastPage, lastSettled, lastHolder, whole, rise}
 use Rattle.upward.specs.Bytes.{lastHeld, chain-page, chain-bytes}
-use Rattle.upward.specs.Fit.{chain-fits}
 use Rattle.upward.specs.Levels.{height-rise, root-depth, chainLength}
-use Rattle.writes.specs.Memory.{Mem, riseMem}
+use Rattle.writes.specs.Memory.{Mem}
 use Rattle.writes.specs.Back.{fits-rise}
 use Rattle.writes.specs.Around.{Low, chain-low}
 use Rattle.writes.specs.Kept.{Ready}

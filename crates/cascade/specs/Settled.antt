@@ -1,8 +1,8 @@
 -- The record is settled and too large: its separator is written in its place, and growth stops.
 use mathlib.Core.Path.{_≡_, refl, sym, ap, subst, _∙_}
-use mathlib.Core.Bool.{Bool, true, false, cond, _||_, true≢false, false≢true}
+use mathlib.Core.Bool.{Bool, true, false, cond, _||_, false≢true}
 use mathlib.Core.List.{List}
-use Prim.Native.Nat.{ℕ, suc, _+_, _*_, _<_, _≤_}
+use Prim.Native.Nat.{ℕ, suc, _+_, _<_, _≤_}
 use native.Mathlib.Omega.{arith}
 use native.Mathlib.Numerals.{add-one}
 use borrow.Author.Tests.{lt-leb}
@@ -19,7 +19,7 @@ use Rattle.laws.specs.Fits.{Shape}
 use Rattle.laws.specs.Laws.{length-bytes, cond-case}
 use Rattle.laws.specs.Keeps.{separator-lone}
 use Rattle.laws.specs.Store.{settled-lone}
-use Rattle.octets.specs.Over.{over, take-over}
+use Rattle.octets.specs.Over.{take-over}
 use Rattle.upward.specs.Chain.{Chain, top, below, lastPage, lastSettled, lastHolder, whole, rise}
 use Rattle.upward.specs.Fit.{chain-fits}
 use Rattle.writes.specs.Memory.{Mem, putMem, separatorMem, keptMem, riseMem}
@@ -32,7 +32,7 @@ use Rattle.step.specs.Content.{Content}
 use Rattle.step.specs.Names.{below-separator}
 use Rattle.step.specs.Off.{leaves, leftImage}
 use Rattle.cascade.specs.Rising.{Rising, Risen, inside, long-image, low, held-fits, good}
-use Rattle.cascade.specs.Low.{Put, put-is}
+use Rattle.cascade.specs.Low.{put-is}
 
 -- The lean after one split more.
 abbrev pub leanNow : (st : Config) → (row : Row) → (count : ℕ) → (lean : ℤ) → ℤ

@@ -26,22 +26,20 @@ use Rattle.upward.specs.Full.{full-rise}
 use Rattle.writes.specs.Memory.{Mem, blank, setMem, separatorMem, riseMem}
 use Rattle.writes.specs.Around.{rise-goes}
 use Rattle.writes.specs.Kept.{Ready, goes-up}
-use Rattle.pages.specs.Write.{setPage}
 use Rattle.pages.specs.Paged.{length-setPage}
 use Rattle.pages.specs.Links.{Below, below-⊹}
 use Rattle.pages.specs.Relinked.{mem-cleared}
 use Rattle.split.specs.Group.{Past}
-use Rattle.split.specs.Same.{Marked}
 use Rattle.split.specs.Severed.{Severed}
 use Rattle.cut.specs.Level.{root-some}
-use Rattle.splice.specs.Spot.{isInside, around, size-around}
+use Rattle.splice.specs.Spot.{size-around}
 use Rattle.splice.specs.Splice.{KeepsRoot}
-use Rattle.lift.specs.Above.{above-stands, above-once, above-fits, chain-lift}
+use Rattle.lift.specs.Above.{above-stands, above-once, above-fits}
 use Rattle.lift.specs.Keeps.{shape-keeps, some-node, separator-least}
 use Rattle.lift.specs.Lift.{Lift}
 use Rattle.step.specs.Names.{Beyond, marked-beyond, separator-named}
 use Rattle.step.specs.Off.{leaves, leftImage}
-use Rattle.cascade.specs.Rising.{Wet, Rising, valid, inside as page-inside, long-image, row-fits, good}
+use Rattle.cascade.specs.Rising.{Rising, inside as page-inside, long-image, row-fits, good}
 use Rattle.cascade.specs.Settled.{leanNow, lean-in}
 
 -- ── a record's row with something else at a spot ──
@@ -194,7 +192,9 @@ module _ {st : Config} {was : List ℕ} {root : Row} {c : Chain} {s : Spot} {q :
   -- The record above, by the code's numbers.
   module _ {holder : ℕ} (at : holder ≡ lastPage c) where
     pub lift-on : PageIn img₁ holder
-    lift-on = subst (PageIn img₁) (sym at) (chain-lift was st root (w .reads) c s q false rest old (w .held) img₁ (take end out₁) (S .0) next-same above-page sep-is sep-least sep-most .on)
+    lift-on =
+        let o = above-stands was st root (w .reads) c s q false rest old (w .held) .here .on in
+        record { low = omega (arith, o .low, at); high = omega (arith, o .high, at); inside = omega (arith, o .inside, at, next-same) }
 
     pub lift-is : pageOf img₁ holder ≡ recordPage (record { page = holder; settled = lastSettled c; holder = lastHolder c; row = fill s (rec page false old rest) })
     lift-is =

@@ -5,7 +5,7 @@ use step::first_lean;
 use step::keep;
 use step::split_off;
 ghost use mathlib.Core.Path.{_≡_};
-ghost use Prim.Native.Nat.{_+_, _≤_};
+ghost use Prim.Native.Nat.{_+_};
 ghost use lib.ListN.{length};
 ghost use lib.IntN.{pos};
 ghost use Rattle.model.specs.Claims.{InLean};

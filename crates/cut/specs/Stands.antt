@@ -4,12 +4,10 @@ use mathlib.Core.List.{List, _++_, append-assoc}
 use Prim.Native.Nat.{ℕ, _+_, _-_, _<_, _≤_}
 use native.Mathlib.Omega.{arith}
 use lib.ListN.{length, getD, drop, length-append, length-drop}
-use lib.Seq.{getD-drop, drop-drop, drop-at}
 use Rattle.model.specs.Row.{Head, Row, nil, agg, lit, rec, size, two, header, bytes}
 use Rattle.model.specs.Reading.{twoAt}
 use Rattle.reads.specs.At.{first-byte, number-at, past}
 use Rattle.laws.specs.Laws.{length-bytes}
-use Rattle.reads.specs.Decode.{two-bytes}
 
 pub record Stands (l : List ℕ) (pos : ℕ) (r : Row) : Type 0 where
   pub post : List ℕ

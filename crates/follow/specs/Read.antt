@@ -16,7 +16,7 @@ use Rattle.model.specs.declared.Place.{Place}
 use Rattle.model.specs.declared.ReadNode.{ReadNode}
 use Rattle.reads.specs.Reading.{reads-valid, unique}
 use Rattle.reads.specs.Steps.{steps}
-use Rattle.places.specs.From.{from-none, from-split}
+use Rattle.places.specs.From.{from-split}
 use Rattle.agree.specs.Open.{opens}
 use Rattle.agree.specs.Navigate.{read-stray}
 use Rattle.stands.specs.Here.{nesting, Here, agg-view, lit-view}

@@ -1,24 +1,16 @@
 -- The record of a node that is set apart.
 use mathlib.Core.Path.{_≡_, refl, sym, ap, _∙_}
-use mathlib.Core.Bool.{Bool, true, false, cond, not, true≢false}
-use mathlib.Core.List.{List, [], _++_}
-use mathlib.Core.Logic.{_⊎_, inl, inr}
-use Prim.Native.Nat.{ℕ, zero, suc, _+_, _*_, _<_, _≤_}
+use mathlib.Core.Bool.{Bool, true, cond}
+use mathlib.Core.List.{List, []}
+use Prim.Native.Nat.{ℕ, _<_}
 use native.Mathlib.Omega.{arith}
-use borrow.Author.Tests.{ltb-true, ltb-false}
-use lib.Dec.{eqb, ltb}
-use lib.ListN.{length, set}
-use lib.Seq.{getD-set-other}
-use Rattle.model.specs.Row.{Row, nil, rec, lone, two, header, bytes, recordBytes, Config}
-use Rattle.model.specs.Reading.{Reads}
-use Rattle.model.specs.Growth.{freeFrom, atRest}
-use Rattle.laws.specs.Laws.{cond-case}
-use Rattle.reads.specs.Reading.{reads-valid, reads-length}
-use Rattle.octets.specs.Over.{over, over-then}
-use Rattle.pages.specs.Write.{usedBy, setPage, pageBytesOf, free-below}
-use Rattle.split.specs.Group.{proxyBytes, Env, Past, free-inside}
-use Rattle.split.specs.Same.{Marked}
-use Rattle.fresh.specs.Marks.{rest-past}
+use lib.Dec.{eqb}
+use lib.ListN.{set}
+use Rattle.model.specs.Row.{Row, nil, rec, lone, bytes, recordBytes, Config}
+use Rattle.model.specs.Growth.{freeFrom}
+use Rattle.octets.specs.Over.{over}
+use Rattle.pages.specs.Write.{usedBy, setPage, pageBytesOf}
+use Rattle.split.specs.Group.{proxyBytes, Env, free-inside}
 
 -- ── free pages ──
 
@@ -47,15 +39,3 @@ pub own : (st : Config) (n q page : ℕ) (dry : Bool) (row : Row) (node u₀ img
 own st n q page dry row node u₀ img₀ o₀ img o e f l b pi po =
     let z : q ≡ freeFrom st (st .pages) (usedBy u₀) page = f ∙ ap (λ (i : ℕ). freeFrom st i (usedBy u₀) page) (sym e) in
     rw (← z) (record { used = refl; image = pi ∙ rw (l, b); out = po; full = refl })
-
--- ── from one step to the next ──
-
--- What an insert starts with, on an image that passes the check.
-pub start-env : (st : Config) (root : Row) (u img : List ℕ) (page : ℕ) → Reads img st root → Marked u (atRest st root) → 1 ≤ page → page < st .pages → Env (st .pages) page u img
-start-env st root u img page r t low high = record {
-  few = reads-valid img st root r .ranges .many;
-  image = omega (arith, reads-length img st root r);
-  low = low;
-  start = high;
-  past = rest-past st root u t;
-}

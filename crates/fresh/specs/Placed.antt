@@ -6,7 +6,7 @@ use Prim.Native.Nat.{ℕ, _<_, _≤_}
 use native.Mathlib.Omega.{arith}
 use lib.Dec.{eqb}
 use lib.ListN.{length, length-set}
-use Rattle.model.specs.Row.{Head, Row, nil, agg, lit, rec, size, lone, bytes, recordBytes, Config}
+use Rattle.model.specs.Row.{Head, Row, nil, agg, lit, size, lone, bytes, recordBytes, Config}
 use Rattle.model.specs.Tree.{New}
 use Rattle.model.specs.Growth.{Work, freeFrom, taken, apart, asRow, place}
 use Rattle.octets.specs.Over.{over}

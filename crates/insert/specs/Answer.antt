@@ -1,12 +1,11 @@
 -- An insert's answer and image: from its tests, its dry run and its run to the definition.
 use mathlib.Core.Path.{_≡_, refl, sym, ap, subst, _∙_}
-use mathlib.Core.Bool.{Bool, true, false, cond, _||_}
+use mathlib.Core.Bool.{Bool, true, false}
 use mathlib.Core.List.{List, [], _∷_, _++_}
-use mathlib.Core.Option.{some}
-use Prim.Native.Nat.{ℕ, _+_, _*_, _<_, _≤_}
+use Prim.Native.Nat.{ℕ, _+_, _<_, _≤_}
 use native.Mathlib.Omega.{arith}
 use borrow.Author.Tests.{ne-eqb, lt-ltb}
-use lib.Dec.{ltb, eqb}
+use lib.Dec.{ltb}
 use lib.ListN.{length}
 use lib.IntN.{ℤ}
 use Rattle.model.specs.Row.{Row, nil, bytes, image, Config}
@@ -17,7 +16,6 @@ use Rattle.model.specs.Answers.{lowest, insertRefused}
 use Rattle.model.specs.Calls.{accept, four, pathOf, placeOr, namedBy, kindBad, isNone, isLiteral, childrenBelow, insertNumber, newOf, grown, insertOf, findOf, checkOf}
 use Rattle.model.specs.Claims.{GrowthHolds, InLean}
 use Rattle.model.specs.declared.Place.{Place}
-use Rattle.model.specs.declared.InsertAnswer.{InsertAnswer}
 use Rattle.laws.specs.Fits.{IsByte}
 use Rattle.laws.specs.Store.{NewFits}
 use Rattle.reads.specs.Valid.{bytes-hold}
@@ -25,11 +23,11 @@ use Rattle.agree.specs.Open.{opens, passes}
 use Rattle.agree.specs.Paths.{path-length}
 use Rattle.agree.specs.Insert.{Accepted, accepted}
 use Rattle.grows.specs.Growth.{growth}
-use Rattle.receive.specs.Aim.{Aimed}
+use Rattle.receive.specs.Receive.{LeftAt}
 use Rattle.admit.specs.Admit.{foundAt, aims}
 use Rattle.locate.specs.Locate.{located-named}
 use Rattle.fresh.specs.Node.{Sound}
-use Rattle.insert.specs.Begin.{Begin, Grew}
+use Rattle.insert.specs.Begin.{Begin}
 
 -- ── the number ──
 
@@ -118,11 +116,15 @@ module _ {img : List ℕ} {st : Config} {root : Row} (r : Reads img st root) (pa
       pub found-as : {i : List ℕ} {parent : ℕ} → i ≡ img → parent ≡ foundAt img path → parent ≡ foundAt i path
       found-as e p = p ∙ ap (λ (l : List ℕ). foundAt l path) (sym e)
 
+      pub left-as : (parent left : ℕ) {i : List ℕ} → i ≡ img → LeftAt img parent child left → LeftAt i parent child left
+      left-as parent left e l = subst (λ (x : List ℕ). LeftAt x parent child left) (sym e) l
+
       -- What a run of the insert requires, on the image as it was.
-      abbrev pub begin : (dry : Bool) → {i : List ℕ} → i ≡ img → {parent : ℕ} → parent ≡ foundAt img path → {node : List ℕ} → node ≡ bytes (asRow st X nil)
-          → (dry ≡ false → made .1 .full ≡ false) → Begin dry i parent child label node
-      begin dry {i} e {parent} p {node} b room = record {
+      abbrev pub begin : (dry : Bool) → {i : List ℕ} → i ≡ img → {parent : ℕ} → parent ≡ foundAt img path → (left : ℕ) → LeftAt img parent child left
+          → {node : List ℕ} → node ≡ bytes (asRow st X nil) → (dry ≡ false → made .1 .full ≡ false) → Begin dry i parent child left label node
+      begin dry {i} e {parent} p left l {node} b room = record {
         aim = aims i st root (reads-as e) path child kind label parent content (sym zero) (found-as e p);
+        sibling = left-as parent left e l;
         x = X;
         fits = new-fits;
         named = refl;

@@ -1,16 +1,16 @@
 -- An insert once its tests are passed: from the tree's place to growth's start.
 use mathlib.Core.Path.{_≡_, refl, sym, ap, subst, _∙_}
-use mathlib.Core.Bool.{Bool, true, false, cond, _||_, true≢false, false≢true}
+use mathlib.Core.Bool.{Bool, true, false, cond}
 use mathlib.Core.List.{List}
-use Prim.Native.Nat.{ℕ, _+_, _*_, _/_, _<_, _≤_}
+use Prim.Native.Nat.{ℕ, _+_, _*_, _<_, _≤_}
 use native.Mathlib.Omega.{arith}
 use lib.Dec.{eqb}
 use lib.ListN.{length, take, getD}
 use lib.IntN.{ℤ, pos}
-use Rattle.model.specs.Row.{Head, Row, nil, agg, lit, rec, store, _⊹_, size, base, isNil, lone, bytes, recordSize, recordBytes, recordPage, count, height, image, Config}
-use Rattle.model.specs.Reading.{Reads, twoAt, pageOf, configOn}
+use Rattle.model.specs.Row.{Head, Row, nil, store, _⊹_, size, base, isNil, lone, bytes, recordSize, recordBytes, recordPage, height, image, Config}
+use Rattle.model.specs.Reading.{twoAt, pageOf, configOn}
 use Rattle.model.specs.Tree.{New}
-use Rattle.model.specs.Growth.{Work, Out, freeFrom, taken, apart, asRow, place, atRest, grow}
+use Rattle.model.specs.Growth.{Work, Out, taken, apart, asRow, place, atRest, grow}
 use Rattle.laws.specs.Fits.{Fits, Valid}
 use Rattle.laws.specs.Laws.{cond-case, size-⊹, length-bytes}
 use Rattle.laws.specs.Store.{NewFits, grow-good}
@@ -22,13 +22,13 @@ use Rattle.upward.specs.Full.{full-rise}
 use Rattle.step.specs.Names.{marked-beyond}
 use Rattle.octets.specs.Over.{over, take-over}
 use Rattle.upward.specs.Chain.{Spot, fill, Chain, lastPage, lastSettled, lastHolder, whole, rise}
-use Rattle.upward.specs.Taking.{Taking, taking, taking-whole, risen, grow-rises}
+use Rattle.upward.specs.Taking.{taking-whole, grow-rises}
 use Rattle.upward.specs.Bytes.{lastHeld, chain-page, chain-bytes}
 use Rattle.upward.specs.Steady.{asPlaced, place-row, placed-some}
-use Rattle.upward.specs.Levels.{chainLength, chain-nesting}
+use Rattle.upward.specs.Levels.{chain-nesting}
 use Rattle.writes.specs.Memory.{Mem, setMem, linkMem, putMem, placeMem, riseMem}
 use Rattle.writes.specs.Back.{fits-rise}
-use Rattle.writes.specs.Kept.{Ready, placeM, ready-place}
+use Rattle.writes.specs.Kept.{Ready, ready-place}
 use Rattle.writes.specs.Images as images
 use Rattle.pages.specs.Write.{setPage, pageBytesOf, recordPage-is, length-pageBytesOf}
 use Rattle.pages.specs.Paged.{length-setPage}
@@ -39,18 +39,19 @@ use Rattle.split.specs.Same.{Marked}
 use Rattle.splice.specs.Spot.{at, parent}
 use Rattle.splice.specs.Splice.{KeepsRoot}
 use Rattle.receive.specs.Aim.{Aimed, receiverOf}
+use Rattle.receive.specs.Receive.{LeftAt}
 use Rattle.receive.specs.Keeps.{at-before, taking-keeps}
-use Rattle.admit.specs.Label.{parent-label}
 use Rattle.fresh.specs.Placed.{ownPage, imagePlaced, Placed, as-lone}
 use Rattle.fresh.specs.Marks.{rest-past}
-use Rattle.cascade.specs.Rising.{Rising, Wet, Risen}
+use Rattle.cascade.specs.Rising.{Rising, Risen}
 use Rattle.cascade.specs.Up.{some-left, some-fill, lone-fill, size-fill, below-count, below-fill, below-spot}
 use Rattle.cascade.specs.Cascade.{Cascade, goalOf, memOf}
 use Rattle.insert.specs.Taken as into
 
--- The node x, whose bytes are `node`, is to be child k of the aggregate at the byte `parent`; a run that writes finds all its pages.
-pub record Begin (dry : Bool) (img : List ℕ) (above k label : ℕ) (node : List ℕ) : Type 0 where
+-- The node x, whose bytes are `node`, is to be child k of the aggregate at the byte `above`, behind the sibling at `left`; a run that writes finds all its pages.
+pub record Begin (dry : Bool) (img : List ℕ) (above k left label : ℕ) (node : List ℕ) : Type 0 where
   pub aim : Aimed img above k
+  pub sibling : LeftAt img above k left
   pub x : New
   pub fits : NewFits x
   pub named : x .head .label ≡ label
@@ -59,7 +60,7 @@ pub record Begin (dry : Bool) (img : List ℕ) (above k label : ℕ) (node : Lis
   pub room : dry ≡ false → grow (aim .st) (aim .root) (aim .path) k x .1 .full ≡ false
 
 -- What a run of it gives: what growth counted; a dry run leaves the image, another one leaves the image of what growth made.
-pub record Grew {dry : Bool} {img : List ℕ} {above k label : ℕ} {node : List ℕ} (w : Begin dry img above k label node) (filled : Bool) (counts : ℕ) (leans : ℤ) (new : List ℕ) : Type 0 where
+pub record Grew {dry : Bool} {img : List ℕ} {above k left label : ℕ} {node : List ℕ} (w : Begin dry img above k left label node) (filled : Bool) (counts : ℕ) (leans : ℤ) (new : List ℕ) : Type 0 where
   pub full : filled ≡ grow (w .aim .st) (w .aim .root) (w .aim .path) k (w .x) .1 .full
   pub splits : counts ≡ grow (w .aim .st) (w .aim .root) (w .aim .path) k (w .x) .1 .splits
   pub lean : leans ≡ grow (w .aim .st) (w .aim .root) (w .aim .path) k (w .x) .1 .lean
@@ -121,7 +122,7 @@ module _ (st : Config) (x : New) (fits : NewFits x) where
 
 -- ── the store and the record that takes the node ──
 
-module _ {dry : Bool} {img : List ℕ} {above k label : ℕ} {node : List ℕ} (w : Begin dry img above k label node) where
+module _ {dry : Bool} {img : List ℕ} {above k left label : ℕ} {node : List ℕ} (w : Begin dry img above k left label node) where
   abbrev pub st : Config
   st = w .aim .st
 

@@ -1,11 +1,11 @@
 -- The new node goes into the bytes of the record that takes it.
-use mathlib.Core.Path.{_≡_, refl, sym, ap, _∙_}
+use mathlib.Core.Path.{_≡_, ap}
 use mathlib.Core.Bool.{Bool}
 use mathlib.Core.List.{List}
-use Prim.Native.Nat.{ℕ, _+_, _*_, _-_, _≤_, _<_}
+use Prim.Native.Nat.{ℕ, _+_, _*_, _-_, _≤_}
 use native.Mathlib.Omega.{arith}
 use lib.ListN.{length, take, drop}
-use Rattle.model.specs.Row.{Row, nil, _⊹_, size, base, bytes, recordSize, recordBytes, Held, recordPage}
+use Rattle.model.specs.Row.{Row, _⊹_, size, base, bytes, recordSize, recordBytes, Held, recordPage}
 use Rattle.model.specs.Reading.{twoAt, pageOf}
 use Rattle.laws.specs.Laws.{length-bytes}
 use Rattle.laws.specs.Image.{length-record}

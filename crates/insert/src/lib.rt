@@ -31,17 +31,25 @@ fn take_in(image: &[u8], page: usize, at: usize, par: usize, new: &[u8], buf: &m
     splice(&image[a..e], at, par, 0, new, buf)
 }
 
-// Puts the node, whose label is `label`, as child k of the aggregate at the byte `parent`, with all that growth does. A dry run counts and leaves the image.
-fn once(image: &mut [u8], parent: usize, k: usize, label: usize, node: &[u8], dry: bool) -> Grown
-    requires { ⌜ Begin dry (now image) parent k label (now node) ⌝ }
-    ensures { λ r. ⌜ ((w : Begin dry (now (image .entry)) parent k label (now (node .entry))) → Grew w (r .full) (r .splits) (r .lean) (now (image .exit))) ⌝ }
+// Puts the node, whose label is `label`, as child k of the aggregate at the byte `parent`, behind the sibling at `left`, with all that growth does. A dry run counts and leaves the image.
+fn once(
+    image: &mut [u8],
+    parent: usize,
+    k: usize,
+    left: usize,
+    label: usize,
+    node: &[u8],
+    dry: bool,
+) -> Grown
+    requires { ⌜ Begin dry (now image) parent k left label (now node) ⌝ }
+    ensures { λ r. ⌜ ((w : Begin dry (now (image .entry)) parent k left label (now (node .entry))) → Grew w (r .full) (r .splits) (r .lean) (now (image .exit))) ⌝ }
 {
     let pages = image.len() / 4096;
     let target = image[2] as usize;
     let tolerance = two(image, 4);
     let above = two(image, parent + 2);
     let mut used = usage(image, pages);
-    let t = find_receiver(image, parent, k);
+    let t = find_receiver(image, parent, k, left);
     let mut new = [0u8; 526];
     let f = place_node(
         image,
@@ -102,11 +110,11 @@ pub fn insert_of(
     }
     let mut node = [0u8; 526];
     let n = put_node(&mut node, kind, l, content);
-    let tried = once(image, a.parent, k, l, &node[..n], true);
+    let tried = once(image, a.parent, k, a.left, l, &node[..n], true);
     if tried.full {
         return refused(12);
     }
-    let made = once(image, a.parent, k, l, &node[..n], false);
+    let made = once(image, a.parent, k, a.left, l, &node[..n], false);
     let place = find_child(image, path, k);
     InsertAnswer {
         number: 0,

@@ -1,17 +1,16 @@
 -- One split of a record suffices: what a split makes fits into pages, for every target and tolerance.
-use mathlib.Core.Path.{_≡_, refl, sym, ap, ap₂, subst, _∙_}
-use mathlib.Core.Bool.{Bool, true, false, cond, not, _&&_, _||_, false≢true, true≢false}
-use mathlib.Core.List.{List, [], _∷_, _++_}
-use Prim.Native.Nat.{ℕ, zero, suc, _+_, _*_, _-_, _/_, _%_, _≤_, _<_, max}
+use mathlib.Core.Path.{_≡_, refl, sym, ap, subst}
+use mathlib.Core.Bool.{Bool, true, false, cond, not, _||_, false≢true, true≢false}
+use Prim.Native.Nat.{ℕ, _+_, _*_, _-_, _≤_, _<_, max}
 use native.Mathlib.Omega.{arith}
-use native.Mathlib.Nat.{mul-le-mul-right, mul-le-mul-left}
+use native.Mathlib.Nat.{mul-le-mul-right}
 use borrow.Author.Tests.{ltb-true, ltb-false, leb-true, leb-false}
-use lib.ListN.{length, getD}
+use lib.ListN.{length}
 use lib.IntN.{subℕ}
-use lib.Dec.{leb, ltb, eqb, T}
-use Rattle.model.specs.Row.{Row, nil, agg, lit, rec, _⊹_, size, isNil, lone, loneRec, base, recordSize, Config, height, nodeCount}
-use Rattle.laws.specs.Fits.{Ranges, Fits, RecordFits, Shape, one, more}
-use Rattle.model.specs.Growth.{Work, Out, onRow, group, twoGroups, separate, goOn, stops, startOf, startOfD, rootRow, withRow, splitPoint, separator}
+use lib.Dec.{ltb, T}
+use Rattle.model.specs.Row.{Row, nil, agg, lit, rec, _⊹_, size, isNil, lone, loneRec, base, recordSize, Config}
+use Rattle.laws.specs.Fits.{Ranges, Fits, Shape, one, more}
+use Rattle.model.specs.Growth.{Work, Out, group, twoGroups, separate, goOn, stops, startOf, startOfD, rootRow, withRow, splitPoint, separator}
 use Rattle.model.specs.Claims.{InLean}
 use Rattle.laws.specs.Laws.{size-⊹, cond-case, isNil-nil}
 

@@ -2,10 +2,9 @@
 use mathlib.Core.Path.{_≡_}
 use mathlib.Core.Bool.{Bool, true, false, cond}
 use mathlib.Core.List.{List, [], _∷_}
-use Prim.Native.Nat.{ℕ, _+_, _≤_, _<_}
+use Prim.Native.Nat.{ℕ, _≤_, _<_}
 use lib.ListN.{length}
-use lib.Dec.{T}
-use Rattle.model.specs.Row.{Head, Row, nil, agg, lit, rec, store, size, lone, nodeCount, recordSize, isAgg, height, count, outside, Config, every, isEntry}
+use Rattle.model.specs.Row.{Head, Row, nil, agg, lit, rec, store, lone, nodeCount, recordSize, isAgg, height, count, outside, Config, every, isEntry}
 
 abbrev pub IsByte : List ℕ → Type 0
 IsByte [] = Unit {0}

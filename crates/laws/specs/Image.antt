@@ -1,15 +1,15 @@
 -- The image of a valid store: each record stands on its page.
-use mathlib.Core.Path.{_≡_, refl, sym, ap, ap₂, subst, _∙_}
-use mathlib.Core.Bool.{Bool, true, false, cond, not, _&&_, _||_, false≢true, true≢false}
+use mathlib.Core.Path.{_≡_, refl, sym, ap, subst, _∙_}
+use mathlib.Core.Bool.{Bool, true, false, cond, not}
 use mathlib.Core.List.{List, [], _∷_, _++_, append-assoc, append-nil}
-use Prim.Native.Nat.{ℕ, zero, suc, _+_, _*_, _-_, _/_, _%_, _≤_, _<_, max}
+use Prim.Native.Nat.{ℕ, zero, suc, _+_, _*_, _-_, _≤_, _<_}
 use native.Mathlib.Omega.{arith}
-use borrow.Author.Tests.{eqb-true, eqb-false, eq-eqb, ne-eqb}
-use lib.ListN.{length, take, drop, replicate, length-append, length-replicate}
-use lib.Seq.{take-at, drop-at, drop-append-add, drop-drop}
-use lib.Dec.{leb, ltb, eqb, T}
-use Rattle.model.specs.Row.{Row, nil, agg, lit, rec, size, lone, base, recordSize, bytes, recordBytes, header, two, trailer, Held, records, recordPage, settingsPage, pageAt, pagesFrom, image, Config, store, count, outside}
-use Rattle.laws.specs.Fits.{Fits, RecordFits, Valid}
+use borrow.Author.Tests.{eqb-true, eq-eqb}
+use lib.ListN.{length, length-append, length-replicate}
+use lib.Seq.{take-at, drop-append-add}
+use lib.Dec.{eqb}
+use Rattle.model.specs.Row.{Row, nil, agg, lit, rec, size, lone, recordSize, bytes, recordBytes, header, Held, records, recordPage, settingsPage, pageAt, pagesFrom, image, Config, store, count, outside}
+use Rattle.laws.specs.Fits.{Fits, Valid}
 use Rattle.model.specs.Reading.{pageOf}
 use Rattle.laws.specs.Laws.{length-bytes, cond-case}
 

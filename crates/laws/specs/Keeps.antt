@@ -1,18 +1,18 @@
 -- Growth keeps the rules: every record of the new row fits its page and has the shape of a record.
-use mathlib.Core.Path.{_≡_, refl, sym, ap, ap₂, subst, _∙_}
-use mathlib.Core.Bool.{Bool, true, false, cond, not, _&&_, _||_, false≢true, true≢false}
-use mathlib.Core.List.{List, [], _∷_, _++_}
-use Prim.Native.Nat.{ℕ, zero, suc, _+_, _*_, _-_, _/_, _%_, _≤_, _<_, max}
+use mathlib.Core.Path.{_≡_, refl, sym, ap, _∙_}
+use mathlib.Core.Bool.{Bool, true, false, cond, false≢true, true≢false}
+use mathlib.Core.List.{List, [], _∷_}
+use Prim.Native.Nat.{ℕ, zero, suc, _+_, _-_, _≤_, max}
 use native.Mathlib.Omega.{arith}
-use borrow.Author.Tests.{ltb-true, ltb-false, leb-true, leb-false}
-use lib.ListN.{length, getD}
-use lib.Dec.{leb, ltb, eqb, T}
-use Rattle.model.specs.Row.{Head, Row, nil, agg, lit, rec, _⊹_, size, isNil, lone, loneRec, base, recordSize, Config, nodeCount, height}
+use borrow.Author.Tests.{leb-true, leb-false}
+use lib.ListN.{length}
+use lib.Dec.{leb, ltb, eqb}
+use Rattle.model.specs.Row.{Head, Row, nil, agg, lit, rec, _⊹_, size, isNil, lone, base, recordSize, Config, nodeCount, height}
 use Rattle.laws.specs.Fits.{Ranges, HeadFits, Fits, RecordFits, Shape, one, more, IsByte}
-use Rattle.model.specs.Tree.{Tree, end, branch, leaf, _⊞_, shown, width, breadth, New, newNode, putAt, insertAt}
-use Rattle.model.specs.Growth.{Work, Out, onRow, group, twoGroups, separate, goOn, stops, startOf, startOfD, rootRow, withRow, splitPoint, separator, ownRecord, freeFrom, kept, close, counted, freed, asRow, place, apart, after, child, inserted, atRest, grow}
+use Rattle.model.specs.Tree.{Tree, end, branch, leaf, _⊞_, shown, width, New, newNode, putAt, insertAt}
+use Rattle.model.specs.Growth.{Work, Out, onRow, rootRow, separator, kept, close, counted, freed, asRow, place, apart, after, child, inserted, atRest, grow}
 use Rattle.laws.specs.Laws.{size-⊹, cond-case, isNil-nil, shown-after, shown-child, shown-inserted}
-use Rattle.laws.specs.Bound.{depth, SplitGood, split-good, Fits-⊹, isNil-⊹}
+use Rattle.laws.specs.Bound.{depth, split-good, Fits-⊹}
 
 -- ── levels ──
 

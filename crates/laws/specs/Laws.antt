@@ -1,16 +1,16 @@
 -- Laws of rows, and of what a row shows.
 use mathlib.Core.Path.{_≡_, refl, sym, ap, ap₂, _∙_}
-use mathlib.Core.Bool.{Bool, true, false, cond, not, _&&_, _||_, false≢true}
+use mathlib.Core.Bool.{Bool, true, false, cond, _||_, false≢true}
 use mathlib.Core.List.{List, [], _∷_, _++_, append-assoc}
-use Prim.Native.Nat.{ℕ, zero, suc, _+_, _*_, _-_, _/_, _%_, _≤_, _<_}
+use Prim.Native.Nat.{ℕ, zero, suc, _+_, _-_, _≤_, _<_}
 use native.Mathlib.Omega.{arith}
 use native.Mathlib.Nat.{sub-zero, suc-sub-suc}
-use borrow.Author.Tests.{ltb-true, ltb-false, leb-true, leb-false}
-use lib.ListN.{length, getD, length-append}
+use borrow.Author.Tests.{ltb-true, ltb-false}
+use lib.ListN.{length, length-append}
 use lib.Dec.{leb, ltb, eqb}
-use Rattle.model.specs.Row.{Head, Row, nil, agg, lit, rec, _⊹_, size, isNil, lone, loneRec, base, recordSize, bytes, recordBytes, count, Config, store}
+use Rattle.model.specs.Row.{Head, Row, nil, agg, lit, rec, _⊹_, size, isNil, lone, loneRec, recordSize, bytes, Config}
 use Rattle.model.specs.Tree.{Tree, end, branch, leaf, _⊞_, shown, width, breadth, New, newNode, putAt, insertAt}
-use Rattle.model.specs.Growth.{Work, Out, onRow, freeFrom, taken, ownRecord, group, twoGroups, separate, goOn, stops, rootRow, withRow, splitPoint, separator, kept, close, counted, freed, asRow, place, apart, after, child, inserted, atRest, grow}
+use Rattle.model.specs.Growth.{Work, Out, group, twoGroups, separate, goOn, stops, rootRow, withRow, separator, kept, close, counted, freed, asRow, place, apart, after, child, inserted, atRest, grow}
 
 -- ── bytes ──
 

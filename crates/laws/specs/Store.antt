@@ -1,15 +1,14 @@
 -- An insert that finds the pages it wants leaves a valid store, which shows the plain tree's insert.
-use mathlib.Core.Path.{_≡_, refl, sym, ap, _∙_}
-use mathlib.Core.Bool.{Bool, true, false, cond, not, _&&_, _||_, false≢true, true≢false}
+use mathlib.Core.Path.{_≡_, refl, ap, _∙_}
+use mathlib.Core.Bool.{Bool, true, false, not, false≢true}
 use mathlib.Core.List.{List, [], _∷_}
-use Prim.Native.Nat.{ℕ, zero, suc, _+_, _≤_, _<_, max}
+use Prim.Native.Nat.{ℕ, _≤_}
 use native.Mathlib.Omega.{arith}
 use lib.ListN.{length}
-use lib.Dec.{leb, ltb, eqb, T}
-use Rattle.model.specs.Row.{Head, Row, nil, agg, lit, rec, size, isNil, lone, recordSize, Config, height, isAgg, store}
-use Rattle.laws.specs.Fits.{HeadFits, Fits, RecordFits, Shape, one, more, IsByte, Valid}
+use Rattle.model.specs.Row.{Head, Row, nil, agg, lit, rec, lone, recordSize, Config, height, isAgg, store}
+use Rattle.laws.specs.Fits.{HeadFits, Fits, Shape, one, IsByte, Valid}
 use Rattle.model.specs.Tree.{Tree, end, branch, leaf, shown, New, insertAt}
-use Rattle.model.specs.Growth.{Work, Out, grow}
+use Rattle.model.specs.Growth.{grow}
 use Rattle.laws.specs.Laws.{isNil-nil, shown-grow}
 use Rattle.laws.specs.Keeps.{levels, height-shown, levels-insertAt, grow-fits}
 use Rattle.laws.specs.Pages.{placed-grow}

@@ -7,7 +7,7 @@ use Prim.Native.Nat.{ℕ, _+_, _*_, _/_, _%_}
 use lib.ListN.{length, take, drop}
 use lib.Dec.{ltb, eqb}
 use Rattle.model.specs.Limits.{pageSize, mostContent, longestPath, longestParent}
-use Rattle.model.specs.Row.{Head, Row, nil, agg, store, Held, records, Config, two, image, inRange}
+use Rattle.model.specs.Row.{Row, nil, agg, store, Held, records, Config, two, image, inRange}
 use Rattle.model.specs.Tree.{Tree, shown, Node, nodes, named, New, placeOf, fromPlace}
 use Rattle.model.specs.Growth.{Out, grow}
 use Rattle.model.specs.Reading.{reading, lengthOk}

@@ -1,8 +1,8 @@
 -- Lists of calls, and the plain tree: a machine that answers them from a tree alone, fed with what document 01 lets it be fed with.
 use mathlib.Core.Path.{_≡_}
-use mathlib.Core.Bool.{Bool, true, false, cond}
+use mathlib.Core.Bool.{Bool, true, cond}
 use mathlib.Core.List.{List, [], _∷_, _++_}
-use mathlib.Core.Option.{Option, none, some}
+use mathlib.Core.Option.{Option, none}
 use Prim.Native.Nat.{ℕ, _+_, _*_, _<_}
 use lib.ListN.{length, drop}
 use lib.Dec.{ltb}
@@ -11,7 +11,7 @@ use Rattle.model.specs.Row.{every, isByte}
 use Rattle.model.specs.Tree.{Tree, end, branch, insertAt, placeOf}
 use Rattle.model.specs.Growth.{Work, noWork}
 use Rattle.model.specs.Answers.{shortBuffer, insertRefused, writeRefused}
-use Rattle.model.specs.Calls.{accept, placeOr, pathOf, ReadValue, insertNumber, formatNumber, config, findIn, climbIn, readIn, nextIn, Opened, opened, onStore, formatOf, checkOf, newOf, grown, insertOf, findOf, climbOf, readOf, partOf, nextOf, recordPages, pageBytes, recordsOf}
+use Rattle.model.specs.Calls.{accept, placeOr, pathOf, ReadValue, insertNumber, formatNumber, config, findIn, climbIn, readIn, nextIn, opened, onStore, formatOf, checkOf, newOf, grown, insertOf, findOf, climbOf, readOf, partOf, nextOf, recordPages, pageBytes, recordsOf}
 use Rattle.model.specs.declared.Settings.{Settings}
 use Rattle.model.specs.declared.Place.{Place}
 use Rattle.model.specs.declared.NextAnswer.{NextAnswer}

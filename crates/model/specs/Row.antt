@@ -1,9 +1,8 @@
 -- Pages and nodes: what the records of an image hold, as a row of nodes, and the bytes that stand for it.
-use mathlib.Core.Path.{_≡_}
 use mathlib.Core.Bool.{Bool, true, false, cond, not, _&&_, _||_}
-use mathlib.Core.List.{List, [], _∷_, _++_, map}
+use mathlib.Core.List.{List, [], _∷_, _++_}
 use Prim.Native.Nat.{ℕ, zero, suc, _+_, _*_, _-_, _/_, _%_, max}
-use lib.ListN.{length, getD, take, drop, replicate}
+use lib.ListN.{length, getD, replicate}
 use lib.Dec.{leb, ltb, eqb}
 use Rattle.model.specs.Limits.{pageSize, capacity, mostPages, mostLevels, mostContent, leastTarget, mostTarget, mostTolerance, theForm, matrixEntries}
 

@@ -1,6 +1,5 @@
 // The types of the calls' arguments and answers. What the calls do is in specs/.
 ghost use mathlib.Core.Path.{_≡_};
-ghost use Prim.Native.Nat.{ℕ};
 ghost use Rattle.model.specs.Answers.{kindNumber, usualSettings};
 
 // The numbers of the settings; the split matrix goes beside them as a slice, since one of any length may be handed over.

@@ -1,16 +1,13 @@
 -- Back links: each record whose proxy stands in a row names the row's page.
 use mathlib.Core.Path.{_≡_, refl, sym, ap, _∙_}
 use mathlib.Core.List.{List, _++_, append-assoc}
-use Prim.Native.Nat.{ℕ, _+_, _*_, _/_, _%_, _<_, _≤_}
+use Prim.Native.Nat.{ℕ, _+_, _*_, _<_, _≤_}
 use native.Mathlib.Omega.{arith}
 use lib.ListN.{length, drop, getD}
-use lib.Seq.{getD-drop, drop-drop, drop-at}
-use Rattle.model.specs.Row.{Row, nil, agg, lit, rec, _⊹_, size, two, header, bytes, count}
+use Rattle.model.specs.Row.{Row, nil, agg, lit, rec, _⊹_, size, two, header, bytes}
 use Rattle.model.specs.Reading.{twoAt}
 use Rattle.reads.specs.At.{first-byte, number-at, past}
 use Rattle.laws.specs.Laws.{length-bytes, size-⊹, bytes-⊹}
-use Rattle.reads.specs.Valid.{names-own}
-use Rattle.reads.specs.Decode.{two-bytes}
 use Rattle.octets.specs.Over.{over}
 
 -- The image after the back link of each record that the row names is set to page q.

@@ -1,15 +1,15 @@
 -- The page writes of an image are the writes of its pages as a memory.
 use mathlib.Core.Path.{_≡_, refl, sym, ap, _∙_}
 use mathlib.Core.Bool.{Bool, cond}
-use mathlib.Core.List.{List, _++_}
+use mathlib.Core.List.{List}
 use Prim.Native.Nat.{ℕ, _+_, _*_, _<_, _≤_}
 use native.Mathlib.Omega.{arith}
-use lib.ListN.{length, take, drop, replicate}
-use Rattle.model.specs.Row.{Row, nil, agg, lit, rec, two, recordSize, recordBytes, recordPage}
+use lib.ListN.{length}
+use Rattle.model.specs.Row.{Row, nil, agg, lit, rec, two, recordSize, recordBytes}
 use Rattle.model.specs.Reading.{pageOf}
 use Rattle.laws.specs.Image.{length-record}
 use Rattle.octets.specs.Over.{over, over-is, length-over}
-use Rattle.writes.specs.Memory.{Mem, blank, setMem, relink, linkMem, putMem}
+use Rattle.writes.specs.Memory.{blank, setMem, relink, linkMem, putMem}
 use Rattle.pages.specs.Write.{setPage, pageBytesOf, recordPage-is, length-pageBytesOf}
 use Rattle.pages.specs.Links.{links, Below}
 use Rattle.pages.specs.Paged.{page-over, page-set, page-cleared, length-setPage, length-links}

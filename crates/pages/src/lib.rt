@@ -4,7 +4,7 @@ use octets::copy_in;
 use octets::put16;
 use octets::two;
 ghost use mathlib.Core.Path.{_≡_};
-ghost use Prim.Native.Nat.{ℕ, _+_, _*_, _≤_, _<_};
+ghost use Prim.Native.Nat.{_+_, _*_, _≤_, _<_};
 ghost use lib.ListN.{length, replicate};
 ghost use Rattle.model.specs.Row.{Config};
 ghost use Rattle.model.specs.Growth.{freeFrom};

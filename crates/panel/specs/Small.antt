@@ -1,22 +1,21 @@
 -- Every number that a call answers has 32 bits.
-use mathlib.Core.Path.{_≡_, refl, sym, ap, subst, _∙_}
+use mathlib.Core.Path.{_≡_, refl}
 use mathlib.Core.Bool.{Bool, true, false, cond}
 use mathlib.Core.List.{List, [], _∷_, _++_}
 use mathlib.Core.Option.{Option, none, some}
 use Prim.Native.Nat.{ℕ, _+_, _*_, _≤_, _<_}
 use native.Mathlib.Omega.{arith}
 use borrow.Author.Tests.{eqb-true, eqb-false, lt-ltb}
-use lib.ListN.{length, drop, length-append}
+use lib.ListN.{length}
 use lib.Dec.{ltb, eqb}
 use Rattle.model.specs.Row.{Row, image, Config}
-use Rattle.model.specs.Tree.{Tree, shown, New, Node, nodes, named, placeOf, fromPlace}
+use Rattle.model.specs.Tree.{shown, New, Node, nodes, placeOf, fromPlace}
 use Rattle.model.specs.Reading.{Reads}
-use Rattle.model.specs.Answers.{lowest, insertRefused, findRefused, writeRefused, shortBuffer}
+use Rattle.model.specs.Answers.{lowest, insertRefused}
 use Rattle.model.specs.Calls.{insertNumber, newOf, grown, insertOf, isNone, namedBy, placeOr, pathOf, pathBytes, write, climbIn, climbFrom, nextIn, nextFrom, findIn, findOf, climbOf, readOf, nextOf, pageBytes, recordPages, recordsOf, checkOf}
 use Rattle.model.specs.declared.Place.{Place}
 use Rattle.model.specs.declared.Next.{Next}
 use Rattle.model.specs.declared.Next.the-variants as next-is
-use Rattle.model.specs.declared.NextAnswer.{NextAnswer}
 use Rattle.model.specs.declared.FindAnswer.{FindAnswer}
 use Rattle.model.specs.declared.WriteAnswer.{WriteAnswer}
 use Rattle.model.specs.Growth.{Out}
@@ -28,7 +27,7 @@ use Rattle.grows.specs.Growth.{growth}
 use Rattle.laws.specs.Laws.{cond-case}
 use Rattle.laws.specs.Keeps.{height-shown}
 use Rattle.reads.specs.Reading.{reads-valid, reads-length}
-use Rattle.places.specs.Inside.{Inside, place-inside}
+use Rattle.places.specs.Inside.{place-inside}
 use Rattle.places.specs.Order.{one-root}
 use Rattle.places.specs.Named.{in-tree}
 use Rattle.places.specs.From.{from-stands}

@@ -3,7 +3,6 @@ use model::Next;
 use model::Place;
 use model::Settings;
 ghost use mathlib.Core.Path.{_≡_};
-ghost use mathlib.Core.List.{List, [], _∷_};
 ghost use Rattle.model.specs.Answers.{nextNumbers};
 ghost use Rattle.model.specs.Calls.{formatOf, checkOf, insertOf, findOf, climbOf, readOf, nextOf, recordsOf};
 ghost use Rattle.records.specs.Up.{upPages};

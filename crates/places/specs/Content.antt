@@ -3,15 +3,14 @@ use mathlib.Core.Path.{_≡_, refl, sym, ap, subst, subst₂, _∙_}
 use mathlib.Core.Bool.{Bool, true, false, cond}
 use mathlib.Core.List.{List, [], _∷_, _++_, append-assoc}
 use mathlib.Core.Option.{Option, none, some, Option·map}
-use Prim.Native.Nat.{ℕ, zero, suc, _+_, _*_, _-_, _≤_, _<_}
+use Prim.Native.Nat.{ℕ, zero, suc, _+_, _*_, _-_, _≤_}
 use native.Mathlib.Omega.{arith}
-use native.Mathlib.Nat.{sub-zero, suc-sub-suc}
 use borrow.Author.Tests.{ltb-true, ltb-false}
 use lib.ListN.{length, take, drop, replicate, length-append, length-drop, take-append-drop}
-use lib.Seq.{drop-at, drop-drop, take-append-seam}
+use lib.Seq.{drop-drop, take-append-seam}
 use lib.Dec.{ltb}
 use Rattle.model.specs.Row.{Row, nil, agg, lit, rec, size, lone, base, recordSize, header, bytes, recordBytes, trailer, Held, recordPage, image, Config}
-use Rattle.model.specs.Tree.{Tree, end, branch, leaf, _⊞_, shown, breadth, width, Node, below, further, nodeAt, named, placeAt, placeOf}
+use Rattle.model.specs.Tree.{Tree, end, _⊞_, shown, breadth, width, Node, below, further, nodeAt, named, placeAt, placeOf}
 use Rattle.model.specs.declared.Place.{Place}
 use Rattle.model.specs.Reading.{pageOf}
 use Rattle.reads.specs.At.{past}

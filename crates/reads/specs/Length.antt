@@ -1,16 +1,14 @@
 -- The image of a valid store has the length of its pages.
-use mathlib.Core.Path.{_≡_, refl, sym, ap, _∙_}
+use mathlib.Core.Path.{_≡_, refl}
 use mathlib.Core.Bool.{true}
-use mathlib.Core.List.{List, [], _++_, append-assoc, append-nil}
+use mathlib.Core.List.{List}
 use Prim.Native.Nat.{ℕ, zero, suc, _*_, _-_, _/_, _%_, _≤_}
 use native.Mathlib.Omega.{arith}
 use borrow.Author.Tests.{le-leb, eq-eqb}
-use lib.ListN.{length, length-append, length-replicate}
-use lib.Dec.{eqb}
-use Rattle.model.specs.Row.{Row, nil, agg, lit, rec, store, Held, records, settingsPage, pageAt, pagesFrom, image, Config}
+use lib.ListN.{length, length-append}
+use Rattle.model.specs.Row.{Row, store, Held, records, settingsPage, pageAt, pagesFrom, image, Config}
 use Rattle.model.specs.Reading.{lengthOk}
-use Rattle.laws.specs.Fits.{Fits, Valid}
-use Rattle.laws.specs.Laws.{cond-case}
+use Rattle.laws.specs.Fits.{Valid}
 use Rattle.laws.specs.Image.{length-pageAt, length-settings, all-fit}
 
 length-pages : (hs : List Held) → ((q : ℕ) → length (pageAt hs q) ≡ 4096) → (n q : ℕ) → length (pagesFrom hs n q) ≡ 4096 * n

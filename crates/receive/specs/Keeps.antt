@@ -1,17 +1,16 @@
 -- The new node at its place, as `splice` puts it into the record's bytes.
-use mathlib.Core.Path.{_≡_, refl, sym, _∙_}
+use mathlib.Core.Path.{_≡_, refl, _∙_}
 use mathlib.Core.Bool.{false, true≢false}
 use mathlib.Core.List.{List}
 use mathlib.Core.Option.{some}
 use Prim.Native.Nat.{ℕ, _+_}
 use native.Mathlib.Omega.{arith}
-use Rattle.model.specs.Row.{Row, nil, agg, lit, rec, _⊹_, size, isNil, nodeCount, lone, base, bytes, recordBytes}
+use Rattle.model.specs.Row.{Row, nil, _⊹_, size, isNil, lone, bytes}
 use Rattle.upward.specs.Chain.{Spot, here, inside, fill, before, top}
 use Rattle.upward.specs.Taking.{Taking, taking}
 use Rattle.upward.specs.Steady.{Steady, in-steady, taking-lone}
 use Rattle.splice.specs.Spot.{at, isInside}
-use Rattle.splice.specs.Splice.{KeepsRoot, Place, put-in}
-use Rattle.receive.specs.Aim.{receiverOf}
+use Rattle.splice.specs.Splice.{KeepsRoot}
 
 -- The two ways to count the bytes before a spot.
 pub at-before : (s : Spot) (pos : ℕ) → at pos s ≡ pos + before s
@@ -31,9 +30,3 @@ module _ (root : Row) (path : List ℕ) (k : ℕ) (t : Taking) (e : taking root 
     -- The new node leaves the record its kind of root.
     pub taking-keeps : KeepsRoot (t .spot) (t .rest) (one ⊹ t .rest)
     taking-keeps i = (taking-helper i, taking-lone root path k t e one n ∙ taking-helper i)
-
-    -- Where `splice` puts it.
-    abbrev pub taking-place : (new : List ℕ) → new ≡ bytes one → Place (recordBytes (fill (t .spot) (t .rest))) (receiverOf t .at) (receiverOf t .par) 0 new
-    taking-place new b =
-        put-in (t .spot) one (t .rest) (recordBytes (fill (t .spot) (t .rest))) (receiverOf t .at) (receiverOf t .par) new refl
-        (sym (at-before (t .spot) (base (fill (t .spot) (t .rest))))) refl b taking-keeps

@@ -3,7 +3,7 @@ use mathlib.Core.Path.{_≡_, refl, sym, ap, subst, _∙_}
 use mathlib.Core.Bool.{true, false, cond, false≢true}
 use mathlib.Core.List.{List, [], _∷_, _++_}
 use mathlib.Core.Option.{some}
-use Prim.Native.Nat.{ℕ, suc, _+_, _*_, _/_, _%_, _≤_, _<_}
+use Prim.Native.Nat.{ℕ, suc, _-_, _+_, _*_, _/_, _%_, _≤_, _<_}
 use native.Mathlib.Omega.{arith}
 use lib.ListN.{length}
 use lib.Dec.{eqb}
@@ -16,7 +16,6 @@ use Rattle.laws.specs.Laws.{isNil-nil}
 use Rattle.reads.specs.Steps.{steps, few-steps}
 use Rattle.reads.specs.Reading.{reads-valid}
 use Rattle.stands.specs.Here.{nesting, Here, AggView, agg-view, lit-view, rec-view, root-nesting}
-use Rattle.descend.specs.declared.NthNode.{NthNode}
 use Rattle.descend.specs.Nth.{nthOf, nth-found}
 use Rattle.descend.specs.Rowed.{Rowed}
 use Rattle.descend.specs.Find.{Leads, reach, no-entry}
@@ -141,6 +140,10 @@ steps-part = record {
   after-rec = λ p b r rest. omega arith;
 }
 
+-- The left sibling of child k of the aggregate at `parent`, if there is one, stands at the byte `left`.
+abbrev pub LeftAt : (img : List ℕ) → (parent k left : ℕ) → Type 0
+LeftAt img parent k left = (r : Rowed img (parent + 6) (parent + twoAt img (parent + 4)) 1024) → (k ≡ 0 → ⊥) → left ≡ nthOf (parent + 6) (r .row) (k - 1) .at
+
 module _ (img : List ℕ) (parent k : ℕ) (w : Aimed img parent k) where
   v : Valid (w .st) (w .root)
   v = reads-valid img (w .st) (w .root) (w .reads)
@@ -208,9 +211,11 @@ module _ (img : List ℕ) (parent k : ℕ) (w : Aimed img parent k) where
         beside img (w .st) (w .root) (w .reads) (w .path) k (w .t) (w .taken) left-place _ (left .at)
         (taking-beside (w .st) (w .root) v (w .path) (w .t) left-place i (ap (taking (w .root) (w .path)) (sym z) ∙ w .taken) left-named)
 
-    pub sibling : (len : ℕ) (e : len ≡ twoAt img (parent + 4)) (r : NthNode) → r ≡ nthOf (parent + 6) (kids len e .row) i → Behind img (r .at) (goesAt (w .t))
+    pub sibling : (at : ℕ) → LeftAt img parent k at → Behind img at (goesAt (w .t))
     unfolding kids
-    sibling len e r q = subst (λ (x : NthNode). Behind img (x .at) (goesAt (w .t))) (sym q) left-behind
+    sibling at l =
+        let e : k - 1 ≡ i = omega arith in
+        subst (λ (x : ℕ). Behind img x (goesAt (w .t))) (sym (l (kids (twoAt img (parent + 4)) refl) (λ y. omega arith) ∙ ap (λ (i : ℕ). nthOf (parent + 6) (p .children) i .at) e)) left-behind
 
   -- The first child goes behind the header.
   pub goes-first : k ≡ 0 → parent + 6 ≡ goesAt (w .t)

@@ -1,5 +1,4 @@
 // Where the new node of an insert goes, on an image that passes the check.
-use descend::nth;
 use follow::find_proxy;
 use octets::two;
 ghost use mathlib.Core.Path.{_≡_};
@@ -7,7 +6,7 @@ ghost use mathlib.Core.Bool.{cond};
 ghost use Prim.Native.Nat.{ℕ, _/_, _%_};
 ghost use lib.Dec.{eqb};
 ghost use Rattle.receive.specs.Aim.{Aimed, receiverOf};
-ghost use Rattle.receive.specs.Receive.{goesAt, Behind};
+ghost use Rattle.receive.specs.Receive.{goesAt, Behind, LeftAt};
 
 // The page of the record that takes the node, and the bytes of the record where it goes and where its parent stands; 0 if the record does not hold the parent.
 pub struct Receiver {
@@ -28,17 +27,15 @@ fn behind(image: &[u8], s: usize) -> usize
     find_proxy(image, holder, s / 4096) + 8
 }
 
-// The byte of the image where child k of the aggregate at `parent` goes.
-fn place(image: &[u8], parent: usize, k: usize) -> usize
-    requires { ⌜ Aimed (now image) parent k ⌝ }
+// The byte of the image where child k of the aggregate at `parent` goes; its left sibling, if it has one, stands at `left`.
+fn place(image: &[u8], parent: usize, k: usize, left: usize) -> usize
+    requires { ⌜ Aimed (now image) parent k × LeftAt (now image) parent k left ⌝ }
     ensures { λ r. ⌜ ((w : Aimed (now (image .entry)) parent k) → r ≡ goesAt (w .t)) ⌝ }
 {
     if k == 0 {
         return parent + 6;
     }
-    let end = parent + two(image, parent + 4);
-    let left = nth(image, parent + 6, end, k - 1, 1024);
-    behind(image, left.at)
+    behind(image, left)
 }
 
 // The offset of the byte `parent` if it is on the page, else 0.
@@ -51,12 +48,12 @@ fn offset_on(parent: usize, page: usize) -> usize
     0
 }
 
-// Where child k of the aggregate at the byte `parent` of the image goes.
-pub fn find_receiver(image: &[u8], parent: usize, k: usize) -> Receiver
-    requires { ⌜ Aimed (now image) parent k ⌝ }
+// Where child k of the aggregate at the byte `parent` of the image goes; its left sibling, if it has one, stands at `left`.
+pub fn find_receiver(image: &[u8], parent: usize, k: usize, left: usize) -> Receiver
+    requires { ⌜ Aimed (now image) parent k × LeftAt (now image) parent k left ⌝ }
     ensures { λ r. ⌜ ((w : Aimed (now (image .entry)) parent k) → r ≡ receiverOf (w .t)) ⌝ }
 {
-    let pos = place(image, parent, k);
+    let pos = place(image, parent, k, left);
     let page = pos / 4096;
     let par = offset_on(parent, page);
     Receiver {

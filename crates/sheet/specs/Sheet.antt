@@ -2,15 +2,14 @@
 use mathlib.Core.Path.{_≡_, refl, ap, _∙_}
 use mathlib.Core.Bool.{false}
 use mathlib.Core.List.{List, [], _∷_, _++_}
-use mathlib.Core.Option.{Option, none, some}
 use Prim.Native.Nat.{ℕ, zero, suc, _+_, _*_}
-use lib.ListN.{length, take, drop, replicate}
+use lib.ListN.{length, take, replicate}
 use lib.IntN.{ℤ, pos, negsuc}
 use Rattle.model.specs.Row.{Row, nil, agg, lit, rec, _⊹_, recordSize, header, bytes, Config, image, inRange, valid}
 use Rattle.model.specs.Tree.{placeAt}
 use Rattle.model.specs.Growth.{grow, inserted, after, kept, close, separator, separate, group, twoGroups, freeFrom, startOf, startOfD, splitPoint}
 use Rattle.model.specs.Reading.{lengthOk, twoAt, pageOf, nodesIn, sameBytes, reading}
-use Rattle.model.specs.Answers.{usualSettings, noPlace, findRefused, insertRefused}
+use Rattle.model.specs.Answers.{usualSettings, findRefused, insertRefused}
 use Rattle.model.specs.Calls.{config, insertNumber, findIn, formatNumber, opened, formatOf, insertOf, findOf}
 use Rattle.model.specs.declared.InsertAnswer.{InsertAnswer}
 

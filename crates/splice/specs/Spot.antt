@@ -1,14 +1,13 @@
 -- The bytes around a place in a row, whatever fills it: the new node, or a separator where a proxy was.
 use mathlib.Core.Path.{_≡_, refl, sym, ap, _∙_}
-use mathlib.Core.Bool.{Bool, true, false, cond}
+use mathlib.Core.Bool.{Bool, true, false}
 use mathlib.Core.List.{List, [], _++_, append-assoc, append-nil}
 use Prim.Native.Nat.{ℕ, _+_, _≤_, _<_}
 use native.Mathlib.Omega.{arith}
 use mathlib.Core.Logic.{_⊎_, inl, inr, ⊎-elim}
 use lib.ListN.{length, length-append}
-use Rattle.model.specs.Row.{Head, Row, nil, agg, lit, rec, _⊹_, size, isNil, nodeCount, lone, header, bytes}
+use Rattle.model.specs.Row.{Row, nil, agg, lit, rec, _⊹_, size, nodeCount, lone, header, bytes}
 use Rattle.laws.specs.Laws.{length-bytes, size-⊹, bytes-⊹}
-use Rattle.laws.specs.Keeps.{nodeCount-⊹}
 use Rattle.upward.specs.Chain.{Spot, here, inside, fill}
 
 -- The byte where the filling starts: the row starts at pos.

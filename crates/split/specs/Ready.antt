@@ -1,24 +1,16 @@
 -- A record that is too large is ready for the split: what its code requires, from the laws of the model.
-use mathlib.Core.Path.{_≡_, refl, sym, subst, _∙_}
+use mathlib.Core.Path.{_≡_, sym, subst}
 use mathlib.Core.Bool.{Bool, true, false, cond}
 use mathlib.Core.List.{List, _++_}
-use Prim.Native.Nat.{ℕ, _+_, _*_, _<_, _≤_}
+use Prim.Native.Nat.{ℕ, _+_, _<_, _≤_}
 use native.Mathlib.Omega.{arith}
-use lib.ListN.{length}
 use Rattle.model.specs.Row.{Row, nil, agg, lit, rec, size, lone, recordSize, recordBytes, Config}
 use Rattle.model.specs.Growth.{Work, splitPoint, rootRow, withRow, separate, separator}
 use Rattle.laws.specs.Fits.{Fits}
 use Rattle.pages.specs.Links.{Below}
 use Rattle.cut.specs.Stands.{Kids}
 use Rattle.cut.specs.Level.{root-kids, root-some}
-use Rattle.split.specs.Cutting.{separateI}
-use Rattle.split.specs.Group.{Env}
-use Rattle.split.specs.Separate.{Sep}
-use Rattle.split.specs.Same.{Marked, separate-same}
-
-module _ (st : Config) (near p : ℕ) (dry : Bool) (l u img : List ℕ) (w : Work) (many : st .pages ≤ 1024) (inside : near < 1024) (m : Marked u w) where
-  pub row-same : (at : ℕ) (row : Row) → separate st near p at nil row w .0 ≡ separateI st near dry p at nil row u img .row
-  row-same at row = sym (separate-same st many near inside dry p at nil row u img w m .row)
+use Rattle.split.specs.Same.{Marked}
 
 pub below-root : (st : Config) (n : ℕ) (b : Bool) (r : Row) → Below n r → Below n (rootRow st b r)
 below-root st n false r h = h

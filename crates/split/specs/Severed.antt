@@ -21,7 +21,7 @@ use Rattle.split.specs.Group.{Env, Left}
 use Rattle.split.specs.Separate.{Sep, resized}
 use Rattle.split.specs.Same.{Marked, Alike, separate-same}
 use Rattle.split.specs.Mem.{After, separate-mem}
-use Rattle.split.specs.Ready.{row-same, root-level, root-row, root-good, root-below}
+use Rattle.split.specs.Ready.{root-level, root-row, root-good, root-below}
 
 -- The bytes l are a record that is too large, and its separator has at most 512 bytes.
 pub record Large (n near p tolerance : ℕ) (l u : List ℕ) : Type 0 where

@@ -1,18 +1,18 @@
 -- A row that stands in an image: what is read at its first node, and that its parts stand too.
 use mathlib.Core.Path.{_≡_, refl, sym, ap, subst, _∙_}
 use mathlib.Core.Bool.{Bool, true, false, cond, false≢true}
-use mathlib.Core.List.{List, [], _∷_, _++_, append-assoc}
-use Prim.Native.Nat.{ℕ, zero, suc, _+_, _*_, _-_, _/_, _%_, _≤_, _<_, max}
+use mathlib.Core.List.{List, _++_, append-assoc}
+use Prim.Native.Nat.{ℕ, suc, _+_, _*_, _-_, _≤_, _<_, max}
 use native.Mathlib.Omega.{arith}
 use lib.ListN.{length, getD, take, drop, replicate}
-use lib.Seq.{getD-drop, getD-take, drop-drop, drop-at, take-append-seam}
+use lib.Seq.{getD-drop, getD-take, take-append-seam}
 use lib.Dec.{eqb}
 use Rattle.model.specs.Row.{Head, Row, nil, agg, lit, rec, store, size, lone, base, recordSize, header, two, bytes, recordBytes, trailer, Held, recordPage, count, Config}
 use Rattle.model.specs.Reading.{Reads, twoAt, pageOf}
 use Rattle.reads.specs.At.{first-byte, number-at, past}
-use Rattle.laws.specs.Fits.{HeadFits, Fits, RecordFits, Valid}
+use Rattle.laws.specs.Fits.{Fits}
 use Rattle.laws.specs.Laws.{length-bytes}
-use Rattle.laws.specs.Image.{Stored, length-record}
+use Rattle.laws.specs.Image.{Stored}
 use Rattle.reads.specs.Valid.{names-own}
 use Rattle.reads.specs.Steps.{recordCount, few-records, named-inside}
 use Rattle.reads.specs.Decode.{two-bytes, in-trailer, used-page, stored-image}

@@ -1,7 +1,7 @@
 -- The nodes of the document order against the positions where they stand: what is read at each, and its place.
 use mathlib.Core.Path.{_≡_, refl, sym, ap, subst, _∙_}
 use mathlib.Core.List.{List, [], _∷_, _++_, map, nil≢cons, head-eq-of-cons-eq, tail-eq-of-cons-eq, List·Memᴰ, List·Memᴰ·head, List·Memᴰ·tail}
-use mathlib.Core.Option.{some}
+use mathlib.Core.Option.{some, Option·some-injective}
 use Prim.Native.Nat.{ℕ, _+_, _*_, _/_, _%_, _≤_}
 use native.Mathlib.Omega.{arith}
 use lib.ListN.{length, getD}
@@ -162,15 +162,18 @@ module _ (img : List ℕ) (st : Config) (root : Row) (r : Reads img st root) whe
   pub nodes-split : (before after : List ℕ) → spots (4096 + base root) root ≡ before ++ after → (xs ys : List Node) × (nodes (shown root) ≡ xs ++ ys) × All (Both img root) ys after
   nodes-split before after e = all-split (Both img root) (nodes (shown root)) before after (subst (All (Both img root) (nodes (shown root))) e nodes-all)
 
+  -- What is read at a node's place.
+  pub node-read : (n : Node) → Mem n (nodes (shown root)) → (x : Place) → placeOf root (n .path) ≡ some x → ReadAt img n (addr x)
+  node-read n m x e =
+      let b = mem-all (Both img root) (nodes (shown root)) (spots (4096 + base root) root) nodes-all n m in
+      subst (ReadAt img n) (sym (b .2 .1 .is) ∙ ap addr (Option·some-injective _ _ (sym (b .2 .1 .has) ∙ e))) (b .2 .0)
+
   -- A node's place is one of the positions, and on its page.
   pub node-spot : (n : Node) → Mem n (nodes (shown root)) → (x : Place) → placeOf root (n .path) ≡ some x → List·Memᴰ (addr x) (spots (4096 + base root) root) × Inside st x
   node-spot n m x e =
       let b = mem-all (Both img root) (nodes (shown root)) (spots (4096 + base root) root) nodes-all n m in
-      let same : b .2 .1 .place ≡ x = some-injective (sym (b .2 .1 .has) ∙ e) in
+      let same : b .2 .1 .place ≡ x = Option·some-injective _ _ (sym (b .2 .1 .has) ∙ e) in
       (subst (λ (s : ℕ). List·Memᴰ s (spots (4096 + base root) root)) (sym (b .2 .1 .is) ∙ ap addr same) (b .1), place-inside st root (reads-valid img st root r) (n .path) x e)
-    where
-      some-injective : {x y : Place} → some x ≡ some y → x ≡ y
-      some-injective q = cc
 
   -- The place of a node at a position is that position's.
   pub place-at : (n : Node) (s : ℕ) → PlacedAt root n s → placeOf root (n .path) ≡ some (record { page = s / 4096; offset = s % 4096 })

@@ -1,8 +1,8 @@
 -- The part of the image that Read hands over: within the image, so that a slice can name it.
-use mathlib.Core.Path.{_≡_, refl, sym, ap, _∙_}
+use mathlib.Core.Path.{_≡_, refl, ap}
 use mathlib.Core.Bool.{Bool, true, false, cond}
 use mathlib.Core.List.{List, [], _∷_}
-use Prim.Native.Nat.{ℕ, _+_, _*_, _-_, _≤_, _<_}
+use Prim.Native.Nat.{ℕ, _+_, _*_, _-_, _≤_}
 use native.Mathlib.Omega.{arith}
 use borrow.Author.Tests.{eqb-true, eqb-false, le-leb}
 use lib.ListN.{length, take, drop}
@@ -12,7 +12,6 @@ use Rattle.model.specs.Tree.{shown, Node, nodes, placeOf, fromPlace}
 use Rattle.model.specs.Reading.{Reads}
 use Rattle.model.specs.Calls.{checkOf, readIn, readFrom, asRead, readOf, partOf}
 use Rattle.model.specs.declared.Place.{Place}
-use Rattle.model.specs.declared.ReadNode.{ReadNode}
 use Rattle.reads.specs.Reading.{reads-valid}
 use Rattle.places.specs.Order.{one-root}
 use Rattle.places.specs.Named.{in-tree}

@@ -1,11 +1,10 @@
 -- Each call on an image that does not pass gives the check's number, and nothing else.
-use mathlib.Core.Path.{_≡_, refl, sym, ap}
+use mathlib.Core.Path.{_≡_, sym}
 use mathlib.Core.List.{List}
 use Prim.Native.Nat.{ℕ}
 use Rattle.model.specs.Answers.{insertRefused, findRefused, writeRefused, readRefused, nextRefused}
 use Rattle.model.specs.Calls.{checkOf, insertOf, findOf, climbOf, readOf, nextOf, recordsOf}
 use Rattle.model.specs.declared.Place.{Place}
-use Rattle.model.specs.declared.WriteAnswer.{WriteAnswer}
 use Rattle.agree.specs.Open.{refuses}
 
 module _ (img : List ℕ) (n : ℕ) (e : n ≡ checkOf img) (z : n ≡ 0 → ⊥) where

@@ -8,7 +8,6 @@ use model::ReadNode;
 use model::Settings;
 use model::WriteAnswer;
 ghost use mathlib.Core.Path.{_≡_};
-ghost use mathlib.Core.List.{List};
 ghost use Rattle.model.specs.Calls.{formatOf, checkOf, insertOf, findOf, climbOf, readOf, partOf, nextOf, recordsOf};
 ghost use Rattle.store.specs.Part.{slice};
 ghost use Rattle.records.specs.Up.{upPages};

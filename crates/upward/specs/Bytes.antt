@@ -1,19 +1,17 @@
 -- The places of a chain in an image.
-use mathlib.Core.Path.{_≡_, refl, sym, ap, subst, _∙_}
-use mathlib.Core.Bool.{Bool, cond}
-use mathlib.Core.List.{List, [], _++_, append-assoc, append-nil}
+use mathlib.Core.Path.{_≡_, sym, subst}
+use mathlib.Core.Bool.{Bool}
+use mathlib.Core.List.{List}
 use mathlib.Core.Option.{some}
 use Prim.Native.Nat.{ℕ, _+_, _*_}
 use native.Mathlib.Omega.{arith}
-use lib.ListN.{length, getD, drop, length-append}
-use lib.Seq.{getD-drop, getD-take}
-use Rattle.model.specs.Row.{Row, nil, agg, lit, rec, store, _⊹_, size, base, header, bytes, Held, recordPage, Config}
+use lib.ListN.{length}
+use Rattle.model.specs.Row.{Row, nil, agg, lit, rec, store, _⊹_, size, base, bytes, Held, recordPage, Config}
 use Rattle.model.specs.Reading.{Reads, pageOf}
-use Rattle.laws.specs.Laws.{length-bytes, bytes-⊹}
 use Rattle.laws.specs.Image.{Stored}
-use Rattle.reads.specs.Decode.{in-trailer, stored-image}
+use Rattle.reads.specs.Decode.{stored-image}
 use Rattle.reads.specs.Reading.{reads-valid}
-use Rattle.stands.specs.Here.{Here, OnPage, AggView, agg-view, lit-view, RecView, rec-view, root-page}
+use Rattle.stands.specs.Here.{Here, OnPage, agg-view, lit-view, rec-view, root-page}
 use Rattle.upward.specs.Chain.{Spot, here, inside, fill, before, Chain, top, below, lastPage, lastSettled, lastHolder, whole}
 use Rattle.upward.specs.Taking.{Taking, taking, taking-whole}
 

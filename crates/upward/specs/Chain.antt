@@ -2,7 +2,7 @@
 use mathlib.Core.Path.{_≡_, refl, ap}
 use mathlib.Core.Bool.{Bool, true}
 use Prim.Native.Nat.{ℕ, _+_}
-use Rattle.model.specs.Row.{Head, Row, nil, agg, lit, rec, _⊹_, size, Config}
+use Rattle.model.specs.Row.{Head, Row, nil, agg, rec, _⊹_, size, Config}
 use Rattle.model.specs.Growth.{Out, onRow, kept, close}
 use Rattle.laws.specs.Laws.{⊹-assoc}
 

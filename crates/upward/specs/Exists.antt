@@ -8,16 +8,15 @@ use Prim.Native.Nat.{ℕ, zero, suc, _-_, _≤_, _<_}
 use native.Mathlib.Omega.{arith}
 use borrow.Author.Tests.{ltb-true, ltb-false, eqb-false}
 use lib.Dec.{ltb}
-use Rattle.model.specs.Row.{Head, Row, nil, agg, lit, rec, lone, Config}
+use Rattle.model.specs.Row.{Head, Row, nil, agg, lit, rec, lone}
 use Rattle.model.specs.Tree.{_⊞_, shown, width, Node, branchNode, leafNode, below as lower, further, nodeAt, named, New}
 use Rattle.model.specs.Calls.{entries, namedIf, orEmpty, pathOf, isNone, isLiteral, childrenBelow}
-use Rattle.model.specs.Growth.{atRest, grow}
 use Rattle.laws.specs.Laws.{cond-case, breadth-shown}
 use Rattle.places.specs.Order.{nodeAt-left, nodeAt-right}
 use Rattle.places.specs.Named.{unmap}
 use Rattle.agree.specs.Insert.{Accepted}
 use Rattle.upward.specs.Chain.{Spot, here, past, into, Chain, top, below}
-use Rattle.upward.specs.Taking.{Taking, takingAfter, takingChild, takingIn, taking, wholeOf, taking-whole, risen, grow-rises}
+use Rattle.upward.specs.Taking.{Taking, takingAfter, takingChild, takingIn, taking}
 
 abbrev Found : Option Taking → Type 0
 Found o = (t : Taking) × (o ≡ some t)

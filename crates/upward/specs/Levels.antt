@@ -1,9 +1,9 @@
 -- Growth upwards shows the same tree, so the levels stay; and how long a chain may be.
 use mathlib.Core.Path.{_≡_, refl, sym, ap, _∙_}
 use mathlib.Core.Bool.{Bool, true, false, true≢false, false≢true}
-use Prim.Native.Nat.{ℕ, suc, _+_, _≤_, max}
+use Prim.Native.Nat.{ℕ, suc, _+_, _≤_}
 use native.Mathlib.Omega.{arith}
-use Rattle.model.specs.Row.{Head, Row, nil, agg, lit, rec, _⊹_, lone, height, Config}
+use Rattle.model.specs.Row.{Row, nil, agg, lit, rec, _⊹_, lone, height, Config}
 use Rattle.model.specs.Tree.{Tree, branch, _⊞_, shown}
 use Rattle.model.specs.Growth.{Out, onRow, rootRow, close}
 use Rattle.laws.specs.Laws.{shown-⊹, shown-kept, shown-close}

@@ -3,15 +3,14 @@ use mathlib.Core.Path.{_≡_, refl, sym, ap, subst, _∙_}
 use mathlib.Core.Bool.{Bool, true, false, cond, true≢false}
 use mathlib.Core.List.{List, [], _∷_}
 use mathlib.Core.Option.{some, Option·some-injective, Option·none-ne-some}
-use Prim.Native.Nat.{ℕ, zero, suc, _+_, _-_}
-use native.Mathlib.Omega.{arith}
+use Prim.Native.Nat.{ℕ, zero, suc, _-_}
 use lib.Dec.{ltb, eqb}
-use Rattle.model.specs.Row.{Head, Row, nil, agg, lit, rec, _⊹_, size, isNil, lone, recordSize, Config}
+use Rattle.model.specs.Row.{Head, Row, nil, agg, lit, rec, _⊹_, isNil, lone, Config}
 use Rattle.model.specs.Tree.{width, New}
 use Rattle.model.specs.Growth.{Work, freeFrom, taken, apart, asRow, place}
-use Rattle.laws.specs.Laws.{size-⊹, ⊹-assoc}
-use Rattle.upward.specs.Chain.{Spot, here, inside, fill, past, into, Chain, top, below, lastPage}
-use Rattle.upward.specs.Taking.{Taking, takingAt, takingAfter, takingChild, takingIn, taking, received}
+use Rattle.laws.specs.Laws.{⊹-assoc}
+use Rattle.upward.specs.Chain.{Spot, here, inside, fill, past, into, Chain, top, below}
+use Rattle.upward.specs.Taking.{Taking, takingAt, takingAfter, takingChild, takingIn, taking}
 
 -- ── the spots of taking places ──
 

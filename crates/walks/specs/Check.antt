@@ -1,13 +1,12 @@
 -- The check in the order of the code: the length, page 0, all trailers and free pages, then the walk.
-use mathlib.Core.Path.{_≡_}
-use mathlib.Core.Bool.{Bool, true, false, cond}
-use mathlib.Core.List.{List, [], _∷_}
-use Prim.Native.Nat.{ℕ, zero, suc, _+_, _-_, _*_, _/_}
-use lib.ListN.{length, take, drop, getD, replicate}
+use mathlib.Core.Bool.{Bool, false, cond}
+use mathlib.Core.List.{List}
+use Prim.Native.Nat.{ℕ, zero, suc, _+_, _-_, _/_}
+use lib.ListN.{length, getD, replicate}
 use lib.Dec.{eqb}
 use Rattle.model.specs.Reading.{lengthOk, pageOf}
 use Rattle.walks.specs.Tests.{stateOf, settingsOk, firstOk}
-use Rattle.walks.specs.Walk.{State, state, Decoded, recordOf, nodeOf}
+use Rattle.walks.specs.Walk.{state, Decoded, recordOf, nodeOf}
 
 -- k pages from p on keep the rules by themselves, and the number of record pages is n with those among them: 0 where one does not, else one more.
 unfoldable pub scanFrom : (img : List ℕ) → (k p n : ℕ) → ℕ

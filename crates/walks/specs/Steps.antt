@@ -1,6 +1,6 @@
 -- The equations of `decode`: what it is at a node and at a list, with no guard on the calls.
-use mathlib.Core.Path.{_≡_, refl, ap, sym, _∙_, subst}
-use mathlib.Core.List.{List, [], _∷_}
+use mathlib.Core.Path.{_≡_, refl, ap, _∙_}
+use mathlib.Core.List.{List}
 use mathlib.Core.Bool.{Bool, true, false, cond}
 use Prim.Native.Nat.{ℕ, zero, suc, _+_, _-_, _*_, _≤_, _<_}
 use native.Mathlib.Nat.{le-refl, le-trans, add-assoc}
@@ -8,11 +8,11 @@ use native.Mathlib.Omega.{arith}
 use lib.ListN.{length, take, drop, getD, length-take, length-drop}
 use lib.Seq.{length-take-le}
 use lib.Dec.{ltb, leb, eqb}
-use borrow.Author.Tests.{lt-ltb, ltb-true, ltb-false, leb-true, leb-false, eqb-true, eqb-false}
+use borrow.Author.Tests.{lt-ltb, ltb-false, leb-false, eqb-false}
 use Rattle.walks.specs.Rec.{run, under, steps, unfold'}
 use Rattle.model.specs.Reading.{twoAt}
-use Rattle.walks.specs.Tests.{sizeOf, headOf, namesOf, rootFits, isMarked}
-use Rattle.walks.specs.Walk.{State, withMark, entersOf, refusedOf, Decoded, Job, node, list, measure, stop, none, recordOf, asAgg, asRec, before, step, proxyStep, nodeStep, moreStep, listStep, decode, nodeOf, listOf, proxyOf}
+use Rattle.walks.specs.Tests.{sizeOf, headOf, namesOf, rootFits}
+use Rattle.walks.specs.Walk.{State, withMark, entersOf, Decoded, Job, node, list, measure, stop, none, recordOf, asAgg, asRec, step, proxyStep, nodeStep, moreStep, listStep, decode, nodeOf, listOf, proxyOf}
 use Rattle.walks.specs.Facts.{no, both, arms}
 
 -- What entering a page shows of it.

@@ -1,10 +1,9 @@
 -- The walk: what stands in an image from a node on, as a row, with the state of the walk.
-use mathlib.Core.Path.{_≡_}
-use mathlib.Core.Bool.{Bool, true, false, cond, not}
-use mathlib.Core.List.{List, [], _∷_}
-use Prim.Native.Nat.{ℕ, _+_, _-_, _*_, _≤_, _<_}
+use mathlib.Core.Bool.{Bool, false, cond, not}
+use mathlib.Core.List.{List}
+use Prim.Native.Nat.{ℕ, _+_, _-_, _*_}
 use lib.ListN.{length, take, drop, getD}
-use lib.Dec.{ltb, leb, eqb}
+use lib.Dec.{ltb, eqb}
 use Rattle.model.specs.Row.{Row, nil, agg, lit, rec, _⊹_}
 use Rattle.model.specs.Reading.{twoAt}
 use Rattle.walks.specs.Rec.{run}

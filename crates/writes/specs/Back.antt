@@ -7,7 +7,7 @@ use Rattle.model.specs.Row.{Row, nil, agg, lit, rec, _⊹_, size, isNil, lone, 
 use Rattle.model.specs.Growth.{Work, Out, onRow, ownRecord, group, twoGroups, separate, goOn, stops, rootRow, withRow, splitPoint, separator, counted, freed, kept, close}
 use Rattle.laws.specs.Bound.{fits-parts}
 use Rattle.laws.specs.Fits.{Fits}
-use Rattle.upward.specs.Chain.{Spot, here, inside, fill, Chain, top, below, whole, rise}
+use Rattle.upward.specs.Chain.{here, fill, Chain, top, below, whole, rise}
 use Rattle.upward.specs.Fit.{fits-fill}
 
 either : (A : Type 0) (b : Bool) (o u : Out) → (Fits (o .0) → A) → (Fits (u .0) → A) → Fits (cond b o u .0) → A

@@ -1,12 +1,12 @@
 -- Inserts on images: the pages of a valid store's image are a memory that growth works on, and bytes whose pages are what growth leaves are the new store's image.
 use mathlib.Core.Path.{_≡_, refl, sym, ap, subst, _∙_}
-use mathlib.Core.Bool.{Bool, true, false, cond, _||_}
+use mathlib.Core.Bool.{false}
 use mathlib.Core.List.{List, [], _++_, append-assoc}
 use mathlib.Core.Option.{some}
-use Prim.Native.Nat.{ℕ, zero, suc, _+_, _-_, _*_, _≤_, _<_}
+use Prim.Native.Nat.{ℕ, _+_, _-_, _*_, _≤_, _<_}
 use native.Mathlib.Omega.{arith}
 use borrow.Author.Tests.{ne-eqb, eq-eqb, leb-false, ltb-false, lt-leb}
-use lib.ListN.{length, replicate}
+use lib.ListN.{length}
 use lib.Seq.{take-at}
 use lib.Dec.{eqb, leb, ltb}
 use Rattle.model.specs.Row.{Row, nil, agg, lit, rec, store, count, outside, Held, records, settingsPage, pageAt, pagesFrom, image, Config}
@@ -15,7 +15,7 @@ use Rattle.model.specs.Tree.{New}
 use Rattle.model.specs.Growth.{Out, atRest, grow}
 use Rattle.laws.specs.Fits.{Fits, Valid}
 use Rattle.laws.specs.Image.{Stored, image-page, length-settings}
-use Rattle.laws.specs.Pages.{bit, or-left, or-right, reserved}
+use Rattle.laws.specs.Pages.{bit, or-left, or-right}
 use Rattle.laws.specs.Store.{NewFits, valid-grow}
 use Rattle.reads.specs.Decode.{stored-image}
 use Rattle.walks.specs.Images.{image-is}

@@ -15,7 +15,7 @@ use Rattle.laws.specs.Pages.{bit, reserved, tally-freed, tally-rest}
 use Rattle.upward.specs.Chain.{Spot, fill, Chain, top, below, lastPage, lastSettled, lastHolder, whole, rise}
 use Rattle.writes.specs.Memory.{Mem, blank, setMem, putMem, keptMem, riseMem, placeMem, State, separatorM}
 use Rattle.writes.specs.Links.{Loose, self, stored-loose, loose-agree, set-other, put-other, put-same, put-stored}
-use Rattle.writes.specs.Steps.{Now, Kept, Step, bit-le, bit-false, step-own, step-separator}
+use Rattle.writes.specs.Steps.{Now, Step, bit-le, bit-false, step-own, step-separator}
 use Rattle.upward.specs.Fit.{fits-fill}
 use Rattle.upward.specs.Bytes.{lastHeld}
 use Rattle.writes.specs.Back.{fits-whole, fits-rise}

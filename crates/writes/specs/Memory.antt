@@ -8,7 +8,7 @@ use Rattle.model.specs.Limits.{pageSize, capacity}
 use Rattle.model.specs.Tree.{New}
 use Rattle.model.specs.Row.{Head, Row, nil, agg, lit, rec, _⊹_, size, isNil, lone, loneRec, recordSize, two, recordPage, Config}
 use Rattle.model.specs.Growth.{Work, freeFrom, group, twoGroups, separate, goOn, stops, splitPoint, rootRow, separator, counted, freed, apart, asRow}
-use Rattle.upward.specs.Chain.{fill, Chain, top, below, lastPage, rise}
+use Rattle.upward.specs.Chain.{fill, Chain, top, below, lastPage}
 
 abbrev pub Mem : Type 0
 Mem = ℕ → List ℕ

@@ -1,10 +1,13 @@
 -- `admit::admit`: each test in the order of the refusal table, with the tests before it passed.
-use mathlib.Core.Path.{_≡_, ap, sym, _∙_}
+use mathlib.Core.Path.{_≡_, refl, sym, _∙_}
 use Prim.Native.Nat.{_+_, _*_, _<_}
 use native.Mathlib.Omega.{arith}
 use borrow.Author.Needs.{needs}
-use Rattle.model.specs.declared.FindAnswer.{FindAnswer}
-use Rattle.admit.specs.Admit.{Formed, Number, foundAt, refuses, too-long, wrong-kind, long-content, no-node, literal-parent, past-children, accepts, parent-small}
+use Rattle.model.specs.Tree.{Node}
+use Rattle.stands.specs.Nodes.{ReadAt}
+use Rattle.agree.specs.Open.{passing}
+use Rattle.admit.specs.Parent.{read-room}
+use Rattle.admit.specs.Admit.{Formed, Number, foundAt, refuses, too-long, wrong-kind, long-content, no-node, parent-is, parent-read, by-parent}
 use Rattle.admit.proofs.admit.Statement.{statement}
 use Rattle.admit.proofs.admit.Tie as tie
 
@@ -50,61 +53,33 @@ returns-4 c =
     refuses _ _ _ _ _ _ _ (omega arith) (c .refused4 .ensures)
     (no-node _ _ _ _ _ (formed (f .before)) _ (f .find-in .ensures) (c .before .if4 .taken))
 
-read-of-requires : tie.Need-read-of-requires
-read-of-requires c κs = search needs
+-- The parent's byte.
+parent-at : (f : tie.After-find-in) → (f .find-in .result .number ≡ 0) → let s = f .before .before .before .before .before .before .before .before in
+    4096 * f .find-in .result .place .page + f .find-in .result .place .offset ≡ foundAt (s .args .image .now) (s .args .path .now)
+parent-at f z = parent-is _ _ (f .before .before .before .before .before .before .before .before .args .child) _ _ (formed (f .before)) _ (f .find-in .ensures) z refl
 
-refused-requires-5 : tie.Need-refused-requires-5
-refused-requires-5 c κs = search needs
+-- What is read there.
+parent-node : (f : tie.After-find-in) → (f .find-in .result .number ≡ 0) → let s = f .before .before .before .before .before .before .before .before in
+    (n : Node) × ReadAt (s .args .image .now) n (4096 * f .find-in .result .place .page + f .find-in .result .place .offset)
+parent-node f z =
+    let s = f .before .before .before .before .before .before .before .before in
+    let (t, r) = passing (s .args .image .now) (s .pre) in
+    parent-read _ _ (s .args .child) _ _ (formed (f .before)) _ (f .find-in .ensures) z (t .0) (t .1) r (parent-at f z)
+
+mul-parent : tie.Need-mul-parent
+mul-parent c = omega (arith, read-room (parent-node (c .before .before .before .before) (c .before .before .if4 .left) .1))
+
+add-parent : tie.Need-add-parent
+add-parent c = omega (arith, read-room (parent-node (c .before .before .before .before .before) (c .before .before .before .if4 .left) .1))
+
+try-parent-requires : tie.Need-try-parent-requires
+try-parent-requires c κs = parent-node (c .before .before .before .before .before) (c .before .before .before .if4 .left)
 
 returns-5 : tie.Need-returns-5
 returns-5 c =
-    let r = c .before .before .before in
-    let f = r .before .before .before .before in
-    refuses _ _ _ _ _ _ _ (omega arith) (c .refused5 .ensures)
-    (literal-parent _ _ _ _ _ (formed (f .before)) _ (f .find-in .ensures) (r .before .before .if4 .left) _ (r .read-of .ensures) (c .before .if5 .taken))
-
-cast-if6 : tie.Need-cast-if6
-cast-if6 c = search needs
-
-refused-requires-6 : tie.Need-refused-requires-6
-refused-requires-6 c κs = search needs
-
-returns-6 : tie.Need-returns-6
-returns-6 c =
-    let r = c .before .before .before .before .before in
-    let f = r .before .before .before .before in
-    refuses _ _ _ _ _ _ _ (omega arith) (c .refused6 .ensures)
-    (past-children _ _ _ _ _ (formed (f .before)) _ (f .find-in .ensures) (r .before .before .if4 .left) _ (r .read-of .ensures) (c .before .before .before .if5 .left) (c .before .if6 .taken))
-
--- Every test is passed,
-number : (c : tie.Else6) → let s = c .before .before .before .before .before .before .before .before .before .before .before .before .before .before .before .before in
-    Number (s .args .image .now) (s .args .path .now) (s .args .child) (s .args .kind) (s .args .content .now) 0
-number c =
-    let r = c .before .before .before .before in
-    let f = r .before .before .before .before in
-    accepts _ _ _ _ _ (formed (f .before)) _ (f .find-in .ensures) (r .before .before .if4 .left) _ (r .read-of .ensures) (c .before .before .if5 .left) (c .if6 .left)
-
--- and the parent's byte is a number.
-parent-is : (c : tie.Else6) → let f = c .before .before .before .before .before .before .before .before in let s = f .before .before .before .before .before .before .before .before in
-    4096 * f .find-in .result .place .page + f .find-in .result .place .offset ≡ foundAt (s .args .image .now) (s .args .path .now)
-parent-is c =
-    let f = c .before .before .before .before .before .before .before .before in
-    ap (λ (f : FindAnswer). 4096 * f .place .page + f .place .offset) (f .find-in .ensures)
-
-small : (c : tie.Else6) → let s = c .before .before .before .before .before .before .before .before .before .before .before .before .before .before .before .before in
-    foundAt (s .args .image .now) (s .args .path .now) < 4194304
-small c =
-    let s = c .before .before .before .before .before .before .before .before .before .before .before .before .before .before .before .before in
-    parent-small _ _ _ _ _ (s .pre) (number c)
-
-mul-parent : tie.Need-mul-parent
-mul-parent c = omega (arith, small (c .before), parent-is (c .before))
-
-add-parent : tie.Need-add-parent
-add-parent c = omega (arith, small (c .before .before), parent-is (c .before .before))
-
-returns-7 : tie.Need-returns-7
-returns-7 c = (number (c .before .before), λ z. parent-is (c .before .before))
+    let f = c .before .before .before .before .before .before in
+    let z = c .before .before .before .before .if4 .left in
+    (by-parent _ _ _ _ _ (formed (f .before)) _ (f .find-in .ensures) z _ (parent-at f z) (c .try-parent .ensures .0), (λ _. parent-at f z, c .try-parent .ensures .1))
 
 pub admit-spec : {M : Type 1} → statement M
 admit-spec =
@@ -120,12 +95,7 @@ admit-spec =
     find-in-requires
     refused-requires-4
     returns-4
-    read-of-requires
-    refused-requires-5
-    returns-5
-    cast-if6
-    refused-requires-6
-    returns-6
     mul-parent
     add-parent
-    returns-7)
+    try-parent-requires
+    returns-5)

@@ -1,5 +1,5 @@
 -- `cascade::rise`: at each record, growth from there upwards gives what it gave from the first one.
-use mathlib.Core.Path.{_≡_, refl, sym, ap, _∙_}
+use mathlib.Core.Path.{_≡_, refl, sym, _∙_}
 use Prim.Native.Nat.{_+_, _-_, _*_, _≤_, _<_}
 use mathlib.Core.Bool.{_||_}
 use native.Mathlib.Omega.{arith}

@@ -17,11 +17,10 @@ use Rattle.model.specs.Calls.{newOf, insertNumber}
 use Rattle.model.specs.declared.InsertAnswer.{InsertAnswer}
 use Rattle.laws.specs.Fits.{IsByte}
 use Rattle.laws.specs.Laws.{length-bytes}
-use Rattle.octets.specs.Over.{over, take-over}
+use Rattle.octets.specs.Over.{take-over}
 use Rattle.agree.specs.Open.{passing}
 use Rattle.walks.specs.Heads.{is-byte}
 use Rattle.cut.specs.Lean.{lean-signed}
-use Rattle.admit.specs.Admit.{foundAt}
 use Rattle.insert.specs.Begin.{Begin, node-most}
 use Rattle.insert.specs.Answer.{refused-early, refused-full, sound, new-fits, begin, lean-in, passes-new, short-path, accepted-is, made}
 use Rattle.insert.proofs.insert_of.Statement.{statement}
@@ -87,12 +86,12 @@ slice-aggregate-once : tie.Need-slice-aggregate-once
 slice-aggregate-once c = sym (length-take-le _ _ (node-fits (c .before .before .before)))
 
 -- the dry run
-abbrev asked : (y : tie.After-put-node) → let s = y .before .before .before .before .before .before .before .before .before in Begin true (s .args .image .now) (y .before .before .before .before .admit .result .parent) (s .args .child) (s .args .label) (take (y .put-node .result) (y .put-node .last .0))
+abbrev asked : (y : tie.After-put-node) → let s = y .before .before .before .before .before .before .before .before .before in Begin true (s .args .image .now) (y .before .before .before .before .admit .result .parent) (s .args .child) (y .before .before .before .before .admit .result .left) (s .args .label) (take (y .put-node .result) (y .put-node .last .0))
 asked y =
     let a = y .before in
     let s = a .before .before .before .before .before .before .before .before in
     begin (store-of a .1) (s .args .path .now) (s .args .child) (s .args .kind) (s .args .label) (s .args .content .now) (zero-is a) (label-is a) (bytes-is a)
-    true refl (a .before .before .before .admit .ensures .1 (a .before .if1 .left)) (node-is y (store-of a .0 .0)) (λ e. absurd (true≢false e))
+    true refl (a .before .before .before .admit .ensures .1 .0 (a .before .if1 .left)) (a .before .before .before .admit .result .left) (a .before .before .before .admit .ensures .1 .1 (a .before .if1 .left)) (node-is y (store-of a .0 .0)) (λ e. absurd (true≢false e))
 
 once-requires : tie.Need-once-requires
 once-requires c κs = asked (c .before .before .before)
@@ -122,13 +121,13 @@ slice-aggregate-once-2 c = sym (length-take-le _ _ (node-fits (c .before .before
 room-is : (c : tie.After-once-arg2) → let a = c .before .before .before .before .before .before .before .before .before in let s = a .before .before .before .before .before .before .before .before in made (store-of a .1) (s .args .path .now) (s .args .child) (s .args .kind) (s .args .label) (s .args .content .now) .1 .full ≡ false
 room-is c = sym (c .before .before .before .before .once .ensures (asked (c .before .before .before .before .before .before .before .before)) .full) ∙ c .before .if2 .left
 
-abbrev told : (c : tie.After-once-arg2) → let y = c .before .before .before .before .before .before .before .before in let s = y .before .before .before .before .before .before .before .before .before in Begin false (c .before .before .before .before .once .last .0) (y .before .before .before .before .admit .result .parent) (s .args .child) (s .args .label) (take (y .put-node .result) (y .put-node .last .0))
+abbrev told : (c : tie.After-once-arg2) → let y = c .before .before .before .before .before .before .before .before in let s = y .before .before .before .before .before .before .before .before .before in Begin false (c .before .before .before .before .once .last .0) (y .before .before .before .before .admit .result .parent) (s .args .child) (y .before .before .before .before .admit .result .left) (s .args .label) (take (y .put-node .result) (y .put-node .last .0))
 told c =
     let y = c .before .before .before .before .before .before .before .before in
     let a = y .before in
     let s = a .before .before .before .before .before .before .before .before in
     begin (store-of a .1) (s .args .path .now) (s .args .child) (s .args .kind) (s .args .label) (s .args .content .now) (zero-is a) (label-is a) (bytes-is a)
-    false (c .before .before .before .before .once .ensures (asked y) .still refl) (a .before .before .before .admit .ensures .1 (a .before .if1 .left)) (node-is y (store-of a .0 .0)) (λ _. room-is c)
+    false (c .before .before .before .before .once .ensures (asked y) .still refl) (a .before .before .before .admit .ensures .1 .0 (a .before .if1 .left)) (a .before .before .before .admit .result .left) (a .before .before .before .admit .ensures .1 .1 (a .before .if1 .left)) (node-is y (store-of a .0 .0)) (λ _. room-is c)
 
 once-requires-2 : tie.Need-once-requires-2
 once-requires-2 c κs = told (c .before)
@@ -139,7 +138,7 @@ find-child-requires c κs =
     let a = o .before .before .before .before .before .before .before .before .before in
     let s = a .before .before .before .before .before .before .before .before in (
       passes-new (store-of a .1) (s .args .path .now) (s .args .child) (s .args .kind) (s .args .label) (s .args .content .now) (zero-is a) (label-is a) (bytes-is a) (room-is o) (c .before .before .before .once2 .ensures (told o) .writes refl),
-      (short-path (store-of a .1) (s .args .path .now) (s .args .child) (s .args .kind) (s .args .label) (s .args .content .now) (zero-is a) (label-is a) (bytes-is a), omega (arith, s .fits)),
+      short-path (store-of a .1) (s .args .path .now) (s .args .child) (s .args .kind) (s .args .label) (s .args .content .now) (zero-is a) (label-is a) (bytes-is a),
     )
 
 same-length-3 : tie.Need-same-length-3

@@ -1,9 +1,9 @@
 -- `insert::once`: the node is placed, goes into the record that takes it, and growth goes on from there.
 use mathlib.Core.Path.{_≡_, refl, sym, ap, _∙_}
-use Prim.Native.Nat.{ℕ, _/_, _≤_}
+use Prim.Native.Nat.{_/_, _≤_}
 use native.Mathlib.Omega.{arith}
 use borrow.Author.Needs.{needs}
-use lib.ListN.{length, take, replicate}
+use lib.ListN.{length, replicate}
 use lib.Seq.{length-take-le}
 use Rattle.model.specs.Row.{nil}
 use Rattle.model.specs.Growth.{asRow}
@@ -36,7 +36,7 @@ usage-requires : tie.Need-usage-requires
 usage-requires c κs = let w = c .before .before .before .before .before .before .before .before .pre in (omega (arith, long w, few w), omega (arith, long w))
 
 find-receiver-requires : tie.Need-find-receiver-requires
-find-receiver-requires c κs = search needs
+find-receiver-requires c κs = let w = c .before .before .before .before .before .before .before .before .before .before .pre in (w .aim, w .sibling)
 
 slice-aggregate-place-node : tie.Need-slice-aggregate-place-node
 slice-aggregate-place-node c = search needs
@@ -49,19 +49,19 @@ place-node-requires c κs =
     (start-env w (ap (λ (r : Receiver). r .page) (c .before .before .before .find-receiver .ensures (w .aim))) (omega (arith, long w)) (c .before .before .before .before .before .usage .ensures (st w) (root w) (w .aim .reads)), (omega arith, (z, omega arith)))
 
 -- where the node goes
-where-is : (x : tie.After-place-node) → let s = x .before .before .before .before .before .before .before .before .before .before .before .before .before .before .before in (w : Begin (s .args .dry) (s .args .image .now) (s .args .parent) (s .args .k) (s .args .label) (s .args .node .now))
+where-is : (x : tie.After-place-node) → let s = x .before .before .before .before .before .before .before .before .before .before .before .before .before .before .before in (w : Begin (s .args .dry) (s .args .image .now) (s .args .parent) (s .args .k) (s .args .left) (s .args .label) (s .args .node .now))
     → x .before .before .before .before .find-receiver .result ≡ receiverOf (w .aim .t)
 where-is x w = x .before .before .before .before .find-receiver .ensures (w .aim)
 
-pages-is : (x : tie.After-place-node) → let s = x .before .before .before .before .before .before .before .before .before .before .before .before .before .before .before in (w : Begin (s .args .dry) (s .args .image .now) (s .args .parent) (s .args .k) (s .args .label) (s .args .node .now))
+pages-is : (x : tie.After-place-node) → let s = x .before .before .before .before .before .before .before .before .before .before .before .before .before .before .before in (w : Begin (s .args .dry) (s .args .image .now) (s .args .parent) (s .args .k) (s .args .left) (s .args .label) (s .args .node .now))
     → st w .pages ≡ length (s .args .image .now) / 4096
 pages-is x w = omega (arith, long w)
 
-marks-is : (x : tie.After-place-node) → let s = x .before .before .before .before .before .before .before .before .before .before .before .before .before .before .before in (w : Begin (s .args .dry) (s .args .image .now) (s .args .parent) (s .args .k) (s .args .label) (s .args .node .now))
+marks-is : (x : tie.After-place-node) → let s = x .before .before .before .before .before .before .before .before .before .before .before .before .before .before .before in (w : Begin (s .args .dry) (s .args .image .now) (s .args .parent) (s .args .k) (s .args .left) (s .args .label) (s .args .node .now))
     → Marked (x .before .before .before .before .before .before .usage .result) (W w)
 marks-is x w = x .before .before .before .before .before .before .usage .ensures (st w) (root w) (w .aim .reads)
 
-placed-is : (x : tie.After-place-node) → let s = x .before .before .before .before .before .before .before .before .before .before .before .before .before .before .before in (w : Begin (s .args .dry) (s .args .image .now) (s .args .parent) (s .args .k) (s .args .label) (s .args .node .now)) → let z = x .place-node .last in
+placed-is : (x : tie.After-place-node) → let s = x .before .before .before .before .before .before .before .before .before .before .before .before .before .before .before in (w : Begin (s .args .dry) (s .args .image .now) (s .args .parent) (s .args .k) (s .args .left) (s .args .label) (s .args .node .now)) → let z = x .place-node .last in
     Placed (st w) (w .x) (h w) (x .before .before .before .before .find-receiver .result .page) (W w) (s .args .dry) (s .args .image .now) (replicate 526 0) (x .place-node .result .size) (x .place-node .result .full) (z .1 .0) (z .0) (z .1 .1 .1 .1 .1 .1 .1 .1 .0)
 placed-is x w =
     x .place-node .ensures (st w) (root w) (w .aim .reads) (pages-is x w) (W w) (marks-is x w) (w .x) (h w)

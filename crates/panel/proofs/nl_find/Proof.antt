@@ -1,5 +1,5 @@
 -- `panel::nl_find` meets its contract: the place's numbers fit, and the answer is handed over as it is.
-use mathlib.Core.Path.{_≡_, ap}
+use mathlib.Core.Path.{ap}
 use mathlib.Core.List.{[], _∷_}
 use native.Mathlib.Omega.{arith}
 use borrow.Author.Needs.{needs}

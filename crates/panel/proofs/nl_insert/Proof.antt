@@ -1,5 +1,5 @@
 -- `panel::nl_insert` meets its contract: the numbers fit, and the answer is handed over as it is.
-use mathlib.Core.Path.{_≡_, sym, ap, _∙_}
+use mathlib.Core.Path.{ap, _∙_}
 use mathlib.Core.List.{[], _∷_}
 use native.Mathlib.Omega.{arith}
 use borrow.Author.Needs.{needs}
@@ -40,8 +40,7 @@ returns : tie.Need-returns
 returns c =
     let a = c .before .before .before .before .before .before in
     let e = a .insert .ensures .0 in
-    let l = ap (λ (r : InsertAnswer). r .lean) e in
-    (
+    let l = ap (λ (r : InsertAnswer). r .lean) e in (
       ap (λ (r : InsertAnswer). r .number) e,
       (
         ap (λ (r : InsertAnswer). r .place .page ∷ r .place .offset ∷ r .splits ∷ []) e,

@@ -1,5 +1,5 @@
 -- `panel::nl_next` meets its contract: the answer is handed over as it is.
-use mathlib.Core.Path.{_≡_, ap, _∙_}
+use mathlib.Core.Path.{ap, _∙_}
 use denote.Ref.{now}
 use Rattle.model.specs.Answers.{nextNumbers}
 use Rattle.model.specs.declared.NextAnswer.{NextAnswer}

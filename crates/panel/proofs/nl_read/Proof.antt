@@ -1,5 +1,5 @@
 -- `panel::nl_read` meets its contract: the answer is handed over as it is.
-use mathlib.Core.Path.{_≡_, ap}
+use mathlib.Core.Path.{ap}
 use native.Mathlib.Omega.{arith}
 use denote.Ref.{now}
 use Rattle.model.specs.declared.ReadNode.{ReadNode}

@@ -1,5 +1,5 @@
 -- `store::insert` meets its contract: an image that does not pass gives the check's number and stays as it is.
-use mathlib.Core.Path.{_≡_, ap}
+use mathlib.Core.Path.{ap}
 use mathlib.Core.List.{List}
 use Prim.Native.Nat.{ℕ}
 use borrow.Author.Needs.{needs}

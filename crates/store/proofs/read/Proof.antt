@@ -1,6 +1,6 @@
 -- `store::read` meets its contract: a walk of its MIR, by hand. Three calls: the numbers, the part, and the struct made of both.
 -- Assumes nothing.
-use mathlib.Core.Path.{_≡_, refl, sym, ap, _∙_}
+use mathlib.Core.Path.{_≡_, refl, ap, _∙_}
 use Prim.Native.Nat.{ℕ, _<_, _^_}
 use mathlib.Core.List.{List, [], _∷_}
 use lib.ListN.{length}

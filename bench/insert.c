@@ -1,0 +1,76 @@
+/* An insert into a 4 MB image against the check of the same image, side by side in one run. */
+#include <stdio.h>
+#include <stdlib.h>
+#include <time.h>
+
+#include "../include/nichelarder.h"
+#include "images.h"
+
+enum { LEN = 4194304, TIMES = 51 };
+
+static double now(void) {
+    struct timespec t;
+    clock_gettime(CLOCK_MONOTONIC, &t);
+    return (double)t.tv_sec + 1e-9 * (double)t.tv_nsec;
+}
+
+static int by_size(const void *a, const void *b) {
+    double x = *(const double *)a, y = *(const double *)b;
+    return (x > y) - (x < y);
+}
+
+static double median(double *t) {
+    qsort(t, TIMES, sizeof *t, by_size);
+    return t[TIMES / 2];
+}
+
+/* One row, medians: both calls on fresh copies of the image, in turns; the copy is not timed. The ratio is that of a turn. */
+static int row(const char *name, const char *where, const uint8_t *image, uint8_t *copy, uint32_t child, uint32_t splits) {
+    static const uint8_t content[520] = {1, 2, 3};
+    double check[TIMES], insert[TIMES], ratio[TIMES];
+    size_t size = splits ? sizeof content : 6;
+    for (int i = 0; i < TIMES; i++) {
+        uint32_t answer[3];
+        int32_t lean;
+        memcpy(copy, image, LEN);
+        double a = now();
+        uint32_t checked = nl_check(copy, LEN);
+        double b = now();
+        check[i] = b - a;
+        memcpy(copy, image, LEN);
+        a = now();
+        uint32_t inserted = nl_insert(copy, LEN, content, 0, child, NL_LITERAL, 9, content, size, answer, &lean);
+        b = now();
+        insert[i] = b - a;
+        ratio[i] = insert[i] / check[i];
+        if (checked || inserted || answer[2] != splits || (i == 0 && nl_check(copy, LEN))) {
+            printf("%s: check %u, insert %u, splits %u\n", name, checked, inserted, answer[2]);
+            return 1;
+        }
+    }
+    printf("%-14s %-6s %7u %10.1f %10.1f %13.2f\n", name, where, splits, 1e6 * median(check), 1e6 * median(insert), median(ratio));
+    return 0;
+}
+
+static const struct {
+    const char *name;
+    unsigned (*fill)(uint8_t *, unsigned, unsigned);
+} fills[] = {{"full records", fill_literals}, {"6-byte nodes", fill_small}, {"nested nodes", fill_nested},
+             {"mixed nodes", fill_mixed},     {"combs", fill_combs},       {"pairs", fill_pairs}};
+
+int main(void) {
+    static const unsigned splits[] = {0, 1, 5};
+    uint8_t *image = malloc(LEN), *copy = malloc(LEN);
+    int bad = 0;
+    if (!image || !copy) return 2;
+    puts("microseconds   at      splits      check     insert  insert/check");
+    for (size_t f = 0; f < sizeof fills / sizeof *fills; f++)
+        for (int last = 0; last < 2; last++)
+            for (size_t s = 0; s < 3; s++) {
+                uint32_t child = make_nested(image, LEN / 4096, 16, splits[s], last, fills[f].fill);
+                bad |= row(fills[f].name, last ? "end" : "front", image, copy, child, splits[s]);
+            }
+    free(image);
+    free(copy);
+    return bad;
+}

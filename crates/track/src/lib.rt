@@ -1,0 +1,1 @@
+// Where a node stands after a split and after growth upwards, in specs/.

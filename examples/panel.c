@@ -1,0 +1,66 @@
+/* A front panel in small: makes an image of three pages, puts two nodes into it, finds the way back to one of them, and prints all there is.
+ * From the repository's root: rt staticlib panel && cc -std=c99 examples/panel.c target/staticlib/libpanel.a -o panel && ./panel */
+#include "../include/nichelarder.h"
+#include <stdio.h>
+#include <string.h>
+
+static const char *const names[] = NL_REFUSAL_NAMES;
+static uint8_t image[3 * NL_PAGE];
+
+/* Says what a refused call refused; every call can be checked this way. */
+static int refused(const char *call, uint32_t number) {
+    if (number)
+        printf("%s: %s (%u)\n", call, names[number], (unsigned)number);
+    return number != NL_OK;
+}
+
+/* The usual settings: split in the middle, nodes of 409 bytes or more may be divided, every pair of labels may share a record. */
+static int format(void) {
+    uint8_t matrix[256];
+    memset(matrix, 2, sizeof matrix);
+    return refused("format", nl_format(image, sizeof image, 3, 128, 409, 1, matrix, sizeof matrix, 7));
+}
+
+/* Literal 9 with two bytes as the root's first child, then aggregate 300 in front of it. The root's path is empty: no bytes. */
+static int fill(void) {
+    const uint8_t root[1] = {0}, content[2] = {0x41, 0x42};
+    uint32_t answer[3];
+    int32_t lean;
+    if (refused("insert", nl_insert(image, sizeof image, root, 0, 0, NL_LITERAL, 9, content, 2, answer, &lean)))
+        return 1;
+    if (refused("insert", nl_insert(image, sizeof image, root, 0, 0, NL_AGGREGATE, 300, content, 0, answer, &lean)))
+        return 1;
+    printf("aggregate 300 stands on page %u at byte %u; %u records were split\n", (unsigned)answer[0], (unsigned)answer[1], (unsigned)answer[2]);
+    return 0;
+}
+
+/* From the path of the second child (number 1) to its place, and back. */
+static int find_and_climb(void) {
+    const uint8_t second[4] = {1, 0, 0, 0};
+    uint8_t path[NL_PATH];
+    uint32_t place[2], written;
+    if (refused("find", nl_find(image, sizeof image, second, sizeof second, place)))
+        return 1;
+    if (refused("climb", nl_climb(image, sizeof image, place[0], place[1], path, sizeof path, &written)))
+        return 1;
+    printf("child 1 stands on page %u at byte %u; its path has %u bytes and begins with %u\n", (unsigned)place[0], (unsigned)place[1], (unsigned)written, path[0]);
+    return 0;
+}
+
+/* Every node in document order, from the root on page 1 at byte 0: read it, then go to the next. */
+static int print_all(void) {
+    uint32_t node[5], next[4] = {1, 1, 0, NL_AGGREGATE}, i;
+    while (next[0]) {
+        if (refused("read", nl_read(image, sizeof image, next[1], next[2], node)))
+            return 1;
+        printf("%s %u, %u children,", node[0] == NL_AGGREGATE ? "aggregate" : "literal", (unsigned)node[1], (unsigned)node[2]);
+        for (i = 0; i < node[4]; i++)
+            printf(" %02x", image[node[3] + i]);
+        printf(node[4] ? "\n" : " no content\n");
+        if (refused("next", nl_next(image, sizeof image, next[1], next[2], next)))
+            return 1;
+    }
+    return 0;
+}
+
+int main(void) { return format() || fill() || find_and_climb() || print_all(); }

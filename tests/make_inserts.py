@@ -1,0 +1,501 @@
+"""Writes a call script of random inserts with the reference's answers: many stores with settings over the whole ranges, grown in ways that reach
+what matters in growth (records near their limit, cascades of splits, deep chains, wide rows, records set apart, full stores, refusals). Half of
+the stores start empty; the others start from an image that is made at random, with records of every shape on any pages.
+
+    make_inserts.py SEED COUNT > SCRIPT
+
+The same arguments give the same script. The last lines, comments, say what was reached; they go to standard error too.
+"""
+
+import random
+import sys
+import time
+
+import reference as ref
+
+LONGEST = 9000                                        # no line is longer
+NEAR = ref.CAPACITY - ref.HEADER - ref.CONTENT        # from here on the biggest literal splits the record
+LABELS = (0, 1, 2, 3, 7, 13, 14, 15, 16, 300, 65535)
+
+
+# ---- Where nodes stand
+
+def used(image, record):
+    return ref.two(image, record.page * ref.PAGE + ref.CAPACITY + 2)
+
+
+def nodes_under(node):
+    """The logical nodes of a record, from one of its nodes down."""
+    if node.kind in (ref.AGGREGATE, ref.LITERAL):
+        yield node
+    for child in node.children:
+        yield from nodes_under(child)
+
+
+def way_to(node, target):
+    """The steps (node, child number) down to a node of the same record, or None."""
+    if node is target:
+        return []
+    for at, child in enumerate(node.children):
+        if child is target or child.children:
+            way = way_to(child, target)
+            if way is not None:
+                return [(node, at)] + way
+    return None
+
+
+def path_to(record, node):
+    """The path of a logical node that stands in a record, as numbers."""
+    numbers, carry = [], 0
+    while True:
+        for holder, at in reversed(way_to(record.root, node)):
+            carry += ref.nodes_shown(holder.children[:at])
+            if holder.kind == ref.AGGREGATE:
+                numbers.append(carry)
+                carry = 0
+        if record.holder is None:
+            return numbers[::-1]
+        siblings, at = ref.proxy_position(record)
+        node, record = siblings[at], record.holder
+
+
+def pieces(total):
+    """Sizes of literals that add up to so many bytes, the biggest last."""
+    count, first = divmod(total, ref.HEADER + ref.CONTENT)
+    sizes = [ref.HEADER + ref.CONTENT] * count
+    if 0 < first < ref.HEADER:
+        sizes[0], first = sizes[0] - ref.HEADER, first + ref.HEADER
+    return ([first] if first else []) + sizes
+
+
+def path_bytes(numbers):
+    return b"".join([number.to_bytes(4, "little") for number in numbers])
+
+
+# ---- One store
+
+class Done(Exception):
+    """The script has its number of inserts."""
+
+
+class Counts:
+    """What a script has reached."""
+
+    def __init__(self):
+        self.inserts = self.stores = self.near = self.apart = self.longest = self.pages = self.deepest = self.records = 0
+        self.refused = {}
+        self.splits = [0, 0, 0, 0]                    # none, one, two, three or more
+        self.leans = [0, 0]
+
+    def lines(self):
+        yield "%d inserts in %d stores; accepted %d" % (self.inserts, self.stores, sum(self.splits))
+        yield "splits: none %d, one %d, two %d, three or more %d; longest cascade %d; leans %d to %d" % (*self.splits, self.longest, *self.leans)
+        yield "refused: " + ", ".join("%d of %d" % (count, number) for number, count in sorted(self.refused.items()))
+        yield "records with over %d bytes, or split: %d; set apart: %d" % (NEAR, self.near, self.apart)
+        yield "deepest level %d; largest image %d pages; most records %d" % (self.deepest, self.pages, self.records)
+
+
+class Larder:
+    """An image, the reference's store of it, and the script that they are written to."""
+
+    def __init__(self, rng, counts, out, limit):
+        self.rng, self.counts, self.out, self.limit = rng, counts, out, limit
+        share = rng.choice((0, 0, 0.02, 0.1, 0.3, 0.5, 0.9))      # of pairs that are apart; they take many pages
+        ranges = ((2, 5), (2, 5), (6, 12), (6, 12), (6, 12), (13, 40), (13, 40), (41, 100), (101, 200))
+        self.pages = rng.randint(*rng.choice(ranges if share < 0.2 else ranges[3:]))
+        target = rng.choice((64, 128, 192, rng.randint(64, 192)))
+        tolerance = rng.choice((0, 7, 20, 409, 512, rng.randint(0, 100), rng.randint(0, 512)))
+        matrix = bytearray(b"\x02" * 256)
+        for at in range(256):
+            if rng.random() < share:
+                matrix[at] = 0
+        self.labels = rng.sample(LABELS, rng.randint(1, 6)) + [rng.randrange(65536)]
+        self.longest = rng.choice((0, 12, 40, 200, ref.CONTENT, ref.CONTENT))
+        self.image = bytearray(self.pages * ref.PAGE)
+        self.write("I %d" % len(self.image))
+        self.ask("format %d %d %d 1 %s %d" % (self.pages, target, tolerance, matrix.hex(), rng.choice(self.labels)))
+        self.store = ref.read_store(self.image)
+        counts.stores += 1
+        counts.pages = max(counts.pages, self.pages)
+
+    def write(self, line):
+        self.out.write(line + "\n")
+
+    def ask(self, call):
+        """A call and its answer, by the reference's way through the image."""
+        words = call.split(" ")
+        answer = ref.RUNS[words[0]](self.image, words[1:])
+        self.write(call)
+        self.write("= " + " ".join([str(field) for field in answer] + [ref.checksum(self.image)]))
+        return answer
+
+    def insert(self, path, child, kind, label, content=b""):
+        """One insert; gives its number."""
+        if self.counts.inserts == self.limit:
+            raise Done
+        try:
+            answer = (0,) + ref.insert_node(self.store, path, child, kind, label, content)
+            ref.write_changes(self.store, self.image)
+        except ref.Refused as refusal:
+            answer = (refusal.number, 0, 0, 0, 0)
+            if refusal.number == ref.FULL:
+                self.store = ref.read_store(self.image)
+        self.write("insert %s %d %d 0 %d %s" % (ref.to_hex(path), child, kind, label, ref.to_hex(content)))
+        self.write("= %d %d %d %d %d %s" % (answer + (ref.checksum(self.image),)))
+        self.count(answer, len(path) // 4 + 2)
+        return answer[0]
+
+    def count(self, answer, level):
+        number, page, _, splits, lean = answer
+        counts = self.counts
+        counts.inserts += 1
+        if counts.inserts % 10000 == 0:
+            print("%d inserts" % counts.inserts, file=sys.stderr, flush=True)
+        if number:
+            counts.refused[number] = counts.refused.get(number, 0) + 1
+            return
+        record = self.store.records[page]
+        if record.settled and page != 1 and record.root.kind != ref.HELPER and not record.root.children:
+            counts.apart += 1
+            record = record.holder
+        counts.splits[min(splits, 3)] += 1
+        counts.near += splits > 0 or used(self.image, record) > NEAR
+        counts.longest = max(counts.longest, splits)
+        counts.deepest = max(counts.deepest, level)
+        counts.records = max(counts.records, len(self.store.records))
+        counts.leans = [min(counts.leans[0], lean), max(counts.leans[1], lean)]
+
+    # ---- An image made at random
+
+    def make(self):
+        """Puts a random store into the image: what inserts alone never leave (free pages in between, records in any order) is there too."""
+        self.proxies = self.rng.choice((0.05, 0.2, 0.5, 0.8))
+        free = list(range(2, self.pages))
+        self.rng.shuffle(free)
+        free = free[:self.rng.randint(0, len(free))]
+        root = ref.Record(1, True, None)
+        self.store.records = {1: root}
+        root.root = ref.Node(ref.AGGREGATE, self.rng.choice(self.labels), children=self.some_list(2, self.some_size() - ref.HEADER, free))
+        self.store.changed = set(self.store.records)
+        ref.write_changes(self.store, self.image)
+        self.store = ref.read_store(self.image)       # it passes the check
+        for page in sorted(self.store.records):
+            at = page * ref.PAGE
+            self.write("B %d %s" % (at, self.image[at:at + used(self.image, self.store.records[page])].hex()))
+            self.write("B %d %s" % (at + ref.CAPACITY, self.image[at + ref.CAPACITY:at + ref.PAGE].hex()))
+        self.write("C " + ref.checksum(self.image))
+
+    def some_size(self):
+        return self.rng.choice((ref.CAPACITY, ref.CAPACITY - self.rng.randrange(20), self.rng.randint(20, 300), self.rng.randint(20, ref.CAPACITY)))
+
+    def some_list(self, level, room, free):
+        """Nodes of that level that take at most so many bytes, mostly nearly all of them; new records go to free pages."""
+        rng, nodes, tolerance = self.rng, [], self.store.settings.tolerance
+        while room >= ref.HEADER + 2 and level <= ref.LEVELS and rng.random() < 0.99:
+            if free and rng.random() < self.proxies:
+                nodes.append(ref.Node(ref.PROXY, record=self.some_record(level, free)))
+            elif level < ref.LEVELS and 2 * ref.HEADER < tolerance < room and rng.random() < 0.2:      # as big as the tolerance, or nearly
+                content = bytes(tolerance - 2 * ref.HEADER - rng.choice((0, 0, 1)))
+                nodes.append(ref.Node(ref.AGGREGATE, rng.choice(self.labels), children=[ref.Node(ref.LITERAL, rng.choice(self.labels), content)]))
+            elif rng.random() < 0.3:
+                inside = rng.choice((0, rng.randint(0, room), room)) - ref.HEADER
+                nodes.append(ref.Node(ref.AGGREGATE, rng.choice(self.labels), children=self.some_list(level + 1, inside, free)))
+            else:
+                content = self.content(max(8, self.longest))[:room - ref.HEADER]
+                nodes.append(ref.Node(ref.LITERAL, rng.choice(self.labels), content))
+            room -= ref.size(nodes[-1])
+        return nodes
+
+    def some_record(self, level, free):
+        rng, size, content, children = self.rng, self.some_size(), b"", []
+        record = ref.Record(free.pop(), False, None)
+        self.store.records[record.page] = record
+        kind = rng.choice((ref.AGGREGATE, ref.LITERAL, ref.HELPER, ref.HELPER))
+        if kind == ref.LITERAL:
+            content = self.content()
+        elif kind == ref.AGGREGATE:
+            children = self.some_list(level + 1, size - ref.HEADER, free)
+        else:
+            children = self.some_list(level, size - 2 * ref.HEADER, free)
+            while len(children) < 2:
+                children.append(ref.Node(ref.LITERAL))
+        record.settled = kind != ref.HELPER and rng.random() < 0.5
+        record.root = ref.Node(kind, 0 if kind == ref.HELPER else rng.choice(self.labels), content, children)
+        return record
+
+    # ---- Choices
+
+    def record(self):
+        return self.store.records[self.rng.choice(list(self.store.records))]
+
+    def fullest(self):
+        """A record near its limit, or the fullest of all."""
+        records = list(self.store.records.values())
+        near = [record for record in records if used(self.image, record) > NEAR]
+        return self.rng.choice(near) if near else max(records, key=lambda record: used(self.image, record))
+
+    def content(self, longest=None):
+        longest = self.longest if longest is None else longest
+        length = self.rng.choice((0, longest, self.rng.randint(0, longest), self.rng.randint(0, longest)))
+        return self.rng.randbytes(length)
+
+    def node(self, longest=None):
+        """Kind, label and content of some node."""
+        kind = self.rng.choice((ref.AGGREGATE, ref.LITERAL))
+        return kind, self.rng.choice(self.labels), self.content(longest) if kind == ref.LITERAL else b""
+
+    def spot(self, record):
+        """A path and a child number that put a node into this record; None if there is none."""
+        nodes = list(nodes_under(record.root))
+        if not nodes:
+            return None
+        node = self.rng.choice(nodes)
+        path = path_to(record, node)
+        if node.kind == ref.AGGREGATE and len(path) <= 22 and (node is record.root or self.rng.random() < 0.3):
+            return path, 0
+        return (path[:-1], path[-1] + 1) if path else ([], 0)
+
+    def row(self, path):
+        """The number of children of the node that a path names."""
+        try:
+            return ref.nodes_shown(ref.node_of_path(self.store, path)[0].children)
+        except ref.Refused:
+            return 0
+
+    def free_label(self, path):
+        """A label that is not apart from the parent's, if one is found."""
+        parent, _ = ref.node_of_path(self.store, path_bytes(path))
+        for label in self.labels + list(LABELS):
+            if not ref.is_apart(self.store.settings, parent, ref.Node(ref.LITERAL, label)):
+                return label
+        return self.labels[0]
+
+    def label(self, path):
+        return self.free_label(path) if self.rng.random() < 0.5 else self.rng.choice(self.labels)
+
+    # ---- Ways to grow: each makes one or more inserts
+
+    def append(self):
+        """At the end of the root, or of its last aggregate."""
+        path, row = [], self.row(b"")
+        if row and self.rng.random() < 0.3:
+            last, _ = ref.node_of_path(self.store, path_bytes([row - 1]))
+            if last.kind == ref.AGGREGATE:
+                path, row = [row - 1], ref.nodes_shown(last.children)
+        return self.insert(path_bytes(path), row, *self.node())
+
+    def front(self):
+        return self.insert(b"", 0, *self.node())
+
+    def anywhere(self):
+        spot = self.spot(self.record())
+        return self.insert(path_bytes(spot[0]), spot[1], *self.node()) if spot else self.front()
+
+    def chain(self):
+        """Only children down to the last level, and once too deep; then literals along the chain."""
+        number = self.insert(b"", 0, ref.AGGREGATE, self.rng.choice(self.labels))
+        depth = 1
+        while number == 0 and depth <= 23:
+            number = self.insert(path_bytes([0] * depth), 0, *((ref.AGGREGATE, self.rng.choice(self.labels)) if depth < 22 else self.node()))
+            depth += 1
+        for _ in range(self.rng.randrange(12)):
+            path = path_bytes([0] * self.rng.randrange(depth))
+            number = self.insert(path, self.rng.randrange(2), ref.LITERAL, self.rng.choice(self.labels), self.content())
+        return number
+
+    def aimed(self):
+        """In an empty store, something where the first split looks: a chain, so that d starts after p, or an aggregate as big as the tolerance."""
+        size = ref.CAPACITY + self.rng.randint(1, 300)
+        start = self.store.settings.target * size // 256 - self.rng.choice((0, 0, 1, 5, 6, 20))
+        number = sum([self.append_literal(piece) for piece in pieces(start - ref.HEADER)])
+        path, depth, inside = [self.row(b"")], 1, self.store.settings.tolerance - ref.HEADER + self.rng.choice((-1, 0, 0, 1))
+        if inside < ref.HEADER or self.rng.random() < 0.5:
+            depth, inside = self.rng.choice((23, 23, self.rng.randint(1, 23))), 0
+        for _ in range(depth):
+            number += self.insert(path_bytes(path[:-1]), path[-1], ref.AGGREGATE, self.free_label(path[:-1]))
+            path.append(0)
+            if number:
+                return
+        if inside:
+            self.insert(path_bytes(path[:-1]), 0, ref.LITERAL, self.free_label(path[:-1]), self.rng.randbytes(inside - ref.HEADER))
+        for piece in pieces(size - start - ref.HEADER * depth - inside):
+            self.append_literal(piece)
+
+    def append_literal(self, size):
+        return self.insert(b"", self.row(b""), ref.LITERAL, self.free_label([]), self.rng.randbytes(size - ref.HEADER))
+
+    def wide(self):
+        """Empty nodes into one row."""
+        path, _ = self.spot(self.record()) or ([], 0)
+        return self.empty_nodes(path_bytes(path), self.rng.choice((5, 30, 120)))
+
+    def empty_nodes(self, path, count):
+        number, row = 0, self.row(path)
+        while number == 0 and count:
+            child = self.rng.choice((0, row, self.rng.randint(0, row)))
+            number = self.insert(path, child, self.rng.choice((ref.AGGREGATE, ref.LITERAL)), self.rng.choice(self.labels))
+            row, count = row + 1, count - 1
+        return number
+
+    def limit_reached(self):
+        """Into a full record: up to its limit, one byte over, and about there."""
+        record = self.fullest()
+        spot = self.spot(record)
+        if not spot:
+            return self.anywhere()
+        room = ref.CAPACITY - used(self.image, record)
+        length = room - ref.HEADER + self.rng.choice((-7, -2, -1, 0, 0, 1, 1, 2, 3, 9, self.rng.randint(-60, 60)))
+        if not 0 <= length <= ref.CONTENT:
+            length = ref.CONTENT if room > 600 else len(self.content())
+        return self.insert(path_bytes(spot[0]), spot[1], ref.LITERAL, self.label(spot[0]), self.rng.randbytes(length))
+
+    def trickle(self):
+        """Small nodes into one full record until it splits."""
+        record = self.fullest()
+        number = self.fill(record, self.rng.randint(0, 200))
+        for _ in range(20):
+            spot = self.spot(record) if self.store.records.get(record.page) is record else None
+            if number or not spot:
+                break
+            number = self.insert(path_bytes(spot[0]), spot[1], *self.node(20))
+        return number
+
+    def fill(self, record, slack):
+        """Literals into a record until at most so many bytes are free (or nearly so); nothing splits."""
+        number = 0
+        while number == 0 and self.store.records.get(record.page) is record:
+            room, spot = ref.CAPACITY - used(self.image, record) - slack, self.spot(record)
+            if room < ref.HEADER or not spot:
+                break
+            length = min(room - ref.HEADER, ref.CONTENT)
+            number = self.insert(path_bytes(spot[0]), spot[1], ref.LITERAL, self.free_label(spot[0]), self.rng.randbytes(length))
+        return number
+
+    def cascade(self):
+        """The records from the root's down to a deep one are filled, then the deep one is split."""
+        record = max([self.record() for _ in range(8)], key=lambda r: len(self.holders(r)))
+        chain = self.holders(record)[:self.rng.choice((2, 4, 7, 12))]
+        for holder in reversed(chain):
+            if self.fill(holder, self.rng.choice((0, 0, 0, 1, 5, 7, 40))):
+                break
+        number = self.split(record)
+        # what was split is half full now, what was not is full
+        while number == 0 and self.rng.random() < 0.7:
+            number = self.limit_reached()
+        return number
+
+    def split(self, record):
+        spot = self.spot(record) if self.store.records.get(record.page) is record else None
+        if not spot:
+            return self.anywhere()
+        return self.insert(path_bytes(spot[0]), spot[1], ref.LITERAL, self.label(spot[0]), self.rng.randbytes(self.rng.choice((0, 10, 300, 520))))
+
+    def holders(self, record):
+        """A record, the one that holds its proxy, and so on up to the root's."""
+        chain = []
+        while record is not None:
+            chain.append(record)
+            record = record.holder
+        return chain
+
+    def again(self):
+        """The same image grown in several ways at its limit."""
+        if len(self.store.records) > 40:
+            return self.limit_reached()
+        self.write("S")
+        kept = bytes(self.image)
+        number = 0
+        for turn in range(self.rng.choice((3, 6))):
+            if turn:
+                self.write("R")
+                self.image[:] = kept
+                self.store = ref.read_store(self.image)
+            number = self.rng.choice((self.limit_reached, self.limit_reached, self.trickle, self.anywhere))()
+        return number
+
+    def refusal(self):
+        """An insert with one thing wrong, or several."""
+        rng = self.rng
+        spot = self.spot(self.record()) or ([], 0)
+        path, child = path_bytes(spot[0]), spot[1]
+        kind, label, content = self.node()
+        for wrong in {rng.randint(4, 9), rng.choice((0, 0, 0, rng.randint(4, 9)))}:
+            if wrong == ref.LEVEL:
+                path += bytes(rng.choice((92, 93, 96, 200)) - len(path))
+            elif wrong == ref.BAD_KIND:
+                kind, content = rng.choice(((0, b""), (3, b""), (4, b""), (255, content), (ref.AGGREGATE, b"\1"), (ref.AGGREGATE, bytes(521))))
+            elif wrong == ref.LONG:
+                content = bytes(rng.choice((521, 522, 600)))
+            elif wrong == ref.ABSENT:
+                path = rng.choice((path + b"\xff\xff\xff\xff", path + bytes(rng.randint(1, 3)), path[:-1]))
+            elif wrong == ref.CLOSED:
+                record = self.record()
+                literals = [node for node in nodes_under(record.root) if node.kind == ref.LITERAL]
+                if literals:
+                    path = path_bytes(path_to(record, rng.choice(literals)))
+            elif wrong == ref.GAP:
+                child = 2**32 - 1 if rng.random() < 0.3 else self.row(path) + rng.randint(1, 3)
+        self.insert(path, child, kind, label, content)
+
+    def damaged(self):
+        """An insert into an image with one byte wrong; the byte is put right after it."""
+        if self.counts.inserts == self.limit:
+            raise Done
+        page = self.rng.randrange(self.pages) * ref.PAGE
+        at = page + self.rng.choice((0, 1, 2, 4, 5, self.rng.randrange(ref.PAGE), 4080, 4081, 4082, 4084, 4090))
+        old, new = self.image[at], self.rng.randrange(256)
+        self.image[at] = new
+        self.write("B %d %02x" % (at, new))
+        answer = self.ask("insert - 0 2 0 %d 41" % self.labels[0])
+        if answer[0]:
+            self.image[at] = old
+            self.write("B %d %02x" % (at, old))
+            self.counts.inserts += 1
+            self.counts.refused[answer[0]] = self.counts.refused.get(answer[0], 0) + 1
+        else:
+            self.store = ref.read_store(self.image)
+            self.count(answer, 2)
+
+    def grow(self):
+        """Grows the store in a few of the ways until it has had its share of inserts or has been full for a while."""
+        ways = self.rng.choices((self.append, self.front, self.anywhere, self.chain, self.wide, self.limit_reached, self.trickle, self.cascade, self.again),
+                                (2, 2, 3, 1, 1, 5, 6, 18, 5), k=self.rng.randint(2, 4))
+        end = self.counts.inserts + self.rng.randint(20, 60 + 12 * min(self.pages, self.limit // 50))
+        full = 0
+        start = self.rng.random()
+        if start < 0.5:
+            self.make()
+        elif start < 0.65:
+            self.aimed()
+        elif start < 0.68:
+            self.empty_nodes(b"", min(1500, self.limit // 10))      # over two records full
+        while self.counts.inserts < end and full < 8:
+            chance = self.rng.random()
+            if chance < 0.2:
+                self.refusal()
+            elif chance < 0.205:
+                self.damaged()
+            else:
+                full += self.rng.choice(ways)() == ref.FULL
+
+
+def main(seed, count, out=sys.stdout):
+    rng, counts, start = random.Random(seed), Counts(), time.time()
+    out.write("V 1 0 %d\n" % LONGEST)
+    while counts.inserts < count:
+        larder = Larder(rng, counts, out, count)
+        try:
+            larder.grow()
+        except Done:
+            pass
+        larder.ask("check")
+    for line in counts.lines():
+        out.write("# %s\n" % line)
+        print(line, file=sys.stderr)
+    print("seed %d: generated in %.0f s" % (seed, time.time() - start), file=sys.stderr)
+
+
+if __name__ == "__main__":
+    if len(sys.argv) != 3:
+        sys.exit("usage: make_inserts.py SEED COUNT > SCRIPT")
+    main(*[int(word) for word in sys.argv[1:3]])

@@ -1,0 +1,117 @@
+/* How much stack the calls take, measured on a thread whose stack is painted: an insert takes at most 64 KB beside the check of the same image.
+ * The images: a small tree, one whose inserts cascade, and the deepest nesting of records, a chain of helper records through 1,022 pages. */
+#define _POSIX_C_SOURCE 200809L
+#include "../include/nichelarder.h"
+#include <pthread.h>
+#include <stdio.h>
+#include <stdlib.h>
+#include <string.h>
+
+#define STACK (8u << 20)
+#define PAINT 0xa5
+
+static uint8_t *image, *before;
+static size_t image_len;
+static uint8_t content[520];
+static uint32_t number, child, answer[3];
+static int32_t lean;
+
+static void *check(void *unused) {
+    (void)unused;
+    number = nl_check(image, image_len);
+    return NULL;
+}
+
+static void *insert(void *unused) {
+    (void)unused;
+    number = nl_insert(image, image_len, content, 0, child, NL_LITERAL, 9, content, 520, answer, &lean);
+    return NULL;
+}
+
+static void *nothing(void *unused) { return unused; }
+
+static size_t used(void *(*run)(void *)) {
+    static uint8_t *stack;
+    pthread_attr_t attr;
+    pthread_t thread;
+    size_t i = 0;
+    if (!stack && posix_memalign((void **)&stack, 4096, STACK))
+        exit(2);
+    memset(stack, PAINT, STACK);
+    pthread_attr_init(&attr);
+    if (pthread_attr_setstack(&attr, stack, STACK) || pthread_create(&thread, &attr, run, NULL))
+        exit(2);
+    pthread_join(thread, NULL);
+    while (i < STACK && stack[i] == PAINT)
+        i++;
+    return STACK - i;
+}
+
+/* Check and insert, as the first and as the last child of the root; the image stays. The most that an insert took beside the check so far. */
+static size_t worst, base;
+static void measure(const char *name) {
+    uint32_t root[5];
+    size_t c = used(check), i;
+    int last;
+    nl_read(image, image_len, 1, 0, root);
+    memcpy(before, image, image_len);
+    for (last = 0; last < 2; last++) {
+        child = last ? root[2] : 0;
+        i = used(insert);
+        memcpy(image, before, image_len);
+        if (i > c && i - c > worst)
+            worst = i - c;
+        if (name)
+            printf("%-8s check %7zu  insert %7zu bytes of stack, answer %u, %u splits\n", name, c - base, i - base, number, answer[2]);
+    }
+}
+
+static void two(uint8_t *p, unsigned v) { p[0] = v & 255; p[1] = v >> 8; }
+
+/* A record of a helper with a literal and the proxy of the next page's record. */
+static void link_page(unsigned page, unsigned last) {
+    uint8_t *p = image + 4096u * page;
+    unsigned n = 0;
+    if (page == 1) {
+        two(p, 1), two(p + 2, 7), n = 6;
+    } else {
+        two(p, 4), n = 6;
+        two(p + n, 2), two(p + n + 4, 6), n += 6;
+    }
+    if (page < last)
+        two(p + n, 3), two(p + n + 4, 8), two(p + n + 6, page + 1), n += 8;
+    else
+        two(p + n, 2), two(p + n + 4, 6), n += 6;
+    two(p + 4, n);
+    p[4080] = 1, p[4081] = page == 1, two(p + 4082, n), two(p + 4084, page - 1);
+}
+
+static uint32_t format(unsigned pages) {
+    uint8_t matrix[256];
+    memset(matrix, 2, sizeof matrix);
+    image_len = 4096u * pages;
+    return nl_format(image, image_len, pages, 128, 409, 1, matrix, 256, 7);
+}
+
+int main(void) {
+    unsigned k;
+    base = used(nothing);
+    image = malloc(4096u * 1024), before = malloc(4096u * 1024);
+    if (!image || !before || format(64))
+        return 2;
+    measure("small");
+    /* aggregates in front of each other: separators pile up in the root's record until splits cascade */
+    for (k = 0; k < 40; k++) {
+        if (nl_insert(image, image_len, content, 0, 0, k % 3 ? NL_LITERAL : NL_AGGREGATE, 9, content, k % 3 ? 520 : 0, answer, &lean))
+            break;
+        measure(NULL);
+    }
+    measure("grown");
+    if (format(1024))
+        return 2;
+    for (k = 1; k <= 1023; k++)
+        link_page(k, 1023);
+    measure("deepest");
+    printf("insert beside the check: at most %zu bytes\n", worst);
+    return worst > 65536;
+}
