@@ -10,7 +10,6 @@ static int wrong(const char *what) {
     return 1;
 }
 
-#ifdef NL_HAS_INSERT
 /* A literal after the first node of the deepest record of a chain: all its records split, if there are pages. */
 static uint32_t insert_deep(uint8_t *image, size_t len, unsigned chain, uint32_t answer[3]) {
     static const uint8_t content[10];
@@ -33,7 +32,6 @@ static int inserts(uint8_t *image, size_t len) {
     if (insert_deep(image, len, 513, answer) != NL_FULL) return wrong("insert, a cascade one page too long");
     return 0;
 }
-#endif
 
 int main(void) {
     size_t len = 4194304;
@@ -55,9 +53,7 @@ int main(void) {
     /* from the last node of the deepest record up one, and from the root all the way down */
     if (nl_next(image, len, 1023, 4062, following) || following[1] != 1022 || following[2] != 14) return wrong("next, upwards");
     if (nl_next(image, len, 1, 0, following) || following[1] != 1023 || following[2] != 6) return wrong("next, downwards");
-#ifdef NL_HAS_INSERT
     if (inserts(image, len)) return 1;
-#endif
     free(image);
     puts("deep: passed");
     return 0;

@@ -9,7 +9,7 @@ if [ -z "$replay" ]; then
     echo "inserts: proving and building the archive (minutes)"
     rt staticlib panel >/dev/null
     replay=target/replay
-    "${CC:-cc}" -std=c99 -O2 -Wall -Wextra -Werror -DNL_HAS_INSERT tests/replay.c target/staticlib/libpanel.a -o "$replay"
+    "${CC:-cc}" -std=c99 -O2 -Wall -Wextra -Werror tests/replay.c target/staticlib/libpanel.a -o "$replay"
 fi
 : >target/inserts.log
 for seed in 1 2 3 4; do

@@ -75,7 +75,6 @@ static int call(char **w, int words, char *out) {
         free(m);
     } else if (!strcmp(w[0], "check")) {
         sprintf(out, "%u", nl_check(image, image_len));
-#ifdef NL_HAS_INSERT
     } else if (!strcmp(w[0], "insert")) {
         uint32_t answer[3] = {77, 77, 77};
         int32_t lean = 77;
@@ -84,7 +83,6 @@ static int call(char **w, int words, char *out) {
         sprintf(out, "%u %u %u %u %d", r, answer[0], answer[1], answer[2], (int)lean);
         free(p);
         free(c);
-#endif
     } else if (!strcmp(w[0], "find")) {
         uint32_t place[2] = {77, 77};
         uint8_t *p = bytes(w[1], &a);
