@@ -20,3 +20,4 @@ target/replay tests/scripts/*.txt ${VECTORS:+"$VECTORS"/base-*.txt}
 REPLAY=target/replay bash tests/inserts.sh 8000
 (ulimit -s 1024 && target/deep)
 target/stack
+bash tests/listing.sh

@@ -2,9 +2,10 @@
 use mathlib.Core.Path.{_≡_, refl, sym, ap, subst, _∙_}
 use mathlib.Core.Bool.{Bool, true, false}
 use mathlib.Core.List.{List, [], _∷_, _++_}
+use mathlib.Core.Option.{some}
 use Prim.Native.Nat.{ℕ, _+_, _<_, _≤_}
 use native.Mathlib.Omega.{arith}
-use borrow.Author.Tests.{ne-eqb, lt-ltb}
+use borrow.Author.Tests.{ne-eqb}
 use lib.Dec.{ltb}
 use lib.ListN.{length}
 use lib.IntN.{ℤ}
@@ -13,19 +14,15 @@ use Rattle.model.specs.Reading.{Reads}
 use Rattle.model.specs.Tree.{Tree, shown, New, placeOf}
 use Rattle.model.specs.Growth.{Out, asRow}
 use Rattle.model.specs.Answers.{lowest, insertRefused}
-use Rattle.model.specs.Calls.{accept, four, pathOf, placeOr, namedBy, kindBad, isNone, isLiteral, childrenBelow, insertNumber, newOf, grown, insertOf, findOf, checkOf}
-use Rattle.model.specs.Claims.{GrowthHolds, InLean}
+use Rattle.model.specs.Calls.{accept, pathOf, placeOr, namedBy, kindBad, isNone, isLiteral, childrenBelow, insertNumber, newOf, grown, insertOf}
 use Rattle.model.specs.declared.Place.{Place}
 use Rattle.laws.specs.Fits.{IsByte}
 use Rattle.laws.specs.Store.{NewFits}
-use Rattle.reads.specs.Valid.{bytes-hold}
-use Rattle.agree.specs.Open.{opens, passes}
+use Rattle.agree.specs.Open.{opens}
 use Rattle.agree.specs.Paths.{path-length}
 use Rattle.agree.specs.Insert.{Accepted, accepted}
-use Rattle.grows.specs.Growth.{growth}
 use Rattle.receive.specs.Receive.{LeftAt}
 use Rattle.admit.specs.Admit.{foundAt, aims}
-use Rattle.locate.specs.Locate.{located-named}
 use Rattle.fresh.specs.Node.{Sound}
 use Rattle.insert.specs.Begin.{Begin}
 
@@ -107,9 +104,6 @@ module _ {img : List ℕ} {st : Config} {root : Row} (r : Reads img st root) (pa
       pub short : length (pathOf path) ≤ 22
       short = omega (arith, path-length path, tests .short)
 
-      pub short-path : length path ≤ 88
-      short-path = tests .short
-
       pub reads-as : {i : List ℕ} → i ≡ img → Reads i st root
       reads-as e = subst (λ (l : List ℕ). Reads l st root) (sym e) r
 
@@ -134,23 +128,7 @@ module _ {img : List ℕ} {st : Config} {root : Row} (r : Reads img st root) (pa
       }
 
       module _ (room : made .1 .full ≡ false) where
-        grows : GrowthHolds st root path child X
-        grows =
-            growth st root path child X (r .passes) (lt-ltb label 65536 small) (bytes-hold content byte) (ap (insertNumber (shown root) path child X) room ∙ sym zero)
-
-        pub lean-in : InLean (made .1 .lean)
-        lean-in = grows .lean
-
-        reads-new : {i : List ℕ} → i ≡ image st (made .0) → Reads i st (made .0)
-        reads-new e = record { passes = grows .keeps; same = e }
-
-        -- The image passes the check again,
-        pub passes-new : {i : List ℕ} → i ≡ image st (made .0) → checkOf i ≡ 0
-        passes-new {i} e = passes i st (made .0) (reads-new e)
-
-        -- and find gives the new node's place.
-        pub accepted-is : {i : List ℕ} {place : Place} {splits : ℕ} {lean : ℤ} → i ≡ image st (made .0) → child < 4294967296 → place ≡ findOf i (path ++ four child) .place
-            → splits ≡ made .1 .splits → lean ≡ made .1 .lean → (record { number = 0; place = place; splits = splits; lean = lean }, i) ≡ insertOf img path child kind label content
-        accepted-is {i} {place} {splits} {lean} e k p q l =
-            let at = located-named i st (made .0) (reads-new e) path child short-path k (shown root) (tests .named) (grows .placed .0) (grows .placed .1) in
-            (λ j. (record { number = 0; place = (p ∙ at) j; splits = q j; lean = l j }, e j)) ∙ sym (insert-is ∙ rw (room, ← zero))
+        pub accepted-is : {i : List ℕ} {at : Place} {splits : ℕ} {lean : ℤ} → i ≡ image st (made .0) → placeOf (made .0) (pathOf path ++ child ∷ []) ≡ some at
+            → splits ≡ made .1 .splits → lean ≡ made .1 .lean → (record { number = 0; place = at; splits = splits; lean = lean }, i) ≡ insertOf img path child kind label content
+        accepted-is {i} {at} {splits} {lean} e p q l =
+            (λ j. (record { number = 0; place = sym (ap placeOr p) j; splits = q j; lean = l j }, e j)) ∙ sym (insert-is ∙ rw (room, ← zero))

@@ -1,7 +1,8 @@
 -- An insert once its tests are passed: from the tree's place to growth's start.
 use mathlib.Core.Path.{_≡_, refl, sym, ap, subst, _∙_}
 use mathlib.Core.Bool.{Bool, true, false, cond}
-use mathlib.Core.List.{List}
+use mathlib.Core.List.{List, [], _∷_, _++_}
+use mathlib.Core.Option.{some}
 use Prim.Native.Nat.{ℕ, _+_, _*_, _<_, _≤_}
 use native.Mathlib.Omega.{arith}
 use lib.Dec.{eqb}
@@ -9,11 +10,15 @@ use lib.ListN.{length, take, getD}
 use lib.IntN.{ℤ, pos}
 use Rattle.model.specs.Row.{Head, Row, nil, store, _⊹_, size, base, isNil, lone, bytes, recordSize, recordBytes, recordPage, height, image, Config}
 use Rattle.model.specs.Reading.{twoAt, pageOf, configOn}
-use Rattle.model.specs.Tree.{New}
+use Rattle.model.specs.Tree.{New, placeOf}
 use Rattle.model.specs.Growth.{Work, Out, taken, apart, asRow, place, atRest, grow}
 use Rattle.laws.specs.Fits.{Fits, Valid}
 use Rattle.laws.specs.Laws.{cond-case, size-⊹, length-bytes}
+use Rattle.model.specs.Claims.{InLean}
+use Rattle.model.specs.declared.Place.{Place}
 use Rattle.laws.specs.Store.{NewFits, grow-good}
+use Rattle.laws.specs.Lean.{lean-grow}
+use Rattle.track.specs.New.{newPlace, grow-places}
 use Rattle.reads.specs.Decode.{config-image, stored-image}
 use Rattle.reads.specs.Reading.{reads-valid, reads-length}
 use Rattle.stands.specs.Here.{nesting, PageIn, OnPage, root-nesting}
@@ -23,7 +28,7 @@ use Rattle.step.specs.Names.{marked-beyond}
 use Rattle.octets.specs.Over.{over, take-over}
 use Rattle.upward.specs.Chain.{Spot, fill, Chain, lastPage, lastSettled, lastHolder, whole, rise}
 use Rattle.upward.specs.Taking.{taking-whole, grow-rises}
-use Rattle.upward.specs.Bytes.{lastHeld, chain-page, chain-bytes}
+use Rattle.upward.specs.Bytes.{lastHeld, chain-page, chain-bytes, taking-here}
 use Rattle.upward.specs.Steady.{asPlaced, place-row, placed-some}
 use Rattle.upward.specs.Levels.{chain-nesting}
 use Rattle.writes.specs.Memory.{Mem, setMem, linkMem, putMem, placeMem, riseMem}
@@ -59,11 +64,12 @@ pub record Begin (dry : Bool) (img : List ℕ) (above k left label : ℕ) (node 
   pub short : length (aim .path) ≤ 22
   pub room : dry ≡ false → grow (aim .st) (aim .root) (aim .path) k x .1 .full ≡ false
 
--- What a run of it gives: what growth counted; a dry run leaves the image, another one leaves the image of what growth made.
-pub record Grew {dry : Bool} {img : List ℕ} {above k left label : ℕ} {node : List ℕ} (w : Begin dry img above k left label node) (filled : Bool) (counts : ℕ) (leans : ℤ) (new : List ℕ) : Type 0 where
+-- What a run of it gives: what growth counted, and the new node's place; a dry run leaves the image, another one leaves the image of what growth made.
+pub record Grew {dry : Bool} {img : List ℕ} {above k left label : ℕ} {node : List ℕ} (w : Begin dry img above k left label node) (filled : Bool) (counts : ℕ) (leans : ℤ) (at : Place) (new : List ℕ) : Type 0 where
   pub full : filled ≡ grow (w .aim .st) (w .aim .root) (w .aim .path) k (w .x) .1 .full
   pub splits : counts ≡ grow (w .aim .st) (w .aim .root) (w .aim .path) k (w .x) .1 .splits
   pub lean : leans ≡ grow (w .aim .st) (w .aim .root) (w .aim .path) k (w .x) .1 .lean
+  pub place : at ≡ newPlace (w .aim .st) (w .x) (w .aim .t) (atRest (w .aim .st) (w .aim .root))
   pub still : dry ≡ true → new ≡ img
   pub writes : dry ≡ false → new ≡ image (w .aim .st) (grow (w .aim .st) (w .aim .root) (w .aim .path) k (w .x) .0)
 
@@ -72,6 +78,9 @@ pub record Grew {dry : Bool} {img : List ℕ} {above k left label : ℕ} {node :
 module _ (st : Config) (x : New) (fits : NewFits x) where
   pub node-most : size (asRow st x nil) ≤ 526
   node-most = cond-case (λ (r : Row). size r ≤ 526) (eqb (x .kind) 1) (λ _. omega arith) (λ _. omega (arith, fits .long))
+
+  node-fits : Fits (asRow st x nil)
+  node-fits = cond-case Fits (eqb (x .kind) 1) (λ _. (fits .head, tt, tt)) (λ _. (fits .head, fits .long, fits .byte, tt))
 
   -- A new node holds no record.
   node-bare : (q : ℕ) (m : Mem) → linkMem q (asRow st x nil) m ≡ m
@@ -176,6 +185,9 @@ module _ {dry : Bool} {img : List ℕ} {above k left label : ℕ} {node : List �
   pub inside : (1 ≤ lastPage c) × (lastPage c < st .pages)
   inside = omega (arith, stands .here .on .low, stands .here .on .inside, long)
 
+  pub taking-low : receiverOf (w .aim .t) .at < 65536
+  taking-low = let v = taking-here img st root (w .aim .reads) (w .aim .path) k (w .aim .t) (w .aim .taken) in omega (arith, v .room)
+
   -- The new node as it stands in the record's row.
   abbrev pub P : Row
   P = asPlaced st (w .x) h (lastPage c) W
@@ -186,10 +198,10 @@ module _ {dry : Bool} {img : List ℕ} {above k left label : ℕ} {node : List �
   abbrev pub row : Row
   row = fill s (O .0)
 
-  row-is : row ≡ fill s (P ⊹ rest)
+  pub row-is : row ≡ fill s (P ⊹ rest)
   row-is = ap (fill s) (place-row st (w .x) h (lastPage c) W rest)
 
-  keeps : KeepsRoot s rest (P ⊹ rest)
+  pub keeps : KeepsRoot s rest (P ⊹ rest)
   keeps = taking-keeps root (w .aim .path) k (w .aim .t) (w .aim .taken) P (placed-some st (w .x) h (lastPage c) W)
 
   goal-is : rise st c (row, O .1) ≡ new
@@ -197,6 +209,13 @@ module _ {dry : Bool} {img : List ℕ} {above k left label : ℕ} {node : List �
 
   new-good : Fits (new .0) × (height (new .0) ≤ 24)
   new-good = let z = grow-good st (w .x) (w .fits) root (w .aim .path) k valid (w .short) in (z .0 .1, z .1)
+
+  -- Where the new node stands in what growth gives.
+  pub new-stands : placeOf (new .0) (w .aim .path ++ k ∷ []) ≡ some (newPlace st (w .x) (w .aim .t) W)
+  new-stands = grow-places st (w .x) root valid (node-fits st (w .x) (w .fits)) (w .aim .path) k (w .aim .t) (w .aim .taken)
+
+  pub new-lean : InLean (new .1 .lean)
+  new-lean = lean-grow st (w .x) (w .fits) root (w .aim .path) k valid (w .short) .0
 
   -- ── the node is placed ──
 
@@ -210,7 +229,7 @@ module _ {dry : Bool} {img : List ℕ} {above k left label : ℕ} {node : List �
       past = subst (λ (i : ℕ). Past i u₀) pages (rest-past st root u₀ marked);
     }
 
-    own-inside : ownPage st (w .x) h (lastPage c) W < st .pages
+    pub own-inside : ownPage st (w .x) h (lastPage c) W < st .pages
     own-inside =
         free-within st (st .pages) (lastPage c) (W .used) refl (few .1) (inside .1) (marked-beyond marked (rest-past st root u₀ marked)) (st .pages)
 
@@ -338,29 +357,36 @@ module _ {dry : Bool} {img : List ℕ} {above k left label : ℕ} {node : List �
                 wet = λ e. record { room = wet-room e; first = pageOf img 0; ready = readied e .0; own = page-same };
               }
 
-          -- What growth from this record requires.
-          abbrev pub cascade : {target tolerance : ℕ} → st .target ≡ target → st .tolerance ≡ tolerance → Cascade dry n target tolerance p len full 0 (pos 0) l u img₁
-          cascade a b = record {
-            st = st;
-            targ = a;
-            tol = b;
-            was = img;
-            root = root;
-            chain = c;
-            old = fill s rest;
-            row = row;
-            work = O .1;
-            rising = begun;
-          }
+          -- An image that is the same.
+          pub begun-as : {img₂ : List ℕ} → img₂ ≡ img₁ → Rising st img root c (fill s rest) row (O .1) dry n p len full 0 (pos 0) l u img₂
+          begun-as e = subst (Rising st img root c (fill s rest) row (O .1) dry n p len full 0 (pos 0) l u) (sym e) begun
 
-          module _ {target tolerance : ℕ} (a : st .target ≡ target) (b : st .tolerance ≡ tolerance) where
-            pub once-done : {filled : Bool} {counts : ℕ} {leans : ℤ} {img₂ : List ℕ} → Risen (goalOf (cascade a b)) (memOf (cascade a b)) dry filled counts leans img₁ img₂ → Grew w filled counts leans img₂
-            once-done {img₂ = img₂} r = record {
+          module _ {target tolerance : ℕ} (a : st .target ≡ target) (b : st .tolerance ≡ tolerance) {img₂ : List ℕ} (e : img₂ ≡ img₁) where
+            -- What growth from this record requires.
+            abbrev pub cascade : Cascade dry n target tolerance p len full 0 (pos 0) l u img₂
+            cascade = record {
+              st = st;
+              targ = a;
+              tol = b;
+              was = img;
+              root = root;
+              chain = c;
+              old = fill s rest;
+              row = row;
+              work = O .1;
+              rising = begun-as e;
+            }
+
+            pub once-done : {filled : Bool} {counts : ℕ} {leans : ℤ} {x₁ : Place} {img₃ : List ℕ} → Risen (goalOf cascade) (memOf cascade) dry filled counts leans img₂ img₃
+                → x₁ ≡ newPlace st (w .x) (w .aim .t) W → Grew w filled counts leans x₁ img₃
+            once-done {img₃ = img₃} r z = record {
               full = r .full ∙ ap (λ (o : Out). o .1 .full) goal-is;
               splits = r .splits ∙ ap (λ (o : Out). o .1 .splits) goal-is;
               lean = r .lean ∙ ap (λ (o : Out). o .1 .lean) goal-is;
-              still = λ e. r .still e ∙ still₁ e;
-              writes = λ e.
-                  images.insert-image st (w .x) (w .fits) root valid (w .aim .path) k (w .short) (w .aim .t) (w .aim .taken) img₂ (r .same ∙ same₁ ∙ long)
-                  (r .pages e ∙ ap (riseMem st c row (O .1)) (mem₁ e ∙ ap (λ (l : List ℕ). placeMem st (w .x) h (lastPage c) W (pageOf l)) (w .aim .reads .same))) (w .room e);
+              place = z;
+              still = λ d. r .still d ∙ e ∙ still₁ d;
+              writes = λ d.
+                  images.insert-image st (w .x) (w .fits) root valid (w .aim .path) k (w .short) (w .aim .t) (w .aim .taken) img₃ (r .same ∙ ap length e ∙ same₁ ∙ long)
+                  (r .pages d ∙ ap (λ (l : List ℕ). riseMem st c row (O .1) (pageOf l)) e
+                  ∙ ap (riseMem st c row (O .1)) (mem₁ d ∙ ap (λ (l : List ℕ). placeMem st (w .x) h (lastPage c) W (pageOf l)) (w .aim .reads .same))) (w .room d);
             }

@@ -1,3 +1,4 @@
 pub mod Taken
 pub mod Begin
 pub mod Answer
+pub mod Seat

@@ -1,16 +1,17 @@
 // An insert on an image that passes the check: the node goes into the record that takes it, and growth goes on from there. First dry, then writing.
 use admit::admit;
-use cascade::Grown;
 use cascade::rise;
+use cut::split_point;
 use fresh::place_node;
 use fresh::put_node;
 use fresh::usage;
-use locate::find_child;
 use model::InsertAnswer;
 use model::Place;
 use octets::two;
 use receive::find_receiver;
+use relocate::moved_to;
 use splice::splice;
+use step::leave;
 ghost use mathlib.Core.Path.{_≡_};
 ghost use lib.ListN.{length};
 ghost use Rattle.model.specs.Row.{recordSize, recordBytes};
@@ -19,6 +20,7 @@ ghost use Rattle.model.specs.Answers.{insertRefused};
 ghost use Rattle.model.specs.Calls.{checkOf, insertOf};
 ghost use Rattle.insert.specs.Taken.{Taken, taken};
 ghost use Rattle.insert.specs.Begin.{Begin, Grew};
+ghost use Rattle.insert.specs.Seat.{Seat};
 
 // Writes to the front of buf the record on the page with the new node's bytes at byte `at`, in the node at par, and gives its length.
 fn take_in(image: &[u8], page: usize, at: usize, par: usize, new: &[u8], buf: &mut [u8]) -> usize
@@ -31,6 +33,50 @@ fn take_in(image: &[u8], page: usize, at: usize, par: usize, new: &[u8], buf: &m
     splice(&image[a..e], at, par, 0, new, buf)
 }
 
+// Where the new node will stand: `new` are the bytes that stand for it in its record, `content` the record's bytes with them at byte `at`. Apart, it is
+// the root of its own record; else it stays in its record, or goes where the record's split moves it, and later splits do not move it. The image stays.
+fn new_place(
+    image: &mut [u8],
+    used: [u8; 1024],
+    pages: usize,
+    target: usize,
+    tolerance: usize,
+    page: usize,
+    at: usize,
+    new: &[u8],
+    content: &[u8],
+) -> Place
+    requires { ⌜ Seat (now image) used pages target tolerance page at (now new) (now content) ⌝ }
+    ensures { λ r. ⌜ (now (image .exit) ≡ now (image .entry)) × ((w : Seat (now (image .entry)) used pages target tolerance page at (now (new .entry)) (now (content .entry))) → r ≡ w .place) ⌝ }
+{
+    if new[0] == 3 {
+        return Place {
+            page: two(new, 6),
+            offset: 0,
+        };
+    }
+    let n = content.len();
+    if n <= 4080 {
+        return Place {
+            page: page,
+            offset: at,
+        };
+    }
+    let mut marks = used;
+    let settled = image[4096 * page + 4081] as usize;
+    leave(image, &mut marks, page, settled, true);
+    let p = split_point(target, n);
+    moved_to(content, at, p, tolerance, image, &mut marks, pages, page)
+}
+
+// What a run of an insert gives: whether a page was missing, the records split, the lean of the first split, the new node's place.
+struct Run {
+    full: bool,
+    splits: u32,
+    lean: i32,
+    place: Place,
+}
+
 // Puts the node, whose label is `label`, as child k of the aggregate at the byte `parent`, behind the sibling at `left`, with all that growth does. A dry run counts and leaves the image.
 fn once(
     image: &mut [u8],
@@ -40,9 +86,9 @@ fn once(
     label: usize,
     node: &[u8],
     dry: bool,
-) -> Grown
+) -> Run
     requires { ⌜ Begin dry (now image) parent k left label (now node) ⌝ }
-    ensures { λ r. ⌜ ((w : Begin dry (now (image .entry)) parent k left label (now (node .entry))) → Grew w (r .full) (r .splits) (r .lean) (now (image .exit))) ⌝ }
+    ensures { λ r. ⌜ ((w : Begin dry (now (image .entry)) parent k left label (now (node .entry))) → Grew w (r .full) (r .splits) (r .lean) (r .place) (now (image .exit))) ⌝ }
 {
     let pages = image.len() / 4096;
     let target = image[2] as usize;
@@ -64,7 +110,18 @@ fn once(
     );
     let mut buf = [0u8; 4608];
     let len = take_in(image, t.page, t.at, t.par, &new[..f.size], &mut buf);
-    rise(
+    let place = new_place(
+        image,
+        used,
+        pages,
+        target,
+        tolerance,
+        t.page,
+        t.at,
+        &new[..f.size],
+        &buf[..len],
+    );
+    let g = rise(
         image,
         &mut used,
         pages,
@@ -75,7 +132,13 @@ fn once(
         len,
         f.full,
         dry,
-    )
+    );
+    Run {
+        full: g.full,
+        splits: g.splits,
+        lean: g.lean,
+        place: place,
+    }
 }
 
 fn refused(number: u32) -> InsertAnswer
@@ -115,7 +178,7 @@ pub fn insert_of(
         return refused(12);
     }
     let made = once(image, a.parent, k, a.left, l, &node[..n], false);
-    let place = find_child(image, path, k);
+    let place = made.place;
     InsertAnswer {
         number: 0,
         place: place,

@@ -66,7 +66,7 @@ pub fn keep(
 }
 
 // Frees the page of a record that is split, unless the record is settled. A dry run leaves the image.
-fn leave(image: &mut [u8], used: &mut [u8; 1024], page: usize, settled: usize, dry: bool)
+pub fn leave(image: &mut [u8], used: &mut [u8; 1024], page: usize, settled: usize, dry: bool)
     requires { ⌜ (page < 1024) × (4096 * page + 4096 ≤ length (now image)) ⌝ }
     ensures { λ _. ⌜ ((stays : Bool) → settled ≡ cond stays 1 0
         → (now (used .exit) ≡ cond stays (now (used .entry)) (set (now (used .entry)) page 0)) × (now (image .exit) ≡ leftImage dry stays page (now (image .entry)))) ⌝ }

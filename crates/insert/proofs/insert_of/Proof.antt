@@ -2,6 +2,7 @@
 use mathlib.Core.Path.{_≡_, refl, sym, ap, _∙_}
 use mathlib.Core.Bool.{true, false, true≢false}
 use mathlib.Core.List.{List}
+use mathlib.Core.Option.{some}
 use Prim.Native.Nat.{ℕ, _<_, _≤_}
 use native.Mathlib.Omega.{arith}
 use borrow.Author.Needs.{needs}
@@ -21,8 +22,8 @@ use Rattle.octets.specs.Over.{take-over}
 use Rattle.agree.specs.Open.{passing}
 use Rattle.walks.specs.Heads.{is-byte}
 use Rattle.cut.specs.Lean.{lean-signed}
-use Rattle.insert.specs.Begin.{Begin, node-most}
-use Rattle.insert.specs.Answer.{refused-early, refused-full, sound, new-fits, begin, lean-in, passes-new, short-path, accepted-is, made}
+use Rattle.insert.specs.Begin.{Begin, node-most, new-lean, new-stands}
+use Rattle.insert.specs.Answer.{refused-early, refused-full, sound, new-fits, begin, accepted-is, made}
 use Rattle.insert.proofs.insert_of.Statement.{statement}
 use Rattle.insert.proofs.insert_of.Tie as tie
 
@@ -132,28 +133,19 @@ told c =
 once-requires-2 : tie.Need-once-requires-2
 once-requires-2 c κs = told (c .before)
 
-find-child-requires : tie.Need-find-child-requires
-find-child-requires c κs =
-    let o = c .before .before .before .before .before in
-    let a = o .before .before .before .before .before .before .before .before .before in
-    let s = a .before .before .before .before .before .before .before .before in (
-      passes-new (store-of a .1) (s .args .path .now) (s .args .child) (s .args .kind) (s .args .label) (s .args .content .now) (zero-is a) (label-is a) (bytes-is a) (room-is o) (c .before .before .before .once2 .ensures (told o) .writes refl),
-      short-path (store-of a .1) (s .args .path .now) (s .args .child) (s .args .kind) (s .args .label) (s .args .content .now) (zero-is a) (label-is a) (bytes-is a),
-    )
-
 same-length-3 : tie.Need-same-length-3
 same-length-3 c = search needs
 
 returns-3 : tie.Need-returns-3
 returns-3 c =
-    let o = c .before .before .before .before .before .before .before in
+    let o = c .before .before .before .before .before .before in
     let a = o .before .before .before .before .before .before .before .before .before in
     let s = a .before .before .before .before .before .before .before .before in
-    let g = c .before .before .before .before .before .once2 .ensures (told o) in
-    let range = lean-in (store-of a .1) (s .args .path .now) (s .args .child) (s .args .kind) (s .args .label) (s .args .content .now) (zero-is a) (label-is a) (bytes-is a) (room-is o) in
-    let lean = toZ-ofZ {w = w32} (lean-signed (c .before .before .before .before .before .once2 .result .lean) (rw (g .lean) range)) ∙ g .lean in
+    let w = told o in
+    let g = c .before .before .before .before .once2 .ensures w in
+    let lean = toZ-ofZ {w = w32} (lean-signed (c .before .before .before .before .once2 .result .lean) (rw (g .lean) (new-lean w))) ∙ g .lean in
     let e = accepted-is (store-of a .1) (s .args .path .now) (s .args .child) (s .args .kind) (s .args .label) (s .args .content .now) (zero-is a) (label-is a) (bytes-is a) (room-is o)
-    (g .writes refl) (omega (arith, s .fits)) (c .before .find-child .ensures) (g .splits) lean in
+    (g .writes refl) (new-stands w ∙ ap some (sym (g .place))) (g .splits) lean in
     (ap (λ (z : InsertAnswer × List ℕ). z .0) e, ap (λ (z : InsertAnswer × List ℕ). z .1) e)
 
 pub insert-of-spec : {M : Type 1} → statement M
@@ -175,6 +167,5 @@ insert-of-spec =
     array-share-prefix-node-2
     slice-aggregate-once-2
     once-requires-2
-    find-child-requires
     same-length-3
     returns-3)

@@ -1,11 +1,17 @@
 -- `insert::once`: the node is placed, goes into the record that takes it, and growth goes on from there.
-use mathlib.Core.Path.{_≡_, refl, sym, ap, _∙_}
+use mathlib.Core.Path.{_≡_, refl, sym, ap, subst, _∙_}
 use Prim.Native.Nat.{_/_, _≤_}
 use native.Mathlib.Omega.{arith}
 use borrow.Author.Needs.{needs}
 use lib.ListN.{length, replicate}
 use lib.Seq.{length-take-le}
-use Rattle.model.specs.Row.{nil}
+use lib.IntN.{ℤ}
+use mir.Syntax.{w32}
+use mir.Facts.{toZ-ofZ}
+use Rattle.cut.specs.Lean.{lean-signed}
+use Rattle.octets.specs.Over.{over}
+use Rattle.upward.specs.Chain.{fill}
+use Rattle.model.specs.Row.{nil, _⊹_, recordSize, recordBytes}
 use Rattle.model.specs.Growth.{asRow}
 use Rattle.laws.specs.Laws.{length-bytes}
 use Rattle.split.specs.Same.{Marked}
@@ -13,7 +19,8 @@ use Rattle.receive.specs.declared.Receiver.{Receiver}
 use Rattle.receive.specs.Aim.{receiverOf}
 use Rattle.admit.specs.Label.{parent-label, parent-low}
 use Rattle.fresh.specs.Placed.{Placed}
-use Rattle.insert.specs.Begin.{Begin, node-most, st, root, h, W, long, few, target-is, target-most, tolerance-is, start-env, placed-size, into-record, cascade, once-done}
+use Rattle.insert.specs.Begin.{Begin, node-most, st, root, h, W, long, few, target-is, target-most, tolerance-is, start-env, placed-size, into-record, begun, cascade, once-done, Grew, new-lean, s as spot, rest, P}
+use Rattle.insert.specs.Seat.{seat, seat-is}
 use Rattle.insert.proofs.once.Statement.{statement}
 use Rattle.insert.proofs.once.Tie as tie
 
@@ -88,37 +95,84 @@ take-in-requires c κs =
     let e = where-is x w in
     (into-record w (ap (λ (r : Receiver). r .page) e) (pages-is x w) (marks-is x w) (placed-is x w) (ap (λ (r : Receiver). r .at) e) (ap (λ (r : Receiver). r .par) e), refl)
 
+-- the record with the node
+taken-is : (x : tie.After-take-in) → let y = x .before .before .before .before .before .before .before in let s = y .before .before .before .before .before .before .before .before .before .before .before .before .before .before .before in (w : Begin (s .args .dry) (s .args .image .now) (s .args .parent) (s .args .k) (s .args .left) (s .args .label) (s .args .node .now))
+    → let l = x .take-in .last .1 .1 .1 .1 .1 .0 in let r = fill (spot w) (P w ⊹ rest w) in (x .take-in .result ≡ recordSize r) × (l ≡ over 0 (recordBytes r) (replicate 4608 0))
+taken-is x w =
+    let y = x .before .before .before .before .before .before .before in
+    let e = where-is y w in
+    x .take-in .ensures (into-record w (ap (λ (r : Receiver). r .page) e) (pages-is y w) (marks-is y w) (placed-is y w) (ap (λ (r : Receiver). r .at) e) (ap (λ (r : Receiver). r .par) e))
+
+-- its length
+fits-buf : (x : tie.After-take-in) → x .take-in .result ≤ length (x .take-in .last .1 .1 .1 .1 .1 .0)
+fits-buf x =
+    let y = x .before .before .before .before .before .before .before in
+    let w = y .before .before .before .before .before .before .before .before .before .before .before .before .before .before .before .pre in
+    let e = where-is y w in
+    let t = taken-is x w in
+    let r = begun w (ap (λ (r : Receiver). r .page) e) (pages-is y w) (marks-is y w) (placed-is y w) (ap (λ (r : Receiver). r .at) e) (ap (λ (r : Receiver). r .par) e) (replicate 4608 0) (t .0) (t .1) in
+    omega (arith, r .long, r .most, x .take-in .kept .1 .1 .1 .1 .1 .0)
+
+array-share-prefix-new-2 : tie.Need-array-share-prefix-new-2
+array-share-prefix-new-2 c = fits-new (c .before .before .before .before .before .before .before .before .before)
+
+slice-aggregate-new-place : tie.Need-slice-aggregate-new-place
+slice-aggregate-new-place c = sym (length-take-le _ _ (fits-new (c .before .before .before .before .before .before .before .before .before .before)))
+
+array-share-prefix-buf : tie.Need-array-share-prefix-buf
+array-share-prefix-buf c = fits-buf (c .before .before .before)
+
+slice-aggregate-new-place-2 : tie.Need-slice-aggregate-new-place-2
+slice-aggregate-new-place-2 c = sym (length-take-le _ _ (fits-buf (c .before .before .before .before)))
+
 slice-aggregate-rise : tie.Need-slice-aggregate-rise
 slice-aggregate-rise c = search needs
 
+new-place-requires : tie.Need-new-place-requires
+new-place-requires c κs =
+    let x = c .before .before .before .before in
+    let y = x .before .before .before .before .before .before .before in
+    let w = y .before .before .before .before .before .before .before .before .before .before .before .before .before .before .before .pre in
+    let e = where-is y w in
+    let t = taken-is x w in
+    seat w (ap (λ (r : Receiver). r .page) e) (pages-is y w) (marks-is y w) (placed-is y w) (ap (λ (r : Receiver). r .at) e) (ap (λ (r : Receiver). r .par) e) (replicate 4608 0) (t .0) (t .1)
+    (sym (target-is w)) (sym (tolerance-is w) ∙ sym (y .before .before .before .before .before .before .before .before .before .before .two .ensures .0))
+
 rise-requires : tie.Need-rise-requires
 rise-requires c κs =
-    let x = c .before .before .before .before .before .before .before .before .before .before .before in
-    let w = x .before .before .before .before .before .before .before .before .before .before .before .before .before .before .before .pre in
-    let e = where-is x w in
-    let pe = ap (λ (r : Receiver). r .page) e in
-    let ae = ap (λ (r : Receiver). r .at) e in
-    let re = ap (λ (r : Receiver). r .par) e in
-    let t = c .before .before .before .before .take-in .ensures (into-record w pe (pages-is x w) (marks-is x w) (placed-is x w) ae re) in
-    (c .before .before .before .before .take-in .kept .1 .1 .1 .1 .1 .0, cascade w pe (pages-is x w) (marks-is x w) (placed-is x w) ae re (replicate 4608 0) (t .0) (t .1) (sym (target-is w)) (sym (tolerance-is w) ∙ sym (x .before .before .before .before .before .before .before .before .before .before .two .ensures .0)))
+    let x = c .before .before .before .before .before .before .before .before .before .before in
+    let y = x .before .before .before .before .before .before .before in
+    let w = y .before .before .before .before .before .before .before .before .before .before .before .before .before .before .before .pre in
+    let e = where-is y w in
+    let t = taken-is x w in (
+      x .take-in .kept .1 .1 .1 .1 .1 .0,
+      cascade w (ap (λ (r : Receiver). r .page) e) (pages-is y w) (marks-is y w) (placed-is y w) (ap (λ (r : Receiver). r .at) e) (ap (λ (r : Receiver). r .par) e) (replicate 4608 0) (t .0) (t .1)
+          (sym (target-is w)) (sym (tolerance-is w) ∙ sym (y .before .before .before .before .before .before .before .before .before .before .two .ensures .0)) (c .before .before .before .before .before .new-place .ensures .0),
+    )
 
 same-length : tie.Need-same-length
-same-length c = search needs
+same-length c = let x = c .before .before .before .before .before .before .before .before .before .before .before .before .before .before .before .before .before .before .before .before .before .before in c .before .before .before .before .rise .kept .0 ∙ c .before .before .before .before .before .before .before .before .before .before .new-place .kept .0 ∙ x .place-node .kept .0
 
 returns : tie.Need-returns
 returns c =
     λ w.
     let x = c .before .before .before .before .before .before .before .before .before .before .before .before .before .before .before in
-    let e = where-is x w in
+    let y = x .before .before .before .before .before .before .before in
+    let e = where-is y w in
     let pe = ap (λ (r : Receiver). r .page) e in
     let ae = ap (λ (r : Receiver). r .at) e in
     let re = ap (λ (r : Receiver). r .par) e in
-    let m = marks-is x w in
-    let y = placed-is x w in
-    let t = c .before .before .before .before .before .before .before .before .take-in .ensures (into-record w pe (pages-is x w) m y ae re) in
+    let m = marks-is y w in
+    let z = placed-is y w in
+    let t = taken-is x w in
     let a = sym (target-is w) in
-    let b = sym (tolerance-is w) ∙ sym (x .before .before .before .before .before .before .before .before .before .before .two .ensures .0) in
-    once-done w pe (pages-is x w) m y ae re (replicate 4608 0) (t .0) (t .1) a b (c .before .before .before .rise .ensures (cascade w pe (pages-is x w) m y ae re (replicate 4608 0) (t .0) (t .1) a b))
+    let b = sym (tolerance-is w) ∙ sym (y .before .before .before .before .before .before .before .before .before .before .two .ensures .0) in
+    let n = c .before .before .before .before .before .before .before .before .before .before .new-place .ensures in
+    let i = n .0 in
+    let g = once-done w pe (pages-is y w) m z ae re (replicate 4608 0) (t .0) (t .1) a b i (c .before .before .before .before .rise .ensures (cascade w pe (pages-is y w) m z ae re (replicate 4608 0) (t .0) (t .1) a b i))
+    (n .1 (seat w pe (pages-is y w) m z ae re (replicate 4608 0) (t .0) (t .1) a b) ∙ seat-is w pe (pages-is y w) m z ae re (replicate 4608 0) (t .0) (t .1) a b) in
+    subst (λ (l : ℤ). Grew w (c .before .before .before .before .rise .result .full) (c .before .before .before .before .rise .result .splits) l (c .before .before .before .before .before .before .before .before .before .before .new-place .result) (c .before .before .before .before .rise .last .0))
+    (sym (toZ-ofZ {w = w32} (lean-signed (c .before .before .before .before .rise .result .lean) (rw (g .lean) (new-lean w))))) g
 
 pub once-spec : {M : Type 1} → statement M
 once-spec =
@@ -137,6 +191,11 @@ once-spec =
     slice-aggregate-take-in
     slice-aggregate-take-in-2
     take-in-requires
+    array-share-prefix-new-2
+    slice-aggregate-new-place
+    array-share-prefix-buf
+    slice-aggregate-new-place-2
+    new-place-requires
     slice-aggregate-rise
     rise-requires
     same-length

@@ -1,0 +1,7 @@
+pub mod Text
+pub mod Wrote
+pub mod Digits
+pub mod Lined
+pub mod Bound
+pub mod Whole
+pub mod Example

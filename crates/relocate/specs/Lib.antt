@@ -1,0 +1,3 @@
+pub mod Jump
+pub mod Span
+pub mod Went
