@@ -1,5 +1,5 @@
 -- Where a node of the last record of a chain stands after growth from there upwards.
-use mathlib.Core.Path.{_≡_, refl, sym, ap, _∙_}
+use mathlib.Core.Path.{_≡_, refl, ap, _∙_}
 use mathlib.Core.Bool.{Bool, true, false, cond}
 use mathlib.Core.List.{List}
 use mathlib.Core.Logic.{inl}
@@ -9,7 +9,7 @@ use native.Mathlib.Omega.{arith}
 use borrow.Author.Tests.{leb-false}
 use lib.Dec.{leb}
 use Rattle.model.specs.Row.{Row, rec, lone, base, recordSize, Config}
-use Rattle.model.specs.Tree.{placeAt, placeOf}
+use Rattle.model.specs.Tree.{placeAt}
 use Rattle.model.specs.Growth.{Work, Out, onRow, separator, counted, freed, kept, close}
 use Rattle.model.specs.declared.Place.{Place}
 use Rattle.laws.specs.Fits.{Fits}
@@ -17,7 +17,7 @@ use Rattle.laws.specs.Laws.{cond-case}
 use Rattle.upward.specs.Chain.{Spot, fill, Chain, top, below, lastPage, lastSettled, whole, rise}
 use Rattle.track.specs.Stands.{Bare, bare-width, bare-place, Inner, inner-place, inner-rec, inner-left}
 use Rattle.track.specs.Moved.{both-case, movedRecord, separator-bare, separator-inner}
-use Rattle.track.specs.Way.{Way, up, upward, inner-spot}
+use Rattle.track.specs.Way.{up, upward, inner-spot}
 
 module _ (st : Config) where
   -- ── what is inside a held record keeps its place ──
@@ -105,9 +105,3 @@ module _ (st : Config) where
       let m = upward c (n .0) (n .1) in
       inner-place x (rise st c (onRow (fill s) y) .0) (m .0) (m .1)
       (rise-inner x c (onRow (fill s) y) (n .0) (n .1) (inner-spot x s (y .0) i p (close-bare c s q b rest r w off i p f z))) 1 0
-
-  -- The node that has this path in the tree.
-  pub rise-moves : (c : Chain) (r : Row) (w : Work) (off i : ℕ) (p full : List ℕ) → _≡_ {A = Way} (upward c i p) (0, full) → lone (whole c r) ≡ true → Fits r
-      → Bare r off i p → placeOf (rise st c (r, w) .0) full ≡ some (grownPlace c r w off)
-  rise-moves c r w off i p full e l f z =
-      sym (λ j. placeAt 1 0 (e j .0) (e j .1) (rise st c (r, w) .0)) ∙ rise-grown c r w off i p (rooted c r l) f z

@@ -10,13 +10,13 @@ use borrow.Author.Tests.{lt-ltb, le-ltb}
 use lib.ListN.{length}
 use lib.Dec.{ltb}
 use Rattle.model.specs.Row.{Head, Row, nil, agg, lit, rec, _⊹_, size, isNil, lone, loneRec, base, recordSize, Config}
-use Rattle.model.specs.Tree.{width, placeAt}
+use Rattle.model.specs.Tree.{width}
 use Rattle.model.specs.Growth.{Work, Out, freeFrom, group, twoGroups, separate, goOn, stops, rootRow, withRow, splitPoint, separator}
 use Rattle.model.specs.declared.Place.{Place}
 use Rattle.laws.specs.Fits.{Fits}
 use Rattle.laws.specs.Laws.{size-⊹, ⊹-nil, ⊹-assoc, cond-case, isNil-nil}
 use Rattle.laws.specs.Bound.{stops-false}
-use Rattle.track.specs.Stands.{Bare, bare-width, bare-place, BarePart, inFirst, inSecond, bare-split, Inner, inner-width, inner-place, keeps-inner, inner-left, inner-right, inner-split}
+use Rattle.track.specs.Stands.{Bare, bare-width, bare-place, BarePart, inFirst, inSecond, bare-split, Inner, inner-width, inner-place, inner-left, inner-right, inner-split}
 
 -- Two choices by one test.
 pub both-case {ℓ κ} : {A : Type ℓ} {B : Type κ} (P : A → B → Type 0) (b : Bool) {x y : A} {u v : B} → (b ≡ true → P x u) → (b ≡ false → P y v) → P (cond b x y) (cond b u v)
@@ -197,21 +197,6 @@ module _ (st : Config) (near : ℕ) where
         (λ _. separate-inner x (at + 8) (a ⊹ rec k s r nil) rest w i q (rw (⊹-assoc a (rec k s r nil) rest) z))
         (λ _. two-inner x a (rec k s r rest) w i q z)
 
-    pub separate-moves : (start at : ℕ) (a row : Row) (w : Work) (off i : ℕ) (q : List ℕ) → start + size a ≡ at → Bare (a ⊹ row) off i q
-        → (page o : ℕ) → placeAt page o i q (separate st near p at a row w .0) ≡ some (moved start at a row w (start + off))
-    separate-moves start at a row w off i q e z page o =
-        let x = moved start at a row w (start + off) in
-        inner-place x (separate st near p at a row w .0) i q (separate-bare start at a row w off (start + off) i q e refl z) page o
-
-    pub separate-keeps : (x : Place) (at : ℕ) (a row : Row) (w : Work) (i : ℕ) (q : List ℕ) → ((page o : ℕ) → placeAt page o i q (a ⊹ row) ≡ some x)
-        → (page o : ℕ) → placeAt page o i q (separate st near p at a row w .0) ≡ some x
-    separate-keeps x at a row w i q e page o =
-        inner-place x (separate st near p at a row w .0) i q (separate-inner x at a row w i q (keeps-inner x (a ⊹ row) i q e)) page o
-
-  pub group-keeps : (x : Place) (g : Row) (w : Work) (i : ℕ) (q : List ℕ) → ((page o : ℕ) → placeAt page o i q g ≡ some x)
-      → (page o : ℕ) → placeAt page o i q (group st near g w .0) ≡ some x
-  group-keeps x g w i q e page o = inner-place x (group st near g w .0) i q (group-inner x g w i q (keeps-inner x g i q e)) page o
-
 -- ── a record that is too large ──
 
 module _ (st : Config) (near : ℕ) where
@@ -257,12 +242,3 @@ module _ (st : Config) (near : ℕ) where
       let p = splitPoint st (recordSize r) in
       let row = rootRow st (lone r) r in
       with-inner x (lone r) r (separate st near p 6 nil row w .0) i q (λ i q y. separate-inner st near p x 6 nil row w i q y) z
-
-  pub separator-moves : (r : Row) (w : Work) (off i : ℕ) (q : List ℕ) → 4080 < recordSize r → Fits r → Bare r off i q
-      → (page o : ℕ) → placeAt page o i q (separator st near r w .0) ≡ some (movedRecord r w (base r + off))
-  separator-moves r w off i q m f z page o =
-      inner-place (movedRecord r w (base r + off)) (separator st near r w .0) i q (separator-bare r w off i q m f z) page o
-
-  pub separator-keeps : (x : Place) (r : Row) (w : Work) (i : ℕ) (q : List ℕ) → ((page o : ℕ) → placeAt page o i q r ≡ some x)
-      → (page o : ℕ) → placeAt page o i q (separator st near r w .0) ≡ some x
-  separator-keeps x r w i q e page o = inner-place x (separator st near r w .0) i q (separator-inner x r w i q (keeps-inner x r i q e)) page o

@@ -3,7 +3,7 @@ use mathlib.Core.Path.{_≡_, refl, ap, ap₂, subst, _∙_}
 use mathlib.Core.Bool.{Bool, true, false, cond}
 use mathlib.Core.List.{List, [], _∷_}
 use mathlib.Core.Logic.{_⊎_, inl, inr}
-use mathlib.Core.Option.{Option, some, Option·some-injective, Option·none-ne-some}
+use mathlib.Core.Option.{some, Option·some-injective, Option·none-ne-some}
 use Prim.Native.Nat.{ℕ, zero, suc, _+_, _-_, _<_}
 use native.Mathlib.Omega.{arith}
 use borrow.Author.Tests.{ltb-true, ltb-false, lt-ltb, le-ltb}
@@ -12,7 +12,6 @@ use lib.Dec.{ltb}
 use Rattle.model.specs.Row.{Row, nil, agg, lit, rec, _⊹_, size, isNil, base}
 use Rattle.model.specs.Tree.{width, placeAt}
 use Rattle.model.specs.declared.Place.{Place}
-use Rattle.laws.specs.Laws.{cond-case}
 
 -- ── rows joined ──
 
@@ -54,13 +53,6 @@ place-right page at at′ zero k p (lit h c rest) b e f = absurd (omega arith)
 place-right page at at′ (suc i) k p (lit h c rest) b e f = place-right page (at + 6 + length c) at′ i k p rest b (omega arith) (omega arith)
 place-right page at at′ i k p (rec q s r rest) b e f =
     rw (le-ltb i (width r) (omega arith)) (place-right page (at + 8) at′ (i - width r) k p rest b (omega arith) (omega arith))
-
-pub place-⊹ : (page at i : ℕ) (p : List ℕ) (a b : Row)
-    → placeAt page at i p (a ⊹ b) ≡ cond (ltb i (width a)) (placeAt page at i p a) (placeAt page (at + size a) (i - width a) p b)
-place-⊹ page at i p a b =
-    cond-case (λ (o : Option Place). placeAt page at i p (a ⊹ b) ≡ o) (ltb i (width a))
-    (λ e. place-left page at i p a b (ltb-true i (width a) e))
-    (λ e. place-right page at (at + size a) i (i - width a) p a b (omega (arith, ltb-false i (width a) e)) refl)
 
 -- ── a node without children, in the row's own record ──
 
@@ -224,10 +216,6 @@ module _ (x : Place) where
           → (placeAt page (at + 8) (i - width r) p rest ≡ some x → Inner x rest (i - width r) p) → Inner x (rec q s r rest) i p
       go true m e f = inl (ltb-true i (width r) m, e)
       go false m e f = inr (i - width r, omega (arith, ltb-false i (width r) m), f e)
-
-  -- So is what has the same place wherever the row stands.
-  pub keeps-inner : (g : Row) (i : ℕ) (p : List ℕ) → ((page at : ℕ) → placeAt page at i p g ≡ some x) → Inner x g i p
-  keeps-inner g i p e = place-inner g i p (suc (x .page)) 0 (λ f. omega arith) (e (suc (x .page)) 0)
 
   -- A record that holds it.
   pub inner-rec : (q : ℕ) (s : Bool) (r rest : Row) (i : ℕ) (p : List ℕ) → Inner x r i p → Inner x (rec q s r rest) i p

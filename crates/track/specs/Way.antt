@@ -8,7 +8,7 @@ use native.Mathlib.Omega.{arith}
 use borrow.Author.Tests.{ltb-true, ltb-false, lt-ltb}
 use lib.Dec.{ltb}
 use Rattle.model.specs.Row.{Head, Row, nil, agg, lit, rec, _⊹_, size, lone, base}
-use Rattle.model.specs.Tree.{width, placeAt, placeOf}
+use Rattle.model.specs.Tree.{width, placeAt}
 use Rattle.model.specs.declared.Place.{Place}
 use Rattle.laws.specs.Laws.{isNil-nil}
 use Rattle.upward.specs.Chain.{Spot, here, inside, fill, before, past, into, Chain, top, below, lastPage, whole}
@@ -65,12 +65,6 @@ upward-place (below c s q b rest) r i p k =
     let z = up s i p in
     upward-place c (fill s row) (z .0) (z .1) (up-width s i p row (omega arith))
     ∙ up-place s (lastPage c) (base (fill s row)) i p row ∙ rw (lt-ltb i (width r) k)
-
-pub whole-place : (c : Chain) (r : Row) (i : ℕ) (p full : List ℕ) → _≡_ {A = Way} (upward c i p) (0, full) → i < width r → lone (whole c r) ≡ true
-    → placeOf (whole c r) full ≡ placeAt (lastPage c) (base r) i p r
-whole-place c r i p full e k l =
-    let n : base (whole c r) ≡ 0 = ap (λ (b : Bool). cond b 0 6) l in
-    sym (λ j. placeAt 1 (n j) (e j .0) (e j .1) (whole c r)) ∙ upward-place c r i p k
 
 -- ── the way to the taking place ──
 
