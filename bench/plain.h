@@ -4,6 +4,7 @@
 
 #include <stddef.h>
 #include <stdint.h>
+#include <string.h>
 
 static inline unsigned get16(const uint8_t *p) { return p[0] + 256u * p[1]; }
 
@@ -13,11 +14,7 @@ struct plain {
     uint8_t seen[1024];
 };
 
-static int plain_zero(const uint8_t *p, size_t n) {
-    uint8_t any = 0;
-    for (size_t i = 0; i < n; i++) any |= p[i];
-    return !any;
-}
+static int plain_zero(const uint8_t *p, size_t n) { return !n || (!p[0] && !memcmp(p, p + 1, n - 1)); }
 
 static int plain_list(struct plain *c, const uint8_t *p, const uint8_t *end, unsigned page, unsigned level);
 
