@@ -1,0 +1,108 @@
+"""Writes a call script of hostile calls with the reference's answers: images with a few bytes wrong and any arguments, through all eight calls.
+
+    make_hostile.py SEED CALLS > SCRIPT
+
+The same seed gives the same script. How far it is, and what was reached, goes to standard error.
+"""
+
+import collections
+import random
+import sys
+import zlib
+
+import make_scripts as made
+import reference as ref
+
+LONGEST = 9000                                        # no line is longer
+SHAPES = [(2, 4), (2, 12), (3, 30), (4, 60)]          # small images, so that many calls take little time
+uncached = ref.read_store
+stores = {}
+
+
+def read_store(image):
+    """A reading is remembered: the calls on an image that stays are many."""
+    key = zlib.crc32(image), len(image)
+    if key not in stores:
+        if len(stores) > 50:
+            stores.clear()
+        try:
+            stores[key] = uncached(image)
+        except ref.Refused as refused:
+            stores[key] = refused
+    if isinstance(stores[key], ref.Refused):
+        raise stores[key]
+    return stores[key]
+
+
+def some_number(rng):
+    return rng.choice((0, 1, 2, 3, rng.randrange(30), rng.randrange(5000), 65535, 65536, 2**31, 2**32 - 1))
+
+
+def some_call(rng, entries):
+    """A call with arguments that are right, nearly right, or wrong."""
+    kind = rng.randrange(20)
+    if kind < 5:
+        content = bytes([rng.randrange(256)]) * rng.choice((0, 0, 1, 6, 100, 519, 520, 521, 600))
+        child = rng.choice((0, 0, 1, rng.randrange(8), some_number(rng)))
+        return "insert %s %d %d 0 %d %s" % (ref.to_hex(made.some_path(rng, entries)), child, rng.choice((1, 1, 2, 2, 2, 0, 3, 258)), rng.choice((0, 7, 15, 65535)), ref.to_hex(content))
+    if kind < 8:
+        return "find " + ref.to_hex(made.some_path(rng, entries))
+    if kind < 11:
+        return "climb %d %d %d" % (made.some_place(rng, entries) + (rng.choice((0, 3, 4, 8, 91, 92, 200)),))
+    if kind < 14:
+        return "read %d %d" % made.some_place(rng, entries)
+    if kind < 17:
+        return "next %d %d" % made.some_place(rng, entries)
+    if kind < 18:
+        return "records %d" % rng.choice((0, 1, 2, 3, 8, 64))
+    if kind < 19:
+        return "check"
+    matrix = bytearray(b"\x02" * rng.choice((256, 256, 255, 0)))
+    return "format %d %d %d %d %s %d" % (rng.choice((2, 3, 4, some_number(rng))), rng.choice((64, 128, 192, some_number(rng))), rng.choice((0, 409, some_number(rng))),
+                                         rng.choice((1, 1, 0, 65537)), ref.to_hex(matrix), rng.choice((7, 65535)))
+
+
+def main(seed, calls):
+    rng = random.Random(seed)
+    made.SHAPES = SHAPES
+    ref.read_store = read_store
+    numbers = collections.Counter()
+    out = ["V 1 0 %d" % LONGEST]
+    done, said = 0, 0
+    while done < calls:
+        image = made.grow_store(rng)
+        made.put_image(image, out)
+        out.append("S")
+        for _ in range(60):
+            out.append("R")
+            hurt = bytearray(image)
+            if rng.random() < 0.7:
+                made.damage(rng, hurt, out)
+            if rng.random() < 0.05:
+                cut = rng.choice((0, 1, 4095, 4096, 8191, len(hurt) - 1))
+                hurt = bytearray(hurt[:cut])
+                out.append("I %d" % cut)
+                hurt = bytearray(cut)
+            for _ in range(12):
+                try:
+                    entries = ref.document_order(ref.read_store(hurt))
+                except ref.Refused:
+                    entries = []
+                call = some_call(rng, entries)
+                if call.startswith(("insert", "format")):
+                    stores.pop((zlib.crc32(hurt), len(hurt)), None)
+                made.ask(call, hurt, out)
+                if call.startswith(("insert", "format")):
+                    stores.clear()
+                numbers[call.split(" ")[0] + " " + out[-1].split(" ")[1]] += 1
+                done += 1
+        print("\n".join(out))
+        out = []
+        if done - said >= 50000:
+            said = done
+            print("%d calls" % done, file=sys.stderr)
+    print(", ".join("%s: %d" % item for item in sorted(numbers.items())), file=sys.stderr)
+
+
+if __name__ == "__main__":
+    main(*[int(word) for word in sys.argv[1:3]])
