@@ -80,7 +80,11 @@ def full():
     proxies = [reference.Node(reference.PROXY, record=record) for record in records.values()]
     root = reference.Node(AGGREGATE, 65535, children=proxies + aggregates(reference.CAPACITY - reference.HEADER - 8 * len(proxies)))
     records[1] = reference.Record(1, True, root)
-    return reference.store_bytes(reference.Store(reference.Settings(15), records))
+    store = reference.Store(reference.Settings(15), records)
+    store.changed = set(records)
+    image = formatted(15, 1)
+    reference.write_changes(store, image)
+    return image
 
 
 def inputs():
