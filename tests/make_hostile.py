@@ -20,7 +20,7 @@ stores = {}
 
 
 def read_store(image):
-    """A reading is remembered: the calls on an image that stays are many."""
+    """A reading is remembered: the calls on an image that stays are many. Not for calls that write, since growth works on what was read."""
     key = zlib.crc32(image), len(image)
     if key not in stores:
         if len(stores) > 50:
@@ -65,12 +65,13 @@ def some_call(rng, entries):
 def main(seed, calls):
     rng = random.Random(seed)
     made.SHAPES = SHAPES
-    ref.read_store = read_store
     numbers = collections.Counter()
     out = ["V 1 0 %d" % LONGEST]
     done, said = 0, 0
     while done < calls:
+        ref.read_store = uncached
         image = made.grow_store(rng)
+        ref.read_store = read_store
         made.put_image(image, out)
         out.append("S")
         for _ in range(60):
@@ -89,11 +90,9 @@ def main(seed, calls):
                 except ref.Refused:
                     entries = []
                 call = some_call(rng, entries)
-                if call.startswith(("insert", "format")):
-                    stores.pop((zlib.crc32(hurt), len(hurt)), None)
+                ref.read_store = uncached if call.startswith("insert") else read_store
                 made.ask(call, hurt, out)
-                if call.startswith(("insert", "format")):
-                    stores.clear()
+                ref.read_store = read_store
                 numbers[call.split(" ")[0] + " " + out[-1].split(" ")[1]] += 1
                 done += 1
         print("\n".join(out))
