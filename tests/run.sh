@@ -17,8 +17,8 @@ strict=(-Wall -Wextra -Wpedantic -Wconversion -Wshadow -Werror)
 target/panel | diff examples/panel.txt -
 # the stored scripts, and scripts from elsewhere if VECTORS names a folder of them
 target/replay tests/scripts/*.txt ${VECTORS:+"$VECTORS"/base-*.txt}
-REPLAY=target/replay bash tests/inserts.sh 8000
-REPLAY=target/replay bash tests/hostile.sh 20000
+REPLAY=target/replay bash tests/random.sh inserts 8000
+REPLAY=target/replay bash tests/random.sh hostile 20000
 (ulimit -s 1024 && target/deep)
 target/stack
 bash tests/listing.sh

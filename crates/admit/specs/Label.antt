@@ -1,23 +1,21 @@
 -- The parent's label: its header, where the parent stands, has the label of the taking place's parent.
-use mathlib.Core.Path.{_≡_, sym, ap, subst, _∙_}
+use mathlib.Core.Path.{_≡_, sym, ap, _∙_}
 use mathlib.Core.Bool.{Bool, true, false, cond}
 use mathlib.Core.List.{List, [], _∷_, _++_}
 use mathlib.Core.Option.{some, Option·some-injective, Option·none-ne-some}
-use Prim.Native.Nat.{ℕ, zero, suc, _+_, _*_, _-_, _≤_, _<_}
+use Prim.Native.Nat.{ℕ, zero, suc, _+_, _-_, _≤_, _<_}
 use native.Mathlib.Omega.{arith}
 use lib.ListN.{length}
 use lib.Dec.{ltb}
-use Rattle.model.specs.Row.{Head, Row, nil, agg, lit, rec, lone, base}
+use Rattle.model.specs.Row.{Head, Row, nil, agg, lit, rec, lone}
 use Rattle.model.specs.Tree.{width, placeOf}
 use Rattle.model.specs.Reading.{twoAt}
-use Rattle.reads.specs.Reading.{reads-valid}
-use Rattle.stands.specs.Here.{Here, agg-view}
-use Rattle.upward.specs.Chain.{Spot, here, fill, before, past, into, Chain, below, lastPage}
+use Rattle.stands.specs.Here.{agg-view}
+use Rattle.upward.specs.Chain.{Spot, here, past, into, Chain, below, lastPage}
 use Rattle.upward.specs.Taking.{Taking, takingAt, takingAfter, takingChild}
-use Rattle.upward.specs.Bytes.{here-fill, chain-page}
-use Rattle.receive.specs.Parent.{Parent, parent-of}
+use Rattle.receive.specs.Parent.{Parent}
 use Rattle.receive.specs.Aim.{Aimed}
-use Rattle.receive.specs.Receive.{parent-room}
+use Rattle.receive.specs.Receive.{found, parent-here, parent-room}
 
 -- ── the place keeps the parent's header ──
 
@@ -51,24 +49,14 @@ child-parent h c s (suc i) row t e = after-parent h c s i row t e
 -- ── the header in the image ──
 
 module _ (img : List ℕ) (parent k : ℕ) (w : Aimed img parent k) where
-  p : Parent (w .root) k (λ j. placeOf (w .root) (w .path ++ j ∷ [])) (w .t) (w .y)
-  p = parent-of (w .st) (w .root) (reads-valid img (w .st) (w .root) (w .reads)) (w .path) k (w .t) (w .y) (w .taken) (w .names)
-
-  abbrev row : Row
-  row = agg (p .head) (p .children) (p .rest)
-
-  parent-here : Here img (lastPage (p .chain)) parent row
-  parent-here =
-      let n : ℕ = 4096 * lastPage (p .chain) + base (fill (p .spot) row) in
-      let z : n + before (p .spot) ≡ parent = omega (arith, w .at, p .page, p .offset) in
-      subst (λ (n : ℕ). Here img (lastPage (p .chain)) n row) z
-      (here-fill img (lastPage (p .chain)) n (p .spot) row (chain-page img (w .st) (w .root) (w .reads) (p .chain) (fill (p .spot) row) (p .is) .here))
+  abbrev p : Parent (w .root) k (λ j. placeOf (w .root) (w .path ++ j ∷ [])) (w .t) (w .y)
+  p = found img parent k w
 
   -- Its header has the label of the place's parent,
   pub parent-label : (parent + 6 ≤ length img) × (twoAt img (parent + 2) ≡ w .t .parent .label)
   parent-label =
       let h : w .t .parent ≡ p .head = child-parent (p .head) (p .chain) (into (p .spot) (p .head) (p .rest)) k (p .children) (w .t) (p .takes) in
-      (omega (arith, parent-room img parent k w .0), agg-view img (lastPage (p .chain)) parent (p .head) (p .children) (p .rest) parent-here .label ∙ ap (λ (h : Head). h .label) (sym h))
+      (omega (arith, parent-room img parent k w .0), agg-view img (lastPage (p .chain)) parent (p .head) (p .children) (p .rest) (parent-here img parent k w) .label ∙ ap (λ (h : Head). h .label) (sym h))
 
   -- and its byte is below the most bytes of an image.
   pub parent-low : parent < 4194304

@@ -22,16 +22,13 @@ use Rattle.upward.specs.Levels.{height-rise, root-depth, chainLength}
 use Rattle.writes.specs.Memory.{Mem}
 use Rattle.writes.specs.Back.{fits-rise}
 use Rattle.writes.specs.Around.{Low, chain-low}
+use Rattle.writes.specs.Steps.{bit-le}
 use Rattle.writes.specs.Kept.{Ready}
 use Rattle.pages.specs.Links.{Below}
 use Rattle.split.specs.Group.{Past, Env}
 use Rattle.split.specs.Same.{Marked}
 use Rattle.step.specs.Leaning.{Leaning}
 use Rattle.step.specs.Off.{Off, leaves}
-
-bit-most : (b : Bool) → cond {A = ℕ} b 1 0 ≤ 1
-bit-most true = omega arith
-bit-most false = omega arith
 
 -- A run that writes: no page is missing in the end, what stands around the last record stands on its pages, and its own page is as it was.
 pub record Wet (st : Config) (c : Chain) (old row : Row) (work : Work) (m : Mem) : Type 0 where
@@ -123,7 +120,7 @@ module _ {st : Config} {was : List ℕ} {root : Row} {c : Chain} {old row : Row}
       ∙ in-trailer (lastHeld c old) (stands .fits) 1
 
   pub settled-most : getD img (4096 * page + 4081) 0 ≤ 1
-  settled-most = omega (arith, settled-is, bit-most (lastSettled c))
+  settled-most = omega (arith, settled-is, bit-le (lastSettled c))
 
   pub holder-is : twoAt img (4096 * page + 4084) ≡ lastHolder c
   unfolding twoAt

@@ -60,7 +60,7 @@ size-some (agg h cs rest) e = omega arith
 size-some (lit h c rest) e = omega arith
 size-some (rec p s r rest) e = omega arith
 
-goes-some : (b d : Bool) → not b && d ≡ true → b ≡ false
+pub goes-some : (b d : Bool) → not b && d ≡ true → b ≡ false
 goes-some true d e = absurd (false≢true e)
 goes-some false d e = refl
 

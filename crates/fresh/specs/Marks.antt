@@ -1,54 +1,27 @@
 -- The pages that are not free, by the trailers of an image that passes the check.
 use mathlib.Core.Path.{_≡_, refl, sym, ap, _∙_}
-use mathlib.Core.Bool.{Bool, true, false, cond, not, _||_}
-use mathlib.Core.List.{List, [], _∷_, map}
+use mathlib.Core.Bool.{Bool, true, false, not, _||_}
+use mathlib.Core.List.{List}
 use Prim.Native.Nat.{ℕ, zero, suc, _+_, _*_, _≤_, _<_, max}
 use native.Mathlib.Omega.{arith}
 use borrow.Author.Tests.{leb-true, leb-false, le-leb, lt-ltb, eqb-true, eqb-false, ne-eqb}
-use lib.ListN.{length, getD, set, drop, replicate, getD-replicate, length-set, length-replicate}
-use lib.Seq.{getD-take, getD-drop, getD-set-same, getD-set-other}
+use lib.ListN.{length, getD, set, replicate, getD-replicate, length-set, length-replicate}
+use lib.Seq.{getD-set-same, getD-set-other}
 use lib.Dec.{leb, ltb, eqb}
-use Rattle.model.specs.Row.{Row, store, Config, Held, records, pageAt, recordPage, count, outside}
-use Rattle.model.specs.Reading.{Reads, pageOf}
-use Rattle.model.specs.Calls.{times}
+use Rattle.model.specs.Row.{Row, Config, count, outside}
+use Rattle.model.specs.Reading.{Reads}
 use Rattle.model.specs.Growth.{atRest}
-use Rattle.laws.specs.Image.{AllFit, all-fit, image-page}
-use Rattle.reads.specs.Decode.{in-trailer}
 use Rattle.reads.specs.Reading.{reads-valid, reads-length}
-use Rattle.places.specs.Pages.{pages-count, pages-once}
+use Rattle.places.specs.Pages.{pages-count}
+use Rattle.places.specs.Marks.{mark, mark-times}
 use Rattle.pages.specs.Write.{usedBy}
 use Rattle.split.specs.Group.{Past}
 use Rattle.split.specs.Same.{Marked}
 
--- The first byte of page q's trailer.
-abbrev pub mark : (img : List ℕ) → (q : ℕ) → ℕ
-mark img q = getD img (4096 * q + 4080) 0
-
--- It is 1 on a record's page, and a free page is zero.
-page-mark : (hs : List Held) → AllFit hs → (q : ℕ) → times q (map (λ (h : Held). h .page) hs) ≤ 1 → getD (pageAt hs q) 4080 0 ≡ times q (map (λ (h : Held). h .page) hs)
-page-mark [] f q l = refl
-page-mark (h ∷ hs) f q l = go (eqb q (h .page)) l (page-mark hs (f .1) q)
-  where
-    t : ℕ
-    t = times q (map (λ (h : Held). h .page) hs)
-
-    go : (b : Bool) → cond b 1 0 + t ≤ 1 → (t ≤ 1 → getD (pageAt hs q) 4080 0 ≡ t) → getD (cond b (recordPage h) (pageAt hs q)) 4080 0 ≡ cond b 1 0 + t
-    go true l ih = in-trailer h (f .0) 0 ∙ omega arith
-    go false l ih = ih (omega arith) ∙ omega arith
-
-mark-page : (img : List ℕ) (q : ℕ) → getD (pageOf img q) 4080 0 ≡ mark img q
-mark-page img q = getD-take 4096 (drop (4096 * q) img) 4080 0 (omega arith) ∙ getD-drop (4096 * q) img 4080 0
-
--- So from page 2 on it is how often proxies name the page.
+-- From page 2 on the mark is how often proxies name the page.
 pub mark-count : (img : List ℕ) (st : Config) (root : Row) → Reads img st root → (q : ℕ) → 2 ≤ q → q < st .pages → mark img q ≡ count q root
 mark-count img st root r q low high =
-    let v = reads-valid img st root r in
-    let e : mark img q ≡ cond (eqb q 1) 1 0 + count q root + 0 =
-    sym (mark-page img q)
-    ∙ ap (λ (l : List ℕ). getD (pageOf l q) 4080 0) (r .same)
-    ∙ ap (λ (l : List ℕ). getD l 4080 0) (image-page st root v q (omega arith) high)
-    ∙ page-mark (records 0 (store root)) (all-fit st root v) q (pages-once st root v q)
-    ∙ pages-count root q in
+    let e = mark-times img st root r q (omega arith) high ∙ pages-count root q in
     let z : eqb q 1 ≡ false = ne-eqb q 1 (λ i. omega arith) in
     omega (arith, rw z at e)
 

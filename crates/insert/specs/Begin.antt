@@ -79,6 +79,9 @@ module _ (st : Config) (x : New) (fits : NewFits x) where
   pub node-most : size (asRow st x nil) ≤ 526
   node-most = cond-case (λ (r : Row). size r ≤ 526) (eqb (x .kind) 1) (λ _. omega arith) (λ _. omega (arith, fits .long))
 
+  node-record : length (recordBytes (asRow st x nil)) ≤ 4080
+  node-record = rw (as-lone st x) (omega (arith, length-bytes (asRow st x nil), node-most))
+
   node-fits : Fits (asRow st x nil)
   node-fits = cond-case Fits (eqb (x .kind) 1) (λ _. (fits .head, tt, tt)) (λ _. (fits .head, fits .long, fits .byte, tt))
 
@@ -102,9 +105,6 @@ module _ (st : Config) (x : New) (fits : NewFits x) where
         let r = recordBytes (asRow st x nil) in
         cond-case (λ (i : List ℕ). length i ≡ length img) (apart st h (x .head))
         (λ _. length-setPage (ownPage st x h page w) (pageBytesOf r 1 page) img (length-pageBytesOf r 1 page node-record) k) (λ _. refl)
-      where
-        node-record : length (recordBytes (asRow st x nil)) ≤ 4080
-        node-record = rw (as-lone st x) (omega (arith, length-bytes (asRow st x nil), node-most))
 
     placed-mem : (img : List ℕ) → 4096 * ownPage st x h page w + 4096 ≤ length img → pageOf (imagePlaced st x h page w img) ≡ placeMem st x h page w (pageOf img)
     placed-mem img k = go (apart st h (x .head))
@@ -114,9 +114,6 @@ module _ (st : Config) (x : New) (fits : NewFits x) where
 
         r : Row
         r = asRow st x nil
-
-        node-record : length (recordBytes (asRow st x nil)) ≤ 4080
-        node-record = rw (as-lone st x) (omega (arith, length-bytes (asRow st x nil), node-most))
 
         go : (b : Bool) → pageOf (cond b (setPage q (pageBytesOf (recordBytes r) 1 page) img) img) ≡ cond b (putMem q true page r (pageOf img)) (pageOf img)
         go true =

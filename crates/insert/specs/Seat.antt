@@ -40,10 +40,6 @@ pub record Seat (img used : List ℕ) (n target tolerance page off : ℕ) (new c
   pub split : (getD new 0 0 ≡ 3 → ⊥) → 4080 < length content
       → (o : Off n page target tolerance (getD img (4096 * page + 4081) 0) content used) × (place ≡ movedRecord (o .st) page (o .row) (leaves (o .st) (o .stays) page (o .row) (o .work)) off)
 
-pub bit-le : (b : Bool) → cond {A = ℕ} b 1 0 ≤ 1
-bit-le true = omega arith
-bit-le false = omega arith
-
 -- ── the bytes say whether the node is apart ──
 
 module _ (st : Config) (x : New) (q : ℕ) where

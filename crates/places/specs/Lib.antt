@@ -5,4 +5,5 @@ pub mod Distinct
 pub mod Inside
 pub mod From
 pub mod Pages
+pub mod Marks
 pub mod Content

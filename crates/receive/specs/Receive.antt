@@ -24,8 +24,9 @@ use Rattle.upward.specs.Chain.{Spot, here, inside, fill, before, past, fill-pas
 use Rattle.upward.specs.Taking.{Taking, taking, taking-whole}
 use Rattle.upward.specs.Beside.{offsetIn, Beside, behindNode, behindProxy, taking-first, taking-beside, offset-past}
 use Rattle.upward.specs.Bytes.{here-fill, chain-page, taking-here}
+use Rattle.upward.specs.Parts.{Part, part-fill, part-whole}
 use Rattle.splice.specs.Spot.{isInside}
-use Rattle.receive.specs.Parent.{Part, part-fill, part-whole, parentIn, Parent, parent-of, parent-wide, taking-parent}
+use Rattle.receive.specs.Parent.{parentIn, Parent, parent-of, parent-wide, taking-parent}
 use Rattle.receive.specs.Aim.{Aimed, receiverOf}
 use Rattle.receive.specs.Keeps.{taking-helper}
 use Rattle.receive.specs.Held.{held-by}
@@ -148,24 +149,25 @@ module _ (img : List ℕ) (parent k : ℕ) (w : Aimed img parent k) where
   v : Valid (w .st) (w .root)
   v = reads-valid img (w .st) (w .root) (w .reads)
 
-  p : Parent (w .root) k (λ j. placeOf (w .root) (w .path ++ j ∷ [])) (w .t) (w .y)
-  p = parent-of (w .st) (w .root) v (w .path) k (w .t) (w .y) (w .taken) (w .names)
+  -- The parent, in the records.
+  pub found : Parent (w .root) k (λ j. placeOf (w .root) (w .path ++ j ∷ [])) (w .t) (w .y)
+  found = parent-of (w .st) (w .root) v (w .path) k (w .t) (w .y) (w .taken) (w .names)
 
-  abbrev row : Row
-  row = agg (p .head) (p .children) (p .rest)
+  abbrev pub row : Row
+  row = agg (found .head) (found .children) (found .rest)
 
   -- It stands at its byte.
-  parent-here : Here img (lastPage (p .chain)) parent row
+  pub parent-here : Here img (lastPage (found .chain)) parent row
   parent-here =
-      let n : ℕ = 4096 * lastPage (p .chain) + base (fill (p .spot) row) in
-      let z : n + before (p .spot) ≡ parent = omega (arith, w .at, p .page, p .offset) in
-      subst (λ (n : ℕ). Here img (lastPage (p .chain)) n row) z
-      (here-fill img (lastPage (p .chain)) n (p .spot) row (chain-page img (w .st) (w .root) (w .reads) (p .chain) (fill (p .spot) row) (p .is) .here))
+      let n : ℕ = 4096 * lastPage (found .chain) + base (fill (found .spot) row) in
+      let z : n + before (found .spot) ≡ parent = omega (arith, w .at, found .page, found .offset) in
+      subst (λ (n : ℕ). Here img (lastPage (found .chain)) n row) z
+      (here-fill img (lastPage (found .chain)) n (found .spot) row (chain-page img (w .st) (w .root) (w .reads) (found .chain) (fill (found .spot) row) (found .is) .here))
 
   part-of : (f : Row → ℕ) → Part f → f row ≤ f (w .root)
   part-of f q =
-      let z : f (whole (p .chain) (fill (p .spot) row)) ≡ f (w .root) = ap f (p .is) in
-      omega (arith, part-fill f q (p .spot) row, part-whole f q (p .chain) (fill (p .spot) row))
+      let z : f (whole (found .chain) (fill (found .spot) row)) ≡ f (w .root) = ap f (found .is) in
+      omega (arith, part-fill f q (found .spot) row, part-whole f q (found .chain) (fill (found .spot) row))
 
   deep : nesting row ≤ 1024
   deep = omega (arith, part-of nesting nesting-part, root-nesting img (w .st) (w .root) (w .reads))
@@ -179,14 +181,14 @@ module _ (img : List ℕ) (parent k : ℕ) (w : Aimed img parent k) where
       let o = h .on in
       (omega (arith, h .room, o .inside), omega (arith, h .room, o .high))
 
-  seen : AggView img (lastPage (p .chain)) parent (p .head) (p .children) (p .rest)
-  seen = agg-view img (lastPage (p .chain)) parent (p .head) (p .children) (p .rest) parent-here
+  seen : AggView img (lastPage (found .chain)) parent (found .head) (found .children) (found .rest)
+  seen = agg-view img (lastPage (found .chain)) parent (found .head) (found .children) (found .rest) parent-here
 
   -- Its children,
   pub kids : (len : ℕ) → len ≡ twoAt img (parent + 4) → Rowed img (parent + 6) (parent + len) 1024
   kids len e = record {
-    page = lastPage (p .chain);
-    row = p .children;
+    page = lastPage (found .chain);
+    row = found .children;
     here = seen .children;
     ends = omega (arith, seen .long);
     deep = omega (arith, deep);
@@ -195,18 +197,18 @@ module _ (img : List ℕ) (parent k : ℕ) (w : Aimed img parent k) where
 
   -- and the left sibling.
   module _ (i : ℕ) (z : k ≡ suc i) where
-    left : Leads img (nthOf (parent + 6) (p .children) i .at) [] (placeAt (lastPage (p .chain)) (w .y .offset + 6) i [] (p .children))
+    left : Leads img (nthOf (parent + 6) (found .children) i .at) [] (placeAt (lastPage (found .chain)) (w .y .offset + 6) i [] (found .children))
     left =
-        reach img (lastPage (p .chain)) (parent + 6) (w .y .offset + 6) i [] (p .children) (seen .children) (omega (arith, w .at, p .page)) (omega (arith, deep)) (omega (arith, few))
-        (nth-found (parent + 6) (p .children) i (parent-wide (w .st) (w .root) v k (λ j. placeOf (w .root) (w .path ++ j ∷ [])) (w .t) (w .y) p i z))
+        reach img (lastPage (found .chain)) (parent + 6) (w .y .offset + 6) i [] (found .children) (seen .children) (omega (arith, w .at, found .page)) (omega (arith, deep)) (omega (arith, few))
+        (nth-found (parent + 6) (found .children) i (parent-wide (w .st) (w .root) v k (λ j. placeOf (w .root) (w .path ++ j ∷ [])) (w .t) (w .y) found i z))
 
     abbrev left-place : Place
     left-place = record { page = left .page; offset = left .off }
 
     left-named : placeOf (w .root) (w .path ++ i ∷ []) ≡ some left-place
-    left-named = p .finds i ∙ sym (left .to) ∙ no-entry (left .page) (left .off) (left .row) (left .node)
+    left-named = found .finds i ∙ sym (left .to) ∙ no-entry (left .page) (left .off) (left .row) (left .node)
 
-    left-behind : Behind img (nthOf (parent + 6) (p .children) i .at) (goesAt (w .t))
+    left-behind : Behind img (nthOf (parent + 6) (found .children) i .at) (goesAt (w .t))
     left-behind =
         beside img (w .st) (w .root) (w .reads) (w .path) k (w .t) (w .taken) left-place _ (left .at)
         (taking-beside (w .st) (w .root) v (w .path) (w .t) left-place i (ap (taking (w .root) (w .path)) (sym z) ∙ w .taken) left-named)
@@ -215,7 +217,7 @@ module _ (img : List ℕ) (parent k : ℕ) (w : Aimed img parent k) where
     unfolding kids
     sibling at l =
         let e : k - 1 ≡ i = omega arith in
-        subst (λ (x : ℕ). Behind img x (goesAt (w .t))) (sym (l (kids (twoAt img (parent + 4)) refl) (λ y. omega arith) ∙ ap (λ (i : ℕ). nthOf (parent + 6) (p .children) i .at) e)) left-behind
+        subst (λ (x : ℕ). Behind img x (goesAt (w .t))) (sym (l (kids (twoAt img (parent + 4)) refl) (λ y. omega arith) ∙ ap (λ (i : ℕ). nthOf (parent + 6) (found .children) i .at) e)) left-behind
 
   -- The first child goes behind the header.
   pub goes-first : k ≡ 0 → parent + 6 ≡ goesAt (w .t)
@@ -235,8 +237,8 @@ module _ (img : List ℕ) (parent k : ℕ) (w : Aimed img parent k) where
     par-byte : cond (eqb (parent / 4096) (pos / 4096)) (parent % 4096) 0 ≡ parentIn (w .t)
     par-byte =
         let h = parent-here in
-        let a : parent / 4096 ≡ w .y .page = omega (arith, w .at, p .page, h .start, h .room) in
-        let b : parent % 4096 ≡ w .y .offset = omega (arith, w .at, p .page, h .start, h .room) in
+        let a : parent / 4096 ≡ w .y .page = omega (arith, w .at, found .page, h .start, h .room) in
+        let b : parent % 4096 ≡ w .y .offset = omega (arith, w .at, found .page, h .start, h .room) in
         (λ i. cond (eqb (a i) (on-page i)) (b i) 0) ∙ sym (taking-parent (w .st) (w .root) v (w .path) k (w .t) (w .y) (w .taken) (w .names))
 
     pub received : (par : ℕ) → par ≡ cond (eqb (parent / 4096) (pos / 4096)) (parent % 4096) 0

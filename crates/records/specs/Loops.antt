@@ -8,7 +8,8 @@ use Rattle.model.specs.Row.{two}
 use Rattle.model.specs.Calls.{pageBytes}
 use Rattle.octets.specs.Over.{over, over-next, over-nil, length-over}
 use Rattle.agree.specs.Query.{length-pageBytes}
-use Rattle.records.specs.Up.{mark, left, is-up, not-up, none-left}
+use Rattle.places.specs.Marks.{mark}
+use Rattle.records.specs.Up.{left, is-up, not-up, none-left}
 
 -- ── counting ──
 

@@ -1,23 +1,21 @@
 -- The record pages ascending are an order of the record pages: each one time, and nothing else.
 use mathlib.Core.Path.{_≡_, refl, sym, ap, _∙_}
 use mathlib.Core.Bool.{Bool, true, false, cond}
-use mathlib.Core.List.{List, [], _∷_, map}
-use Prim.Native.Nat.{ℕ, zero, suc, _+_, _*_, _-_, _/_, _≤_, _<_}
+use mathlib.Core.List.{List, _∷_}
+use Prim.Native.Nat.{ℕ, zero, suc, _+_, _-_, _/_, _≤_, _<_}
 use native.Mathlib.Omega.{arith}
 use borrow.Author.Tests.{leb-true, leb-false, ltb-true, ltb-false, eq-eqb, ne-eqb}
-use lib.ListN.{length, getD, drop}
-use lib.Seq.{getD-take, getD-drop}
+use lib.ListN.{length}
 use lib.Dec.{leb, ltb, eqb}
-use Rattle.model.specs.Row.{Row, store, Config, Held, records, pageAt, recordPage}
-use Rattle.model.specs.Reading.{Reads, pageOf}
+use Rattle.model.specs.Row.{Row, Config}
+use Rattle.model.specs.Reading.{Reads}
 use Rattle.model.specs.Calls.{times, recordPages, IsOrder}
 use Rattle.laws.specs.Fits.{Valid}
-use Rattle.laws.specs.Image.{AllFit, all-fit, image-page}
 use Rattle.reads.specs.Steps.{named-inside}
-use Rattle.reads.specs.Decode.{in-trailer}
 use Rattle.reads.specs.Reading.{reads-valid, reads-length}
 use Rattle.places.specs.Pages.{pages-count, pages-once}
-use Rattle.records.specs.Up.{mark, upFrom, upPages}
+use Rattle.places.specs.Marks.{mark, mark-times}
+use Rattle.records.specs.Up.{upFrom, upPages}
 
 -- ── how often a page is listed ──
 
@@ -60,33 +58,16 @@ module _ (img : List ℕ) where
           let same : p ≡ q = omega (arith, ltb-false p q e) in
           ap (λ (z : ℕ). times q (upFrom img (suc k) z)) same ∙ first k q
 
--- ── the mark of a page ──
-
--- The trailer of a record's page begins with 1, and a free page is zero.
-page-mark : (hs : List Held) → AllFit hs → (q : ℕ) → times q (map (λ (h : Held). h .page) hs) ≤ 1
-    → cond (eqb (getD (pageAt hs q) 4080 0) 1) 1 0 ≡ times q (map (λ (h : Held). h .page) hs)
-page-mark [] f q l = refl
-page-mark (h ∷ hs) f q l = go (eqb q (h .page)) l (page-mark hs (f .1) q)
-  where
-    t : ℕ
-    t = times q (map (λ (h : Held). h .page) hs)
-
-    begins : getD (recordPage h) 4080 0 ≡ 1
-    begins = in-trailer h (f .0) 0
-
-    go : (b : Bool) → cond b 1 0 + t ≤ 1 → (t ≤ 1 → cond (eqb (getD (pageAt hs q) 4080 0) 1) 1 0 ≡ t)
-        → cond (eqb (getD (cond b (recordPage h) (pageAt hs q)) 4080 0) 1) 1 0 ≡ cond b 1 0 + t
-    go true l ih = rw begins (omega arith)
-    go false l ih = ih (omega arith) ∙ omega arith
-
-mark-page : (img : List ℕ) (q : ℕ) → getD (pageOf img q) 4080 0 ≡ mark img q
-mark-page img q = getD-take 4096 (drop (4096 * q) img) 4080 0 (omega arith) ∙ getD-drop (4096 * q) img 4080 0
-
 -- ── the order ──
 
 nothing : (n : ℕ) → (1 ≤ n → ⊥) → n ≡ 0
 nothing zero h = refl
 nothing (suc n) h = absurd (h (omega arith))
+
+bit-of : (n : ℕ) → n ≤ 1 → cond (eqb n 1) 1 0 ≡ n
+bit-of zero h = refl
+bit-of (suc zero) h = refl
+bit-of (suc (suc n)) h = absurd (omega arith)
 
 module _ (img : List ℕ) (st : Config) (root : Row) (r : Reads img st root) where
   v : Valid st root
@@ -96,9 +77,7 @@ module _ (img : List ℕ) (st : Config) (root : Row) (r : Reads img st root) whe
   outside q h = nothing (times q (recordPages root)) (λ k. h (named-inside st root v q (rw (pages-count root q) at k)))
 
   inside : (q : ℕ) → 1 ≤ q → q < st .pages → cond (eqb (mark img q) 1) 1 0 ≡ times q (recordPages root)
-  inside q low high =
-      let e = sym (mark-page img q) ∙ ap (λ (l : List ℕ). getD (pageOf l q) 4080 0) (r .same) ∙ ap (λ (l : List ℕ). getD l 4080 0) (image-page st root v q low high) in
-      ap (λ (n : ℕ). cond (eqb n 1) 1 0) e ∙ page-mark (records 0 (store root)) (all-fit st root v) q (pages-once st root v q)
+  inside q low high = ap (λ (n : ℕ). cond (eqb n 1) 1 0) (mark-times img st root r q low high) ∙ bit-of (times q (recordPages root)) (pages-once st root v q)
 
 -- On an image that passes the check, Records in this order is document 01's.
 pub up-order : (img : List ℕ) (st : Config) (root : Row) → Reads img st root → IsOrder root (upPages img)

@@ -2,15 +2,12 @@
 use mathlib.Core.Path.{_≡_}
 use mathlib.Core.Bool.{Bool, true, false, cond}
 use mathlib.Core.List.{List, [], _∷_}
-use Prim.Native.Nat.{ℕ, zero, suc, _+_, _*_, _-_, _/_, _≤_, _<_}
+use Prim.Native.Nat.{ℕ, zero, suc, _+_, _-_, _/_, _≤_, _<_}
 use native.Mathlib.Omega.{arith}
 use borrow.Author.Tests.{eq-eqb, ne-eqb}
-use lib.ListN.{length, getD}
+use lib.ListN.{length}
 use lib.Dec.{eqb}
-
--- The first byte of page q's trailer; of a record page it is 1.
-abbrev pub mark : (img : List ℕ) → (q : ℕ) → ℕ
-mark img q = getD img (4096 * q + 4080) 0
+use Rattle.places.specs.Marks.{mark}
 
 -- The record pages of the k pages from q on.
 unfoldable pub upFrom : (img : List ℕ) → (k q : ℕ) → List ℕ

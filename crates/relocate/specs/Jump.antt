@@ -1,6 +1,6 @@
 -- Where a split puts a node, by the child that is chosen at each level.
 use mathlib.Core.Path.{_≡_, refl, sym, ap, _∙_}
-use mathlib.Core.Bool.{Bool, true, false, cond, not, _&&_, false≢true}
+use mathlib.Core.Bool.{Bool, true, false, cond}
 use Prim.Native.Nat.{ℕ, _+_, _<_}
 use native.Mathlib.Omega.{arith}
 use lib.ListN.{length}
@@ -11,11 +11,7 @@ use Rattle.model.specs.declared.Place.{Place}
 use Rattle.laws.specs.Laws.{⊹-nil, ⊹-assoc}
 use Rattle.track.specs.Moved.{groupPlace, moved}
 use Rattle.cut.specs.Stands.{kidsOf, restOf}
-use Rattle.cut.specs.Chosen.{goes, passed, remains, goesInto, cond-flip, size-some}
-
-goes-some : (b d : Bool) → not b && d ≡ true → b ≡ false
-goes-some true d e = absurd (false≢true e)
-goes-some false d e = refl
+use Rattle.cut.specs.Chosen.{goes, passed, remains, goesInto, cond-flip, size-some, goes-some}
 
 module _ (st : Config) (near p : ℕ) where
   -- Two groups: `left`, which starts at `start`, and `row`, which starts at `at`.

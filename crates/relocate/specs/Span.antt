@@ -11,6 +11,7 @@ use Rattle.model.specs.Growth.{Work, freeFrom}
 use Rattle.laws.specs.Laws.{length-bytes}
 use Rattle.pages.specs.Write.{usedBy, free-same, free-below}
 use Rattle.cut.specs.Stands.{Node, node, sizeOf}
+use Rattle.split.specs.Group.{some-size}
 use Rattle.split.specs.Cutting.{groupI}
 use Rattle.split.specs.Same.{Marked}
 use Rattle.track.specs.Moved.{groupPlace}
@@ -53,12 +54,6 @@ more-base nil k = refl
 more-base (agg h cs rest) k = some-after rest (λ e. k (omega arith))
 more-base (lit h c rest) k = some-after rest (λ e. k (omega arith))
 more-base (rec p s r rest) k = refl
-
-some-size : (r : Row) → (isNil r || loneRec r) ≡ false → 0 < size r
-some-size nil e = absurd (true≢false e)
-some-size (agg h cs rest) e = omega arith
-some-size (lit h c rest) e = omega arith
-some-size (rec p s r rest) e = omega arith
 
 module _ {l : List ℕ} (w : Span l) where
   span-length : length l ≡ size (w .row)

@@ -44,7 +44,7 @@ pub record Part (l : List ℕ) (n : ℕ) : Type 0 where
   pub moves : (isNil row || loneRec row) ≡ false
   pub small : recordSize row ≤ 4080
 
-some-size : (r : Row) → (isNil r || loneRec r) ≡ false → 0 < size r
+pub some-size : (r : Row) → (isNil r || loneRec r) ≡ false → 0 < size r
 some-size nil e = absurd (true≢false e)
 some-size (agg h cs rest) e = omega arith
 some-size (lit h c rest) e = omega arith

@@ -1,14 +1,15 @@
 -- The content of a record: what the code that writes it to its page needs.
 use mathlib.Core.Path.{_≡_, refl, sym, ap, _∙_}
-use mathlib.Core.Bool.{Bool, true, false, cond, true≢false}
+use mathlib.Core.Bool.{Bool, true, false, cond}
 use mathlib.Core.List.{List, _++_}
-use Prim.Native.Nat.{ℕ, _+_, _-_, _<_, _≤_}
+use Prim.Native.Nat.{ℕ, _+_, _-_, _≤_}
 use native.Mathlib.Omega.{arith}
 use lib.ListN.{length, take, drop, getD}
 use lib.Seq.{take-all}
 use Rattle.model.specs.Row.{Row, nil, agg, lit, rec, size, isNil, lone, base, recordSize, header, bytes, recordBytes}
 use Rattle.laws.specs.Laws.{length-bytes}
 use Rattle.laws.specs.Image.{length-record}
+use Rattle.cut.specs.Chosen.{size-some}
 use Rattle.pages.specs.Write.{setPage, pageBytesOf}
 use Rattle.pages.specs.Links.{Below, Linked, links}
 use Rattle.pages.specs.Relinked.{written}
@@ -56,18 +57,12 @@ drop-base r = go (lone r)
     go true = refl
     go false = refl
 
-some-size : (r : Row) → isNil r ≡ false → 0 < size r
-some-size nil e = absurd (true≢false e)
-some-size (agg h cs rest) e = omega arith
-some-size (lit h c rest) e = omega arith
-some-size (rec p s r rest) e = omega arith
-
 module _ {l : List ℕ} {n : ℕ} (w : Content l n) where
   content-length : length l ≡ recordSize (w .row)
   content-length = ap length (w .is) ∙ length-record (w .row)
 
   pub content-fits : (1 ≤ length l) × (length l ≤ 4080)
-  content-fits = omega (arith, content-length, w .small, some-size (w .row) (w .some))
+  content-fits = omega (arith, content-length, w .small, size-some (w .row) (w .some))
 
   pub start-inside : {from : ℕ} → from ≡ base (w .row) → from ≤ length l
   start-inside e = omega (arith, content-length)

@@ -7,3 +7,4 @@ pub mod Steady
 pub mod Bytes
 pub mod Levels
 pub mod Full
+pub mod Parts

@@ -9,6 +9,7 @@ use Rattle.model.specs.Row.{Head, Row, nil, agg, lit, rec, _⊹_, isNil, lone, 
 use Rattle.model.specs.Tree.{width, New}
 use Rattle.model.specs.Growth.{Work, freeFrom, taken, apart, asRow, place}
 use Rattle.laws.specs.Laws.{⊹-assoc}
+use Rattle.laws.specs.Bound.{isNil-⊹}
 use Rattle.upward.specs.Chain.{Spot, here, inside, fill, past, into, Chain, top, below}
 use Rattle.upward.specs.Taking.{Taking, takingAt, takingAfter, takingChild, takingIn, taking}
 
@@ -24,18 +25,12 @@ abbrev pub Steady : Spot → Row → Type 0
 Steady (here left) row = (isNil left ≡ false) × (lone (left ⊹ row) ≡ false)
 Steady (inside left h rest s) row = Unit {0}
 
-some-⊹ : (a b : Row) → isNil b ≡ false → isNil (a ⊹ b) ≡ false
-some-⊹ nil b e = e
-some-⊹ (agg h cs rest) b e = refl
-some-⊹ (lit h c rest) b e = refl
-some-⊹ (rec p s r rest) b e = refl
-
 onward-past : (s : Spot) (one rest : Row) → Onward s (one ⊹ rest) → Onward (past s one) rest
 onward-past (here left) one rest o = ap lone (⊹-assoc left one rest) ∙ o
 onward-past (inside left h right s) one rest o = tt
 
 steady-past : (s : Spot) (one rest : Row) → isNil one ≡ false → Onward s (one ⊹ rest) → Steady (past s one) rest
-steady-past (here left) one rest e o = (some-⊹ left one e, ap lone (⊹-assoc left one rest) ∙ o)
+steady-past (here left) one rest e o = (isNil-⊹ left one e, ap lone (⊹-assoc left one rest) ∙ o)
 steady-past (inside left h right s) one rest e o = tt
 
 steady-into : (s : Spot) (h : Head) (rest row : Row) → Steady (into s h rest) row
@@ -108,8 +103,8 @@ lone-⊹ (rec p s r rest) x y l e = refl
 -- two rows that are not empty are no lone node
 two-rows : (a b : Row) → isNil a ≡ false → isNil b ≡ false → lone (a ⊹ b) ≡ false
 two-rows nil b e f = absurd (true≢false e)
-two-rows (agg h cs rest) b e f = some-⊹ rest b f
-two-rows (lit h c rest) b e f = some-⊹ rest b f
+two-rows (agg h cs rest) b e f = isNil-⊹ rest b f
+two-rows (lit h c rest) b e f = isNil-⊹ rest b f
 two-rows (rec p s r rest) b e f = refl
 
 steady-lone : (s : Spot) (one row : Row) → isNil one ≡ false → Steady s row → lone (fill s (one ⊹ row)) ≡ lone (fill s row)

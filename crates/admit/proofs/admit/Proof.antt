@@ -1,13 +1,13 @@
 -- `admit::admit`: each test in the order of the refusal table, with the tests before it passed.
 use mathlib.Core.Path.{_≡_, refl, sym, _∙_}
-use Prim.Native.Nat.{_+_, _*_, _<_}
+use Prim.Native.Nat.{_+_, _*_}
 use native.Mathlib.Omega.{arith}
 use borrow.Author.Needs.{needs}
 use Rattle.model.specs.Tree.{Node}
 use Rattle.stands.specs.Nodes.{ReadAt}
 use Rattle.agree.specs.Open.{passing}
 use Rattle.admit.specs.Parent.{read-room}
-use Rattle.admit.specs.Admit.{Formed, Number, foundAt, refuses, too-long, wrong-kind, long-content, no-node, parent-is, parent-read, by-parent}
+use Rattle.admit.specs.Admit.{Formed, foundAt, refuses, too-long, wrong-kind, long-content, no-node, parent-is, parent-read, by-parent}
 use Rattle.admit.proofs.admit.Statement.{statement}
 use Rattle.admit.proofs.admit.Tie as tie
 

@@ -1,15 +1,11 @@
 -- `insert::new_place`: the three cases, the last by what the split's page leaves.
-use mathlib.Core.Path.{_≡_, refl, sym, ap, _∙_}
-use mathlib.Core.Bool.{cond, true}
-use Prim.Native.Nat.{ℕ, _+_, _*_, _≤_}
+use mathlib.Core.Path.{refl, sym, ap, _∙_}
+use mathlib.Core.Bool.{true}
+use Prim.Native.Nat.{ℕ}
 use native.Mathlib.Omega.{arith}
 use borrow.Author.Needs.{needs}
-use lib.ListN.{length, getD, set}
-use Rattle.model.specs.Growth.{splitPoint}
-use Rattle.model.specs.declared.Place.{Place}
-use Rattle.step.specs.Off.{Off, leaves, leftImage, off-sizes, off-page, off-env, off-large}
-use Rattle.track.specs.Moved.{movedRecord}
-use Rattle.insert.specs.Seat.{Seat, bit-le}
+use Rattle.step.specs.Off.{leaves, off-sizes, off-env, off-large}
+use Rattle.writes.specs.Steps.{bit-le}
 use Rattle.insert.proofs.new_place.Statement.{statement}
 use Rattle.insert.proofs.new_place.Tie as tie
 

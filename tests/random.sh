@@ -1,0 +1,27 @@
+#!/usr/bin/env bash
+# Random calls with the reference's answers, replayed on the library, from four seeds: random.sh inserts|hostile [COUNT].
+# Without COUNT, 200,000 inserts or 1,000,000 hostile calls. REPLAY names a replay program that is built already;
+# with MEMCHECK=1 it runs under valgrind, which finds what it reads or writes out of bounds.
+set -euo pipefail
+cd "$(dirname "$0")/.."
+case "${1:-}" in
+    inserts) count=${2:-200000} ;;
+    hostile) count=${2:-1000000} ;;
+    *) echo "usage: random.sh inserts|hostile [COUNT]" >&2; exit 2 ;;
+esac
+kind=$1
+mkdir -p target
+replay=${REPLAY:-}
+if [ -z "$replay" ]; then
+    echo "$kind: proving and building the archive (minutes)"
+    rt staticlib panel >/dev/null
+    replay=target/replay
+    "${CC:-cc}" -std=c99 -O2 -Wall -Wextra -Werror tests/replay.c target/staticlib/libpanel.a -o "$replay"
+fi
+under=()
+if [ -n "${MEMCHECK:-}" ]; then under=(valgrind --quiet --error-exitcode=3); fi
+: >"target/$kind.log"
+for seed in 1 2 3 4; do
+    python3 -B "tests/make_$kind.py" "$seed" $((count / 4)) | "${under[@]}" "$replay" /dev/stdin | tee -a "target/$kind.log"
+done
+awk -v kind="$kind" '/ calls, / { calls += $2; differences += $4 } END { print kind ": " calls " calls compared, " differences " differences" }' "target/$kind.log"
