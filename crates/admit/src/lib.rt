@@ -10,6 +10,7 @@ ghost use Rattle.model.specs.Tree.{Node, shown};
 ghost use Rattle.model.specs.Reading.{Reads};
 ghost use Rattle.model.specs.Calls.{checkOf, findOf, insertNumber, newOf};
 ghost use Rattle.stands.specs.Nodes.{ReadAt};
+ghost use Rattle.stands.specs.Widths.{Widths};
 ghost use Rattle.receive.specs.Receive.{LeftAt};
 ghost use Rattle.admit.specs.Parent.{parentNumber};
 ghost use Rattle.admit.specs.Admit.{refusedBy, badKind};
@@ -49,8 +50,8 @@ struct Tried {
 
 // The tests of the node at the byte `parent` as the parent of a new child: 8 for a literal, 9 if the child's number is above its number of children.
 // The search for the left sibling is the test, so that the children are passed one time.
-fn try_parent(image: &[u8], parent: usize, child: usize) -> Tried
-    requires { ⌜ ((n : Node) × ReadAt (now image) n parent) ⌝ }
+fn try_parent(image: &[u8], widths: &[u32; 1024], parent: usize, child: usize) -> Tried
+    requires { ⌜ ((n : Node) × ReadAt (now image) n parent) × Widths (now image) (now widths) ⌝ }
     ensures { λ r. ⌜ ((n : Node) → ReadAt (now (image .entry)) n parent → r .number ≡ parentNumber n child) ⌝ }
     ensures { λ r. ⌜ (r .number ≡ 0 → LeftAt (now (image .entry)) parent child (r .left)) ⌝ }
 {
@@ -61,7 +62,7 @@ fn try_parent(image: &[u8], parent: usize, child: usize) -> Tried
         return Tried { number: 0, left: 0 };
     }
     let end = parent + two(image, parent + 4);
-    let left = nth(image, parent + 6, end, child - 1, 1024);
+    let left = nth(image, widths, parent + 6, end, child - 1, 1024);
     if !left.found {
         return Tried { number: 9, left: 0 };
     }
@@ -72,8 +73,15 @@ fn try_parent(image: &[u8], parent: usize, child: usize) -> Tried
 }
 
 // The tests of an insert in the order of the refusal table.
-pub fn admit(image: &[u8], path: &[u8], child: usize, kind: usize, content: &[u8]) -> Admitted
-    requires { ⌜ checkOf (now image) ≡ 0 ⌝ }
+pub fn admit(
+    image: &[u8],
+    widths: &[u32; 1024],
+    path: &[u8],
+    child: usize,
+    kind: usize,
+    content: &[u8],
+) -> Admitted
+    requires { ⌜ (checkOf (now image) ≡ 0) × Widths (now image) (now widths) ⌝ }
     ensures { λ r. ⌜ ((st : Config) (root : Row) → Reads (now (image .entry)) st root → (label : ℕ)
         → r .number ≡ insertNumber (shown root) (now (path .entry)) child (newOf kind label (now (content .entry))) false) ⌝ }
     ensures { λ r. ⌜ (r .number ≡ 0 → r .parent ≡ 4096 * findOf (now (image .entry)) (now (path .entry)) .place .page + findOf (now (image .entry)) (now (path .entry)) .place .offset) ⌝ }
@@ -88,13 +96,13 @@ pub fn admit(image: &[u8], path: &[u8], child: usize, kind: usize, content: &[u8
     if 520 < content.len() {
         return refused(6);
     }
-    let found = find_in(image, path);
+    let found = find_in(image, widths, path);
     if found.number != 0 {
         return refused(7);
     }
     let place = found.place;
     let parent = 4096 * place.page + place.offset;
-    let t = try_parent(image, parent, child);
+    let t = try_parent(image, widths, parent, child);
     Admitted {
         number: t.number,
         parent: parent,

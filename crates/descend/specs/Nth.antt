@@ -32,13 +32,9 @@ nthOf pos (rec p s r rest) k =
     cond (inside .found) inside beyond
 
 -- A test whose outcome is known.
-pub pick-true : {A : Type 0} (b : Bool) (x y : A) → b ≡ true → cond b x y ≡ x
+pick-true : {A : Type 0} (b : Bool) (x y : A) → b ≡ true → cond b x y ≡ x
 pick-true true x y e = refl
 pick-true false x y e = absurd (false≢true e)
-
-pub pick-false : {A : Type 0} (b : Bool) (x y : A) → b ≡ false → cond b x y ≡ y
-pick-false true x y e = absurd (true≢false e)
-pick-false false x y e = refl
 
 pub nth-left : (pos : ℕ) (row : Row) (k : ℕ) → width row ≤ k → nthOf pos row k ≡ leftOver (k - width row)
 unfolding nthOf

@@ -1,6 +1,6 @@
 -- A walk along a row that stands in an image: what it asks at each node, and what is left after it.
 use mathlib.Core.Path.{_≡_, refl, sym, ap, subst, _∙_}
-use mathlib.Core.Bool.{true, false, cond}
+use mathlib.Core.Bool.{cond}
 use mathlib.Core.List.{List}
 use Prim.Native.Nat.{ℕ, suc, _+_, _*_, _-_, _≤_, _<_}
 use native.Mathlib.Omega.{arith}
@@ -11,8 +11,9 @@ use Rattle.model.specs.Tree.{width}
 use Rattle.model.specs.Reading.{twoAt}
 use Rattle.reads.specs.Steps.{steps}
 use Rattle.stands.specs.Here.{nesting, PageIn, Here, agg-view, lit-view, rec-view}
+use Rattle.stands.specs.Widths.{Widths}
 use Rattle.descend.specs.declared.NthNode.{NthNode}
-use Rattle.descend.specs.Nth.{foundAt, leftOver, nthOf, pick-true, pick-false}
+use Rattle.descend.specs.Nth.{foundAt, leftOver, nthOf, nth-inside, nth-after}
 
 -- A row stands from pos to end, with records nested at most `depth` deep below it.
 pub record Rowed (img : List ℕ) (pos end depth : ℕ) : Type 0 where
@@ -28,6 +29,10 @@ width-steps nil = omega arith
 width-steps (agg h cs rest) = omega (arith, width-steps rest)
 width-steps (lit h c rest) = omega (arith, width-steps rest)
 width-steps (rec p s r rest) = omega (arith, width-steps r, width-steps rest)
+
+-- A row is shorter than a page.
+pub short : (img : List ℕ) (pos end depth : ℕ) → Rowed img pos end depth → end - pos < 4096
+short img pos end depth w = omega (arith, w .ends, w .here .room, w .here .start)
 
 pub room : (img : List ℕ) (pos end depth : ℕ) → Rowed img pos end depth → (end + 16 ≤ length img) × (end < 4194304)
 room img pos end depth w =
@@ -82,19 +87,21 @@ module _ (img : List ℕ) (i end depth len : ℕ) (some : i < end) (long : len �
 
 -- ── a proxy ──
 
--- The page that a proxy names.
+-- The page that a proxy names, and a proxy's length.
 pub record Proxied (img : List ℕ) (i depth p : ℕ) : Type 0 where
   pub on : PageIn img p
   pub below : 1 ≤ depth
+  pub long : 8 ≡ twoAt img (i + 4)
 
 -- What the row inside the record and the row behind the proxy are to the whole row.
-pub record Entered (img : List ℕ) (i end depth len start stop : ℕ) (row : Row) : Type 0 where
+pub record Entered (img : List ℕ) (i end depth len p start stop : ℕ) (row : Row) : Type 0 where
   pub more : 6 ≤ len
   pub inside : Rowed img start stop (depth - 1)
   pub after : Rowed img (i + len) end depth
   pub wide : width row ≡ width (inside .row) + width (after .row)
-  pub within : (k : ℕ) (r : NthNode) → r ≡ nthOf start (inside .row) k → r .found ≡ true → r ≡ nthOf i row k
-  pub beyond : (k : ℕ) (r : NthNode) → r ≡ nthOf start (inside .row) k → r .found ≡ false → nthOf (i + len) (after .row) (r .at) ≡ nthOf i row k
+  pub told : (c : List ℕ) → Widths img c → getD c p 0 ≡ width (inside .row)
+  pub within : (k : ℕ) → k < width (inside .row) → nthOf start (inside .row) k ≡ nthOf i row k
+  pub beyond : (k : ℕ) → width (inside .row) ≤ k → nthOf (i + len) (after .row) (k - width (inside .row)) ≡ nthOf i row k
 
 module _ (img : List ℕ) (i end depth : ℕ) (some : i < end) (kind : getD img i 0 ≡ 3) where
   never : {A : Type 0} → (k : ℕ) → getD img i 0 ≡ k → (k ≡ 3 → ⊥) → A
@@ -106,14 +113,13 @@ module _ (img : List ℕ) (i end depth : ℕ) (some : i < end) (kind : getD img 
   proxy-row p page named (lit l c rest) h e d = never 2 (lit-view img page i l c rest h .kind) (λ z. omega arith)
   proxy-row p page named (rec q s r rest) h e d =
       let v = rec-view img page i q s r rest h in
-      record { on = subst (PageIn img) (sym (named ∙ v .name)) (v .under .here .on); below = omega arith }
+      record { on = subst (PageIn img) (sym (named ∙ v .name)) (v .under .here .on); below = omega arith; long = sym (v .long) }
 
   pub proxied : (p : ℕ) → p ≡ twoAt img (i + 6) → Rowed img i end depth → Proxied img i depth p
   proxied p named w = proxy-row p (w .page) named (w .row) (w .here) (w .ends) (w .deep)
 
   module _ (len p start stop : ℕ) (long : len ≡ twoAt img (i + 4)) (named : p ≡ twoAt img (i + 6)) (starts : start ≡ startOn img p) (stops : stop ≡ endOn img p) where
-    enter-row : (page : ℕ) (row : Row) → Here img page i row → end ≡ i + size row → nesting row ≤ depth → steps row ≤ 4194304 → Entered img i end depth len start stop row
-    unfolding nthOf
+    enter-row : (page : ℕ) (row : Row) → Here img page i row → end ≡ i + size row → nesting row ≤ depth → steps row ≤ 4194304 → Entered img i end depth len p start stop row
     enter-row page nil h e d f = absurd (omega arith)
     enter-row page (agg l cs rest) h e d f = never 1 (agg-view img page i l cs rest h .kind) (λ z. omega arith)
     enter-row page (lit l c rest) h e d f = never 2 (lit-view img page i l c rest h .kind) (λ z. omega arith)
@@ -124,20 +130,17 @@ module _ (img : List ℕ) (i end depth : ℕ) (some : i < end) (kind : getD img 
         let z : i + 8 ≡ i + len = omega (arith, v .long) in
         let a : start ≡ 4096 * q + base r = starts ∙ ap (startOn img) same ∙ ap (λ (n : ℕ). 4096 * q + n) (u .first) in
         let b : stop ≡ 4096 * q + (base r + size r) = stops ∙ ap (endOn img) same ∙ ap (λ (n : ℕ). 4096 * q + n) (u .used) in
-        let c : (k : ℕ) (x : NthNode) → x ≡ nthOf start r k → x ≡ nthOf (4096 * q + base r) r k = λ k x y. y ∙ ap (λ (n : ℕ). nthOf n r k) a in
         record {
           more = omega (arith, v .long);
           inside = record { page = q; row = r; here = subst (λ (n : ℕ). Here img q n r) (sym a) (u .here); ends = omega arith; deep = omega arith; few = omega arith };
           after = record { page = page; row = rest; here = subst (λ (n : ℕ). Here img page n rest) z (v .after); ends = omega arith; deep = omega arith; few = omega arith };
           wide = refl;
-          within = λ k x y t. c k x y ∙ sym (pick-true _ _ _ (ap (λ (m : NthNode). m .found) (sym (c k x y)) ∙ t));
-          beyond = λ k x y t.
-              ap (λ (n : ℕ). nthOf n rest (x .at)) (sym z)
-              ∙ ap (λ (m : NthNode). nthOf (i + 8) rest (m .at)) (c k x y)
-              ∙ sym (pick-false _ _ _ (ap (λ (m : NthNode). m .found) (sym (c k x y)) ∙ t));
+          told = λ c t. ap (λ (n : ℕ). getD c n 0) same ∙ t .told q page r (h .on .low) u;
+          within = λ k t. ap (λ (n : ℕ). nthOf n r k) a ∙ sym (nth-inside i q s r rest k t);
+          beyond = λ k t. ap (λ (n : ℕ). nthOf n rest (k - width r)) (sym z) ∙ sym (nth-after i q s r rest k t);
         }
 
-    pub enter : (w : Rowed img i end depth) → Entered img i end depth len start stop (w .row)
+    pub enter : (w : Rowed img i end depth) → Entered img i end depth len p start stop (w .row)
     enter w = enter-row (w .page) (w .row) (w .here) (w .ends) (w .deep) (w .few)
 
 -- ── counting ──
@@ -162,9 +165,9 @@ counted img i end depth n t s h = go (s .rest .row) (s .rest .ends) (s .sum)
 pub count-node : (img : List ℕ) (i end depth n t len : ℕ) → (s : Counted img i end depth n t) → Passed img i end depth len (s .rest .row) → Counted img (i + len) end depth (n + 1) t
 count-node img i end depth n t len s a = record { rest = a .after; sum = omega (arith, s .sum, a .wide) }
 
-pub count-proxy : (img : List ℕ) (i end depth n t len start stop m : ℕ) → (s : Counted img i end depth n t)
-    → (a : Entered img i end depth len start stop (s .rest .row)) → m ≡ width (a .inside .row) → Counted img (i + len) end depth (n + m) t
-count-proxy img i end depth n t len start stop m s a e = record { rest = a .after; sum = omega (arith, s .sum, a .wide) }
+pub count-proxy : (img : List ℕ) (i end depth n t len p start stop m : ℕ) → (s : Counted img i end depth n t)
+    → (a : Entered img i end depth len p start stop (s .rest .row)) → m ≡ width (a .inside .row) → Counted img (i + len) end depth (n + m) t
+count-proxy img i end depth n t len p start stop m s a e = record { rest = a .after; sum = omega (arith, s .sum, a .wide) }
 
 -- ── searching ──
 
@@ -196,11 +199,13 @@ seek-node img i end depth left len t s a z =
     let e : suc (left - 1) ≡ left = omega arith in
     record { rest = a .after; same = a .later (left - 1) ∙ ap (nthOf i (s .rest .row)) e ∙ s .same }
 
-pub seek-within : (img : List ℕ) (i end depth left len start stop : ℕ) (t r : NthNode) → (s : Sought img i end depth left t)
-    → (a : Entered img i end depth len start stop (s .rest .row)) → r ≡ nthOf start (a .inside .row) left → r .found ≡ true → r ≡ t
-seek-within img i end depth left len start stop t r s a e f = a .within left r e f ∙ s .same
+-- Into a record that shows more nodes than are to be passed, and past one that does not, by the table's number of its nodes.
+module _ (img : List ℕ) (i end depth left len p start stop : ℕ) (t : NthNode) (s : Sought img i end depth left t)
+    (a : Entered img i end depth len p start stop (s .rest .row)) (c : List ℕ) (table : Widths img c) where
+  pub seek-inside : left < getD c p 0 → Sought img start stop (depth - 1) left t
+  seek-inside h = record { rest = a .inside; same = a .within left (omega (arith, a .told c table)) ∙ s .same }
 
-pub seek-beyond : (img : List ℕ) (i end depth left len start stop : ℕ) (t r : NthNode) → (s : Sought img i end depth left t)
-    → (a : Entered img i end depth len start stop (s .rest .row)) → r ≡ nthOf start (a .inside .row) left → r .found ≡ false
-    → Sought img (i + len) end depth (r .at) t
-seek-beyond img i end depth left len start stop t r s a e f = record { rest = a .after; same = a .beyond left r e f ∙ s .same }
+  pub seek-past : getD c p 0 ≤ left → Sought img (i + len) end depth (left - getD c p 0) t
+  seek-past h =
+      let e = a .told c table in
+      record { rest = a .after; same = ap (λ (n : ℕ). nthOf (i + len) (a .after .row) (left - n)) e ∙ a .beyond left (omega arith) ∙ s .same }

@@ -12,6 +12,7 @@ ghost use Rattle.model.specs.Tree as tree;
 ghost use Rattle.model.specs.Answers.{findRefused};
 ghost use Rattle.model.specs.Calls.{checkOf, findOf};
 ghost use Rattle.stands.specs.Here.{PageIn};
+ghost use Rattle.stands.specs.Widths.{Widths};
 ghost use Rattle.descend.specs.Nth.{nthOf};
 ghost use Rattle.descend.specs.Rowed.{Rowed};
 ghost use Rattle.descend.specs.Entries.{fourAt};
@@ -64,37 +65,40 @@ pub struct NthNode {
     pub at: usize,
 }
 
-// Node k of those that the row from pos to end shows.
-pub fn nth(image: &[u8], pos: usize, end: usize, k: usize, depth: usize) -> NthNode
-    requires { ⌜ Rowed (now image) pos end depth ⌝ }
+// Node k of those that the row from pos to end shows. `widths` has how many nodes each record shows, so that only the records that hold the node are read.
+pub fn nth(
+    image: &[u8],
+    widths: &[u32; 1024],
+    pos: usize,
+    end: usize,
+    k: usize,
+    depth: usize,
+) -> NthNode
+    requires { ⌜ Rowed (now image) pos end depth × Widths (now image) (now widths) ⌝ }
     ensures { λ r. ⌜ ((w : Rowed (now (image .entry)) pos end depth) → r ≡ nthOf pos (w .row) k) ⌝ }
 {
     let mut left = k;
     let mut i = pos;
-    while i < end {
-        let next = i + two(image, i + 4);
+    let mut stop = end;
+    let mut deep = depth;
+    while i < stop {
         if image[i] == 3 {
-            if depth == 0 {
-                return NthNode {
-                    found: false,
-                    at: 0,
-                };
-            }
             let p = two(image, i + 6);
-            let start = row_start(image, p);
-            let stop = row_end(image, p);
-            let r = nth(image, start, stop, left, depth - 1);
-            if r.found {
-                return r;
+            let n = widths[p] as usize;
+            if n <= left {
+                left = left - n;
+                i = i + 8;
+            } else {
+                i = row_start(image, p);
+                stop = row_end(image, p);
+                deep = deep - 1;
             }
-            left = r.at;
+        } else if left == 0 {
+            return NthNode { found: true, at: i };
         } else {
-            if left == 0 {
-                return NthNode { found: true, at: i };
-            }
             left = left - 1;
+            i = i + two(image, i + 4);
         }
-        i = next;
     }
     NthNode {
         found: false,
@@ -132,8 +136,8 @@ fn found(pos: usize) -> FindAnswer
 }
 
 // Find, on an image that passes the check: the place of the node that the path names.
-pub fn find_in(image: &[u8], path: &[u8]) -> FindAnswer
-    requires { ⌜ checkOf (now image) ≡ 0 ⌝ }
+pub fn find_in(image: &[u8], widths: &[u32; 1024], path: &[u8]) -> FindAnswer
+    requires { ⌜ (checkOf (now image) ≡ 0) × Widths (now image) (now widths) ⌝ }
     ensures { λ r. ⌜ r ≡ findOf (now (image .entry)) (now (path .entry)) ⌝ }
 {
     if 92 < path.len() {
@@ -150,7 +154,7 @@ pub fn find_in(image: &[u8], path: &[u8]) -> FindAnswer
         }
         let k = four(path, i);
         let end = pos + two(image, pos + 4);
-        let r = nth(image, pos + 6, end, k, 1024);
+        let r = nth(image, widths, pos + 6, end, k, 1024);
         if !r.found {
             return refused(7);
         }

@@ -18,6 +18,7 @@ ghost use Rattle.model.specs.Row.{recordSize, recordBytes};
 ghost use Rattle.octets.specs.Over.{over};
 ghost use Rattle.model.specs.Answers.{insertRefused};
 ghost use Rattle.model.specs.Calls.{checkOf, insertOf};
+ghost use Rattle.stands.specs.Widths.{Widths};
 ghost use Rattle.insert.specs.Taken.{Taken, taken};
 ghost use Rattle.insert.specs.Begin.{Begin, Grew};
 ghost use Rattle.insert.specs.Seat.{Seat};
@@ -155,19 +156,20 @@ fn refused(number: u32) -> InsertAnswer
 // Insert, on an image that passes the check. The dry run finds whether the store is full, so that a refused insert alters no byte.
 pub fn insert_of(
     image: &mut [u8],
+    widths: &[u32; 1024],
     path: &[u8],
     child: u32,
     kind: usize,
     label: u16,
     content: &[u8],
 ) -> InsertAnswer
-    requires { ⌜ checkOf (now image) ≡ 0 ⌝ }
+    requires { ⌜ (checkOf (now image) ≡ 0) × Widths (now image) (now widths) ⌝ }
     ensures answer { λ r. ⌜ r ≡ insertOf (now (image .entry)) (now (path .entry)) child kind label (now (content .entry)) .0 ⌝ }
     ensures image { λ _. ⌜ now (image .exit) ≡ insertOf (now (image .entry)) (now (path .entry)) child kind label (now (content .entry)) .1 ⌝ }
 {
     let k = child as usize;
     let l = label as usize;
-    let a = admit(image, path, k, kind, content);
+    let a = admit(image, widths, path, k, kind, content);
     if a.number != 0 {
         return refused(a.number);
     }

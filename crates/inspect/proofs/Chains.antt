@@ -8,12 +8,17 @@ use lib.ListN.{length, take, drop, length-drop}
 use lib.Seq.{drop-drop, take-all}
 use lib.Dec.{eqb}
 use borrow.Author.Tests.{lt-ltb, eqb-true, eqb-false}
+use Rattle.model.specs.Row.{nil}
+use Rattle.model.specs.Tree.{width}
+use Rattle.model.specs.Reading.{twoAt}
 use Rattle.walks.specs.Tests.{sizeOf}
-use Rattle.walks.specs.Walk.{State, nodeOf, listOf}
+use Rattle.walks.specs.Walk.{State, Decoded, asAgg, before, nodeOf, listOf}
+use Rattle.walks.specs.Widths.{widthsAfter}
 use Rattle.walks.specs.Facts.{rest-is}
 use Rattle.inspect.specs.Leaf.{aggregateOf, innerOf, Only}
+use Rattle.inspect.specs.Came.{Came}
 use Rattle.inspect.proofs.Leaves.{aggregate-head, aggregate-size}
-use Rattle.inspect.proofs.Walks.{list-none, list-bad, list-more, node-inner}
+use Rattle.inspect.proofs.Walks.{list-none, list-bad, list-more, node-inner, came-at, came-agg}
 
 module _ (s : List ℕ) (level : ℕ) where
   abbrev pub Each : ℕ → Type 0
@@ -48,56 +53,75 @@ module _ (s : List ℕ) (level : ℕ) where
   each-fits zero long low h = (omega arith, omega arith)
   each-fits (suc d) long low h = let f = inner-fits d (h d (omega arith)) in (omega (arith, f .0), omega (arith, f .1))
 
+-- Two outcomes with the same walk, whose rows leave the same in a table of widths.
+record Alike (d e : Decoded) : Type 0 where
+  walk : d .walk ≡ e .walk
+  table : (c : List ℕ) → widthsAfter (d .row) c ≡ widthsAfter (e .row) c
+
+alike-same : {d e : Decoded} → d ≡ e → Alike d e
+alike-same q = record { walk = ap (λ (x : Decoded). x .walk) q; table = λ c. ap (λ (x : Decoded). widthsAfter (x .row) c) q }
+
+alike-trans : {d e f : Decoded} → Alike d e → Alike e f → Alike d f
+alike-trans a b = record { walk = a .walk ∙ b .walk; table = λ c. a .table c ∙ b .table c }
+
 -- a walk that is refused stays so
-list-refused : (img s : List ℕ) (page holder level : ℕ) (w : State) → w .left ≡ 0 → w ≡ listOf img s page holder level w .walk
+list-refused : (img s : List ℕ) (page holder level : ℕ) (w : State) → w .left ≡ 0 → listOf img s page holder level w ≡ record { row = nil; walk = w }
 list-refused img s page holder level w z = go (eqb (length s) 0) refl
   where
-    go : (x : Bool) → eqb (length s) 0 ≡ x → w ≡ listOf img s page holder level w .walk
+    go : (x : Bool) → eqb (length s) 0 ≡ x → listOf img s page holder level w ≡ record { row = nil; walk = w }
     go true q = list-none img s page holder level w (eqb-true _ _ q)
     go false q = list-bad img s page holder level w (eqb-false _ _ q) z
 
 -- a list of one aggregate goes as the list that the aggregate holds
 list-only : (img s : List ℕ) (page holder level : ℕ) (w : State) → aggregateOf s (length s) holder level ≡ true
-    → listOf img s page holder level w .walk ≡ listOf img (drop 6 s) page 1 (level + 1) w .walk
+    → Alike (listOf img s page holder level w) (listOf img (drop 6 s) page 1 (level + 1) w)
+unfolding widthsAfter
 list-only img s page holder level w e = go (eqb (w .left) 0) refl
   where
-    go : (x : Bool) → eqb (w .left) 0 ≡ x → listOf img s page holder level w .walk ≡ listOf img (drop 6 s) page 1 (level + 1) w .walk
+    go : (x : Bool) → eqb (w .left) 0 ≡ x → Alike (listOf img s page holder level w) (listOf img (drop 6 s) page 1 (level + 1) w)
     go true q =
         let z = eqb-true _ _ q in
-        sym (list-refused img s page holder level w z) ∙ list-refused img (drop 6 s) page 1 (level + 1) w z
+        alike-same (list-refused img s page holder level w z ∙ sym (list-refused img (drop 6 s) page 1 (level + 1) w z))
     go false q =
         let f = aggregate-head s holder level e in
         let n = aggregate-size s holder level e in
+        let d = listOf img (drop 6 s) page 1 (level + 1) w in
+        let one : nodeOf img (take (sizeOf s) s) page holder level w ≡ asAgg (twoAt s 2) d =
+        ap (λ (x : List ℕ). nodeOf img x page holder level w) (take-all (sizeOf s) s (omega (arith, n))) ∙ node-inner img s page holder level w e in
+        let all : listOf img s page holder level w ≡ before (asAgg (twoAt s 2) d) (record { row = nil; walk = d .walk }) =
         list-more img s page holder level w (λ z. omega (arith, f .0)) (eqb-false _ _ q) (λ z. omega (arith, f .0, n))
-        ∙ sym (list-none img (drop (sizeOf s) s) page holder level _ (omega (arith, length-drop (sizeOf s) s, n)))
-        ∙ ap (λ (x : List ℕ). nodeOf img x page holder level w .walk) (take-all (sizeOf s) s (omega (arith, n)))
-        ∙ sym (node-inner img s page holder level w e)
+        ∙ ap (λ (x : Decoded). before x (listOf img (drop (sizeOf s) s) page holder level (x .walk))) one
+        ∙ ap (before (asAgg (twoAt s 2) d)) (list-none img (drop (sizeOf s) s) page holder level (d .walk) (omega (arith, length-drop (sizeOf s) s, n))) in
+        alike-trans (alike-same all) (record { walk = refl; table = λ c. refl })
 
 module _ (img s : List ℕ) (page level : ℕ) (w : State) where
-  each-walk : (d : ℕ) → Each s level d → listOf img (drop 6 s) page 1 level w .walk ≡ listOf img (drop (6 * d + 6) s) page 1 (level + d) w .walk
-  each-walk zero h = let a : level ≡ level + zero = omega arith in ap (λ (l : ℕ). listOf img (drop 6 s) page 1 l w .walk) a
+  each-walk : (d : ℕ) → Each s level d → Alike (listOf img (drop 6 s) page 1 level w) (listOf img (drop (6 * d + 6) s) page 1 (level + d) w)
+  each-walk zero h = let a : level ≡ level + zero = omega arith in alike-same (ap (λ (l : ℕ). listOf img (drop 6 s) page 1 l w) a)
   each-walk (suc d) h =
       let a : 6 * d + 6 + 6 ≡ 6 * suc d + 6 = omega arith in
       let b : level + d + 1 ≡ level + suc d = omega arith in
       let x = drop (6 * d + 6) s in
-      let g : listOf img (drop 6 x) page 1 (level + d + 1) w .walk ≡ listOf img (drop (6 * suc d + 6) s) page 1 (level + suc d) w .walk = cc (drop-drop 6 (6 * d + 6) s) in
-      each-walk d (λ i k. h i (omega arith)) ∙ list-only img x page 1 (level + d) w (alone s level d (h d (omega arith))) ∙ g
+      let g : listOf img (drop 6 x) page 1 (level + d + 1) w ≡ listOf img (drop (6 * suc d + 6) s) page 1 (level + suc d) w = cc (drop-drop 6 (6 * d + 6) s) in
+      alike-trans (each-walk d (λ i k. h i (omega arith))) (alike-trans (list-only img x page 1 (level + d) w (alone s level d (h d (omega arith)))) (alike-same g))
 
 -- what `only` gives of an aggregate that stands: where it ends, and that the walk can go on from there
 pub record Chain (img s : List ℕ) (page holder level d : ℕ) (w : State) : Type 0 where
   pub inside : 6 * d + 6 ≤ length s
   pub low : level + 1 + d ≤ 25
-  pub same : listOf img (take (length s - (6 * d + 6)) (drop (6 * d + 6) s)) page 1 (level + 1 + d) w .walk ≡ nodeOf img s page holder level w .walk
+  pub same : (r : ℕ) (m old new : List ℕ) → Came (listOf img (take (length s - (6 * d + 6)) (drop (6 * d + 6) s)) page 1 (level + 1 + d) w) r m old new
+      → Came (nodeOf img s page holder level w) r m old new × (1 ≡ width (nodeOf img s page holder level w .row))
 
 pub chain : (img s : List ℕ) (page holder level d : ℕ) (w : State) → aggregateOf s (length s) holder level ≡ true → Only s (level + 1) d → Chain img s page holder level d w
+unfolding widthsAfter
 chain img s page holder level d w e o =
     let f = aggregate-head s holder level e in
     let g = each-fits s (level + 1) d (f .0) (omega (arith, f .2)) (o .each) in
+    let k = each-walk img s page (level + 1) w d (o .each) in
+    let i = ap (λ (x : List ℕ). listOf img x page 1 (level + 1 + d) w) (rest-is (6 * d + 6) s) in
     record {
       inside = g .0;
       low = g .1;
-      same =
-          ap (λ (x : List ℕ). listOf img x page 1 (level + 1 + d) w .walk) (rest-is (6 * d + 6) s)
-          ∙ sym (each-walk img s page (level + 1) w d (o .each))
-          ∙ node-inner img s page holder level w e;
+      same = λ r m old new c.
+          let b = came-at (sym i) c in
+          came-agg (twoAt s 2) (node-inner img s page holder level w e) (record { walk = b .walk ∙ sym (k .walk); table = b .table ∙ sym (k .table old) });
     }

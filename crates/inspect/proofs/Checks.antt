@@ -1,5 +1,5 @@
 -- The whole image: what its length and its first pages allow, and the walk from page 1.
-use mathlib.Core.Path.{_≡_, refl, ap, _∙_}
+use mathlib.Core.Path.{_≡_, refl, sym, ap, _∙_}
 use mathlib.Core.List.{List}
 use mathlib.Core.Bool.{Bool, true, false, cond, _&&_}
 use Prim.Native.Nat.{ℕ, _+_, _-_, _*_, _/_, _%_, _≤_, _<_}
@@ -13,7 +13,10 @@ use Rattle.model.specs.Reading.{twoAt, pageOf, lengthOk}
 use Rattle.walks.specs.Tests.{allZero, stateOf, settingsOk, firstOk}
 use Rattle.walks.specs.Walk.{State, state, nodeOf}
 use Rattle.walks.specs.Check.{trailersOf, walkOf, walkOk}
+use Rattle.walks.specs.Widths.{widthsAfter}
 use Rattle.walks.specs.Facts.{no}
+use Rattle.inspect.specs.Came.{Came}
+use Rattle.inspect.proofs.Walks.{came-at}
 
 pub length-fits : (n : ℕ) → lengthOk n ≡ true → (4096 * (n / 4096) ≤ n) × (2 ≤ n / 4096) × (n / 4096 ≤ 1024)
 unfolding lengthOk
@@ -63,9 +66,17 @@ first-used img z = go (settingsOk (pageOf img 0) (length img / 4096)) (firstOk (
     go true false q x z = absurd (z refl)
     go false b q x z = absurd (z refl)
 
-pub walked : (img : List ℕ) (n used r : ℕ) (m : List ℕ) → getD img 4096 0 ≡ 1 → used ≡ twoAt img 8178
-    → state r m ≡ nodeOf img (take (4096 + used - 4096) (drop 4096 img)) 1 0 1 (state n (replicate 128 0)) .walk → eqb r 1 ≡ walkOk img n
-unfolding walkOk walkOf
-walked img n used r m a p h =
-    let k : take (4096 + used - 4096) (drop 4096 img) ≡ take (twoAt img 8178) (drop 4096 img) = ap (λ (i : ℕ). take i (drop 4096 img)) (add-sub-cancel-left 4096 used ∙ p) in
-    rw (eq-eqb (getD img 4096 0) 1 a) (ap (λ (v : State). eqb (v .left) 1) (h ∙ ap (λ (x : List ℕ). nodeOf img x 1 0 1 (state n (replicate 128 0)) .walk) k))
+module _ (img : List ℕ) (n used : ℕ) (p : used ≡ twoAt img 8178) (r : ℕ) (m old new : List ℕ)
+    (c : Came (nodeOf img (take (4096 + used - 4096) (drop 4096 img)) 1 0 1 (state n (replicate 128 0))) r m old new) where
+  came : Came (walkOf img n) r m old new
+  unfolding walkOf
+  came =
+      let k : take (4096 + used - 4096) (drop 4096 img) ≡ take (twoAt img 8178) (drop 4096 img) = ap (λ (i : ℕ). take i (drop 4096 img)) (add-sub-cancel-left 4096 used ∙ p) in
+      came-at (ap (λ (x : List ℕ). nodeOf img x 1 0 1 (state n (replicate 128 0))) (sym k)) c
+
+  pub walked : getD img 4096 0 ≡ 1 → eqb r 1 ≡ walkOk img n
+  unfolding walkOk
+  walked a = rw (eq-eqb (getD img 4096 0) 1 a) (ap (λ (v : State). eqb (v .left) 1) (came .walk))
+
+  pub walked-table : new ≡ widthsAfter (walkOf img n .row) old
+  walked-table = came .table

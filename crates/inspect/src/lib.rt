@@ -6,11 +6,14 @@ ghost use mathlib.Core.Path.{_≡_};
 ghost use mathlib.Core.Bool.{true};
 ghost use Prim.Native.Nat.{_+_, _-_, _*_, _≤_, _<_};
 ghost use lib.ListN.{length};
+ghost use Rattle.model.specs.Tree as tree;
 ghost use Rattle.model.specs.Reading.{lengthOk};
 ghost use Rattle.walks.specs.Tests.{sizeOf, twoChildren, shapeOf, headOf, isMarked, marked, namesOf, rootFits, allZero, matrixOk, stateOf, numbersOk, settingsOk, firstOk};
 ghost use Rattle.walks.specs.Walk.{state, entersOf, nodeOf, listOf, proxyOf};
-ghost use Rattle.walks.specs.Check.{scanFrom, trailersOf, walkOk, checkBy};
+ghost use Rattle.walks.specs.Check.{scanFrom, trailersOf, walkOf, walkOk, checkBy};
+ghost use Rattle.walks.specs.Widths.{widthsAfter};
 ghost use Rattle.inspect.specs.Leaf.{standsOf, aggregateOf, literalOf, Only};
+ghost use Rattle.inspect.specs.Came.{Came};
 
 // ── nodes ──
 
@@ -221,7 +224,13 @@ pub fn enters(image: &[u8], p: usize, page: usize, left: usize, marks: &[u8; 128
     !is_marked(marks, p)
 }
 
-// The record that a proxy in the record of a page names. The result, here and below, is what is left, 0 where the walk is refused.
+// What a walk leaves to be reached, 0 where it is refused, and how many nodes it was shown.
+pub struct Walked {
+    pub left: usize,
+    pub width: usize,
+}
+
+// The record that a proxy in the record of a page names. `widths`, here and below, gets how many nodes each record shows.
 fn proxy_check<'a>(
     image: &'a [u8],
     p: usize,
@@ -229,18 +238,22 @@ fn proxy_check<'a>(
     level: usize,
     left: usize,
     marks: &mut [u8; 128],
-) -> usize
-    requires { ⌜ level ≤ 25 ⌝ }
-    ensures { λ r. ⌜ state r (now (marks .exit)) ≡ proxyOf (now (image .entry)) p page level (state left (now (marks .entry))) .walk ⌝ }
+    widths: &mut [u32; 1024],
+) -> Walked
+    requires { ⌜ (level ≤ 25) × (left ≤ 1024) ⌝ }
+    ensures { λ r. ⌜ Came (proxyOf (now (image .entry)) p page level (state left (now (marks .entry)))) (r .left) (now (marks .exit)) (now (widths .entry)) (now (widths .exit))
+        × (r .width ≡ tree.width (proxyOf (now (image .entry)) p page level (state left (now (marks .entry))) .row)) ⌝ }
 {
     if !enters(image, p, page, left, marks) {
-        return 0;
+        return Walked { left: 0, width: 0 };
     }
     let a = 4096 * p;
     let n = two(image, a + 4082);
     let e = a + n;
     set_mark(marks, p);
-    node_check(image, &image[a..e], p, 0, level, left - 1, marks)
+    let r = node_check(image, &image[a..e], p, 0, level, left - 1, marks, widths);
+    widths[p] = r.width as u32;
+    r
 }
 
 // The node that the part is. An aggregate is entered before the other kinds are asked for.
@@ -252,47 +265,53 @@ fn node_check<'a>(
     level: usize,
     left: usize,
     marks: &mut [u8; 128],
-) -> usize
-    requires { ⌜ (holder < 5) × (level ≤ 25) ⌝ }
-    ensures { λ r. ⌜ state r (now (marks .exit)) ≡ nodeOf (now (image .entry)) (now (part .entry)) page holder level (state left (now (marks .entry))) .walk ⌝ }
+    widths: &mut [u32; 1024],
+) -> Walked
+    requires { ⌜ (holder < 5) × (level ≤ 25) × (left ≤ 1024) × (length (now part) < 65536) ⌝ }
+    ensures { λ r. ⌜ Came (nodeOf (now (image .entry)) (now (part .entry)) page holder level (state left (now (marks .entry)))) (r .left) (now (marks .exit)) (now (widths .entry)) (now (widths .exit))
+        × (r .width ≡ tree.width (nodeOf (now (image .entry)) (now (part .entry)) page holder level (state left (now (marks .entry))) .row)) ⌝ }
 {
     if aggregate(part, part.len(), holder, level) {
         let d = only(part, level + 1);
         let rest = &part[6 * d + 6..];
-        return list_check(image, rest, page, 1, level + 1 + d, left, marks);
+        let n = list_check(image, rest, page, level + 1 + d, left, marks, widths);
+        return Walked { left: n, width: 1 };
     }
     let kind = head(part, holder);
     if kind == 3 {
         if part.len() != 8 {
-            return 0;
+            return Walked { left: 0, width: 0 };
         }
-        return proxy_check(image, two(part, 6), page, level, left, marks);
+        return proxy_check(image, two(part, 6), page, level, left, marks, widths);
     }
     if kind == 4 {
-        return list_check(image, &part[6..], page, 4, level, left, marks);
+        return helper_check(image, &part[6..], page, level, left, marks, widths);
     }
     if 24 < level {
-        return 0;
+        return Walked { left: 0, width: 0 };
     }
     if kind == 2 {
-        return left;
+        return Walked {
+            left: left,
+            width: 1,
+        };
     }
-    0
+    Walked { left: 0, width: 0 }
 }
 
-// The nodes that the part holds, one after another. What holds no other node is passed without a call: an aggregate by a constant, so that the next
+// The nodes that an aggregate holds, one after another. What holds no other node is passed without a call: an aggregate by a constant, so that the next
 // header is read without waiting for this one's size. Kept small: as long as the compiler puts it into node_check, a level takes one frame.
 fn list_check<'a>(
     image: &'a [u8],
     part: &'a [u8],
     page: usize,
-    holder: usize,
     level: usize,
     left: usize,
     marks: &mut [u8; 128],
+    widths: &mut [u32; 1024],
 ) -> usize
-    requires { ⌜ (holder < 5) × (level ≤ 25) ⌝ }
-    ensures { λ r. ⌜ state r (now (marks .exit)) ≡ listOf (now (image .entry)) (now (part .entry)) page holder level (state left (now (marks .entry))) .walk ⌝ }
+    requires { ⌜ (level ≤ 25) × (left ≤ 1024) × (length (now part) < 65536) ⌝ }
+    ensures { λ r. ⌜ Came (listOf (now (image .entry)) (now (part .entry)) page 1 level (state left (now (marks .entry)))) r (now (marks .exit)) (now (widths .entry)) (now (widths .exit)) ⌝ }
 {
     let mut cur = left;
     let mut at = 0;
@@ -301,22 +320,70 @@ fn list_check<'a>(
             return 0;
         }
         let rest = &part[at..];
-        if aggregate(rest, 6, holder, level) {
+        if aggregate(rest, 6, 1, level) {
             at = at + 6;
         } else {
-            let n = size_of(rest);
-            if n == 0 {
+            let size = size_of(rest);
+            if size == 0 {
                 return 0;
             }
-            if literal(rest, holder, level) {
-                at = at + n;
+            if literal(rest, 1, level) {
+                at = at + size;
             } else {
-                cur = node_check(image, &rest[..n], page, holder, level, cur, marks);
-                at = at + n;
+                let r = node_check(image, &rest[..size], page, 1, level, cur, marks, widths);
+                cur = r.left;
+                at = at + size;
             }
         }
     }
     cur
+}
+
+// The nodes that a helper holds: as list_check, and they are counted.
+fn helper_check<'a>(
+    image: &'a [u8],
+    part: &'a [u8],
+    page: usize,
+    level: usize,
+    left: usize,
+    marks: &mut [u8; 128],
+    widths: &mut [u32; 1024],
+) -> Walked
+    requires { ⌜ (level ≤ 25) × (left ≤ 1024) × (length (now part) < 65536) ⌝ }
+    ensures { λ r. ⌜ Came (listOf (now (image .entry)) (now (part .entry)) page 4 level (state left (now (marks .entry)))) (r .left) (now (marks .exit)) (now (widths .entry)) (now (widths .exit))
+        × (r .width ≡ tree.width (listOf (now (image .entry)) (now (part .entry)) page 4 level (state left (now (marks .entry))) .row)) ⌝ }
+{
+    let mut cur = left;
+    let mut n = 0;
+    let mut at = 0;
+    while at < part.len() {
+        if cur == 0 {
+            return Walked { left: 0, width: n };
+        }
+        let rest = &part[at..];
+        if aggregate(rest, 6, 4, level) {
+            at = at + 6;
+            n = n + 1;
+        } else {
+            let size = size_of(rest);
+            if size == 0 {
+                return Walked { left: 0, width: n };
+            }
+            if literal(rest, 4, level) {
+                at = at + size;
+                n = n + 1;
+            } else {
+                let r = node_check(image, &rest[..size], page, 4, level, cur, marks, widths);
+                cur = r.left;
+                n = n + r.width;
+                at = at + size;
+            }
+        }
+    }
+    Walked {
+        left: cur,
+        width: n,
+    }
 }
 
 // ── pages ──
@@ -486,9 +553,9 @@ pub fn trailers(image: &[u8]) -> usize
 }
 
 // Whether the walk from page 1, whose root is an aggregate, reaches every record page one time.
-pub fn walk_ok(image: &[u8], left: usize) -> bool
-    requires { ⌜ (lengthOk (length (now image)) ≡ true) × (trailersOf (now image) ≡ 0 → ⊥) ⌝ }
-    ensures { λ r. ⌜ r ≡ walkOk (now (image .entry)) left ⌝ }
+pub fn walk_ok(image: &[u8], left: usize, widths: &mut [u32; 1024]) -> bool
+    requires { ⌜ (lengthOk (length (now image)) ≡ true) × (trailersOf (now image) ≡ 0 → ⊥) × (left ≤ 1024) ⌝ }
+    ensures { λ r. ⌜ (r ≡ walkOk (now (image .entry)) left) × (r ≡ true → now (widths .exit) ≡ widthsAfter (walkOf (now (image .entry)) left .row) (now (widths .entry))) ⌝ }
 {
     if image[4096] != 1 {
         return false;
@@ -496,7 +563,8 @@ pub fn walk_ok(image: &[u8], left: usize) -> bool
     let used = two(image, 8178);
     let e = 4096 + used;
     let mut marks = [0u8; 128];
-    node_check(image, &image[4096..e], 1, 0, 1, left, &mut marks) == 1
+    let r = node_check(image, &image[4096..e], 1, 0, 1, left, &mut marks, widths);
+    r.left == 1
 }
 
 // Whether an image may have so many bytes: whole pages, 2 to 1,024.
@@ -512,9 +580,10 @@ pub fn length_ok(n: usize) -> bool
     n / 4096 <= 1024
 }
 
-// Check: 0 where the image passes, 1 by its length, 3 where it is broken.
-pub fn check(image: &[u8]) -> u32
-    ensures { λ r. ⌜ r ≡ checkBy (now (image .entry)) ⌝ }
+// The check, which leaves in a table how many nodes the record on each page shows.
+pub fn check_widths(image: &[u8], widths: &mut [u32; 1024]) -> u32
+    ensures { λ r. ⌜ (r ≡ checkBy (now (image .entry)))
+        × (r ≡ 0 → now (widths .exit) ≡ widthsAfter (walkOf (now (image .entry)) (trailersOf (now (image .entry))) .row) (now (widths .entry))) ⌝ }
 {
     if !length_ok(image.len()) {
         return 1;
@@ -523,5 +592,13 @@ pub fn check(image: &[u8]) -> u32
     if left == 0 {
         return 3;
     }
-    if walk_ok(image, left) { 0 } else { 3 }
+    if walk_ok(image, left, widths) { 0 } else { 3 }
+}
+
+// Check: 0 where the image passes, 1 by its length, 3 where it is broken.
+pub fn check(image: &[u8]) -> u32
+    ensures { λ r. ⌜ r ≡ checkBy (now (image .entry)) ⌝ }
+{
+    let mut widths = [0u32; 1024];
+    check_widths(image, &mut widths)
 }

@@ -73,6 +73,12 @@ breadth-shown (agg l cs rest) = ap suc (breadth-shown rest)
 breadth-shown (lit l c rest) = ap suc (breadth-shown rest)
 breadth-shown (rec p s r rest) = rw (breadth-⊞, breadth-shown r, breadth-shown rest)
 
+pub width-⊹ : (a b : Row) → width (a ⊹ b) ≡ width a + width b
+width-⊹ nil b = omega arith
+width-⊹ (agg l cs rest) b = omega (arith, width-⊹ rest b)
+width-⊹ (lit l c rest) b = omega (arith, width-⊹ rest b)
+width-⊹ (rec p s r rest) b = omega (arith, width-⊹ rest b)
+
 -- ── a split shows what was there ──
 
 pub cond-case {ℓ} : {A : Type ℓ} (P : A → Type 0) (b : Bool) {x y : A} → (b ≡ true → P x) → (b ≡ false → P y) → P (cond b x y)

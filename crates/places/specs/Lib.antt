@@ -6,4 +6,5 @@ pub mod Inside
 pub mod From
 pub mod Pages
 pub mod Marks
+pub mod Widths
 pub mod Content

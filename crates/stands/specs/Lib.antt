@@ -1,4 +1,5 @@
 pub mod Here
+pub mod Widths
 pub mod Items
 pub mod Order
 pub mod Nodes

@@ -8,7 +8,9 @@ use model::ReadNode;
 use model::Settings;
 use model::WriteAnswer;
 ghost use mathlib.Core.Path.{_≡_};
+ghost use lib.ListN.{length};
 ghost use Rattle.model.specs.Calls.{formatOf, checkOf, insertOf, findOf, climbOf, readOf, partOf, nextOf, recordsOf};
+ghost use Rattle.stands.specs.Widths.{Widths};
 ghost use Rattle.store.specs.Part.{slice};
 ghost use Rattle.records.specs.Up.{upPages};
 
@@ -26,6 +28,14 @@ pub fn check(image: &[u8]) -> u32
     inspect::check(image)
 }
 
+// The check, for calls that look for a node by its number among others: it leaves in a table how many nodes the record on each page shows.
+fn check_widths(image: &[u8], widths: &mut [u32; 1024]) -> u32
+    requires { ⌜ length (now widths) ≡ 1024 ⌝ }
+    ensures { λ r. ⌜ (r ≡ checkOf (now (image .entry))) × (r ≡ 0 → Widths (now (image .entry)) (now (widths .exit))) ⌝ }
+{
+    inspect::check_widths(image, widths)
+}
+
 // Puts a new node as child `child` of the aggregate that the path names, and gives its place, how many records were split and the lean of the first split.
 pub fn insert(
     image: &mut [u8],
@@ -38,7 +48,8 @@ pub fn insert(
     ensures answer { λ r. ⌜ r ≡ insertOf (now (image .entry)) (now (path .entry)) child kind label (now (content .entry)) .0 ⌝ }
     ensures image { λ _. ⌜ now (image .exit) ≡ insertOf (now (image .entry)) (now (path .entry)) child kind label (now (content .entry)) .1 ⌝ }
 {
-    let n = check(image);
+    let mut widths = [0u32; 1024];
+    let n = check_widths(image, &mut widths);
     if n != 0 {
         return InsertAnswer {
             number: n,
@@ -47,21 +58,22 @@ pub fn insert(
             lean: 0,
         };
     }
-    insert::insert_of(image, path, child, kind, label, content)
+    insert::insert_of(image, &widths, path, child, kind, label, content)
 }
 
 // The place of the node that a path names.
 pub fn find(image: &[u8], path: &[u8]) -> FindAnswer
     ensures { λ r. ⌜ r ≡ findOf (now (image .entry)) (now (path .entry)) ⌝ }
 {
-    let n = check(image);
+    let mut widths = [0u32; 1024];
+    let n = check_widths(image, &mut widths);
     if n != 0 {
         return FindAnswer {
             number: n,
             place: Place { page: 0, offset: 0 },
         };
     }
-    descend::find_in(image, path)
+    descend::find_in(image, &widths, path)
 }
 
 // The path of the node at a place, to the front of the lent buffer.

@@ -15,12 +15,6 @@ use Rattle.model.specs.declared.Place.{Place}
 
 -- ── rows joined ──
 
-pub width-⊹ : (a b : Row) → width (a ⊹ b) ≡ width a + width b
-width-⊹ nil b = omega arith
-width-⊹ (agg h cs rest) b = omega (arith, width-⊹ rest b)
-width-⊹ (lit h c rest) b = omega (arith, width-⊹ rest b)
-width-⊹ (rec q s r rest) b = omega (arith, width-⊹ rest b)
-
 pub place-left : (page at i : ℕ) (p : List ℕ) (a b : Row) → i < width a → placeAt page at i p (a ⊹ b) ≡ placeAt page at i p a
 unfolding placeAt
 place-left page at i p nil b z = absurd (omega arith)

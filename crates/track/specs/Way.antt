@@ -10,10 +10,10 @@ use lib.Dec.{ltb}
 use Rattle.model.specs.Row.{Head, Row, nil, agg, lit, rec, _⊹_, size, lone, base}
 use Rattle.model.specs.Tree.{width, placeAt}
 use Rattle.model.specs.declared.Place.{Place}
-use Rattle.laws.specs.Laws.{isNil-nil}
+use Rattle.laws.specs.Laws.{width-⊹, isNil-nil}
 use Rattle.upward.specs.Chain.{Spot, here, inside, fill, before, past, into, Chain, top, below, lastPage, whole}
 use Rattle.upward.specs.Taking.{Taking, takingAt, takingAfter, takingChild, takingIn, taking}
-use Rattle.track.specs.Stands.{width-⊹, place-right, Bare, bare-right, Inner, inner-right}
+use Rattle.track.specs.Stands.{place-right, Bare, bare-right, Inner, inner-right}
 
 -- An index in a row, and the path down from there.
 abbrev pub Way : Type 0

@@ -22,3 +22,6 @@ pub mod Reached
 pub mod Images
 pub mod Sound
 pub mod Exact
+pub mod Widths
+pub mod Told
+pub mod Bounds

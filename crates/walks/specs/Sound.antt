@@ -178,10 +178,14 @@ module _ (img : List ℕ) (bytes : AllBytes img) (c : Checked img) (root : Row) 
         (on-one, stored img bytes kept p, tt) (λ q a b. free q a (omega arith));
   }
 
-pub sound : (img : List ℕ) → ((i : ℕ) → getD img i 0 < 256) → checkBy img ≡ 0 → (s : Config × Row) × Reads img (s .0) (s .1)
+-- What it reads as: the walk's row, with the settings of page 0.
+pub sound-row : (img : List ℕ) → ((i : ℕ) → getD img i 0 < 256) → checkBy img ≡ 0 → Reads img (configOn (pageOf img 0)) (walkOf img (trailersOf img) .row)
 unfolding walkOf
-sound img bytes e =
+sound-row img bytes e =
     let c = check-says img e in
     let j = node (recordOf img 1) 1 0 1 (state (trailersOf img) (replicate 128 0)) in
     let p = passes img bytes j (record-bytes img bytes 1) (λ z. omega (arith, c .ended)) in
-    ((st img, walkOf img (trailersOf img) .row), is-read img bytes c _ _ p (c .ended))
+    is-read img bytes c _ _ p (c .ended)
+
+pub sound : (img : List ℕ) → ((i : ℕ) → getD img i 0 < 256) → checkBy img ≡ 0 → (s : Config × Row) × Reads img (s .0) (s .1)
+sound img bytes e = ((st img, walkOf img (trailersOf img) .row), sound-row img bytes e)

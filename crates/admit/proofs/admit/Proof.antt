@@ -63,7 +63,7 @@ parent-node : (f : tie.After-find-in) → (f .find-in .result .number ≡ 0) →
     (n : Node) × ReadAt (s .args .image .now) n (4096 * f .find-in .result .place .page + f .find-in .result .place .offset)
 parent-node f z =
     let s = f .before .before .before .before .before .before .before .before in
-    let (t, r) = passing (s .args .image .now) (s .pre) in
+    let (t, r) = passing (s .args .image .now) (s .pre .0) in
     parent-read _ _ (s .args .child) _ _ (formed (f .before)) _ (f .find-in .ensures) z (t .0) (t .1) r (parent-at f z)
 
 mul-parent : tie.Need-mul-parent
@@ -73,7 +73,9 @@ add-parent : tie.Need-add-parent
 add-parent c = omega (arith, read-room (parent-node (c .before .before .before .before .before) (c .before .before .before .if4 .left) .1))
 
 try-parent-requires : tie.Need-try-parent-requires
-try-parent-requires c κs = parent-node (c .before .before .before .before .before) (c .before .before .before .if4 .left)
+try-parent-requires c κs =
+    let f = c .before .before .before .before .before in
+    (parent-node f (c .before .before .before .if4 .left), f .before .before .before .before .before .before .before .before .pre .1)
 
 returns-5 : tie.Need-returns-5
 returns-5 c =

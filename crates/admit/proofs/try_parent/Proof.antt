@@ -16,7 +16,7 @@ was-true true e = refl
 was-true false e = absurd (true≢false e)
 
 shared-slice-read-if1 : tie.Need-shared-slice-read-if1
-shared-slice-read-if1 c = omega (arith, read-room (c .before .before .pre .1))
+shared-slice-read-if1 c = omega (arith, read-room (c .before .before .pre .0 .1))
 
 returns : tie.Need-returns
 returns c = (λ n r. is-literal r _ (c .if1 .taken), λ z. absurd (omega arith))
@@ -25,22 +25,24 @@ returns-2 : tie.Need-returns-2
 returns-2 c = (λ n r. is-first r (c .before .if1 .left) _ (c .if2 .taken), λ z x y. absurd (y (c .if2 .taken)))
 
 add-two : tie.Need-add-two
-add-two c = omega (arith, read-room (c .before .before .before .before .pre .1))
+add-two c = omega (arith, read-room (c .before .before .before .before .pre .0 .1))
 
 two-requires : tie.Need-two-requires
-two-requires c κs = omega (arith, read-room (c .before .before .before .before .pre .1))
+two-requires c κs = omega (arith, read-room (c .before .before .before .before .pre .0 .1))
 
 add-end : tie.Need-add-end
-add-end c = omega (arith, read-room (c .before .before .before .before .before .pre .1), c .two .ensures .1)
+add-end c = omega (arith, read-room (c .before .before .before .before .before .pre .0 .1), c .two .ensures .1)
 
 add-nth : tie.Need-add-nth
-add-nth c = omega (arith, read-room (c .before .before .before .before .before .pre .1))
+add-nth c = omega (arith, read-room (c .before .before .before .before .before .pre .0 .1))
 
 sub-nth : tie.Need-sub-nth
 sub-nth c = search needs
 
 nth-requires : tie.Need-nth-requires
-nth-requires c κs = searched (c .before .before .before .before .before .pre .1) (c .before .before .if1 .left) _ (c .two .ensures .0)
+nth-requires c κs =
+    let s = c .before .before .before .before .before in
+    (searched (s .pre .0 .1) (c .before .before .if1 .left) _ (c .two .ensures .0), s .pre .1)
 
 returns-3 : tie.Need-returns-3
 returns-3 c =

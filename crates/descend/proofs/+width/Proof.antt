@@ -67,7 +67,7 @@ proxy t c =
 
 entered : (t : ℕ) (c : width-lts.After-row-end (claims t) (width-at t) width.Post width-Inv-loop width-μ-loop) → let l = c .before .before .before .before .before .before .before .before in let s = l .before .before in
     (w : Rowed (s .args .image .now) (l .loop .i) (s .args .end) (s .args .depth))
-    → Entered (s .args .image .now) (l .loop .i) (s .args .end) (s .args .depth) (c .before .before .before .before .before .before .two .result) (c .before .row-start .result) (c .row-end .result) (w .row)
+    → Entered (s .args .image .now) (l .loop .i) (s .args .end) (s .args .depth) (c .before .before .before .before .before .before .two .result) (c .before .before .two2 .result) (c .before .row-start .result) (c .row-end .result) (w .row)
 entered t c w =
     enter _ _ _ _ (c .before .before .before .before .before .before .before .loop-test .taken) (c .before .before .before .before .if1 .taken) _ _ _ _
     (c .before .before .before .before .before .before .two .ensures .0) (c .before .before .two2 .ensures .0) (c .before .row-start .ensures) (c .row-end .ensures) w
@@ -133,7 +133,7 @@ width-loop-again t c =
     λ u s.
     let w = l .loop .inv u s in
     let e = entered t (c .before) (w .rest) in
-    count-proxy _ _ _ _ _ _ _ _ _ _ w e (c .width .ensures (e .inside))
+    count-proxy _ _ _ _ _ _ _ _ _ _ _ w e (c .width .ensures (e .inside))
 
 width-loop-less-2 : (t : ℕ) → width-lts.Need-loop-less-2 (claims t) (width-at t) width.Post width-Inv-loop width-μ-loop
 width-loop-less-2 t c =

@@ -40,7 +40,7 @@ returns : tie.Need-returns
 returns c =
     let s = c .before .before .before .before .before .before .before .before in
     let a = c .before .before .before in
-    let r = passing (s .args .image .now) (s .pre) .1 in
+    let r = passing (s .args .image .now) (s .pre .0) .1 in
     let e = refused-early r (s .args .path .now) (s .args .child) (s .args .kind) (s .args .label) (s .args .content .now) _ (a .admit .ensures .0 _ _ r (s .args .label)) (c .before .if1 .taken) in
     (c .refused .ensures ∙ ap (λ (z : InsertAnswer × List ℕ). z .0) e, ap (λ (z : InsertAnswer × List ℕ). z .1) e)
 
@@ -49,7 +49,7 @@ slice-aggregate-put-node c = search needs
 
 -- the store, the tests, the arguments' ranges
 store-of : (a : tie.After-node) → let s = a .before .before .before .before .before .before .before .before in (z : Config × Row) × Reads (s .args .image .now) (z .0) (z .1)
-store-of a = passing (a .before .before .before .before .before .before .before .before .args .image .now) (a .before .before .before .before .before .before .before .before .pre)
+store-of a = passing (a .before .before .before .before .before .before .before .before .args .image .now) (a .before .before .before .before .before .before .before .before .pre .0)
 
 zero-is : (a : tie.After-node) → let s = a .before .before .before .before .before .before .before .before in 0 ≡ insertNumber (shown (store-of a .0 .1)) (s .args .path .now) (s .args .child) (newOf (s .args .kind) (s .args .label) (s .args .content .now)) false
 zero-is a = sym (a .before .if1 .left) ∙ a .before .before .before .admit .ensures .0 _ _ (store-of a .1) (a .before .before .before .before .before .before .before .before .args .label)

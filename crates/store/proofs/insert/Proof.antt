@@ -1,28 +1,31 @@
 -- `store::insert` meets its contract: an image that does not pass gives the check's number and stays as it is.
-use mathlib.Core.Path.{ap}
+use mathlib.Core.Path.{sym, ap, _∙_}
 use mathlib.Core.List.{List}
 use Prim.Native.Nat.{ℕ}
 use borrow.Author.Needs.{needs}
 use denote.Ref.{now}
+use lib.ListN.{length-replicate}
 use Rattle.model.specs.declared.InsertAnswer.{InsertAnswer}
 use Rattle.store.specs.Refused.{insert-refused}
 use Rattle.store.proofs.insert.Statement.{statement}
 use Rattle.store.proofs.insert.Tie as tie
 
-check-requires : tie.Need-check-requires
-check-requires c κs = search needs
+check-widths-requires : tie.Need-check-widths-requires
+check-widths-requires c κs = length-replicate {A = ℕ} 1024 0
 
 same-length : tie.Need-same-length
 same-length c = search needs
 
 returns : tie.Need-returns
 returns c =
-    let s = c .before .before .before .before .before .before in
-    let e = insert-refused (now (s .args .image)) (c .before .check .result) (c .before .check .ensures) (c .if1 .taken) (now (s .args .path)) (s .args .child) (s .args .kind) (s .args .label) (now (s .args .content)) in
+    let s = c .before .before .before .before .before .before .before in
+    let e = insert-refused (now (s .args .image)) (c .before .check-widths .result) (c .before .check-widths .ensures .0) (c .if1 .taken) (now (s .args .path)) (s .args .child) (s .args .kind) (s .args .label) (now (s .args .content)) in
     (ap (λ (z : InsertAnswer × List ℕ). z .0) e, ap (λ (z : InsertAnswer × List ℕ). z .1) e)
 
 insert-of-requires : tie.Need-insert-of-requires
-insert-of-requires c κs = search needs
+insert-of-requires c κs =
+    let e = c .before .before .before .check-widths .ensures in
+    (sym (e .0) ∙ c .before .before .if1 .left, e .1 (c .before .before .if1 .left))
 
 same-length-2 : tie.Need-same-length-2
 same-length-2 c = search needs
@@ -31,4 +34,4 @@ returns-2 : tie.Need-returns-2
 returns-2 c = search needs
 
 pub insert-spec : {M : Type 1} → statement M
-insert-spec = tie.close (tie.spec check-requires same-length returns insert-of-requires same-length-2 returns-2)
+insert-spec = tie.close (tie.spec check-widths-requires same-length returns insert-of-requires same-length-2 returns-2)
