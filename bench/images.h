@@ -204,4 +204,16 @@ static inline unsigned fill_pairs(uint8_t *at, unsigned left, unsigned page) {
     return n;
 }
 
+/* Literals of 10 to 12 bytes in a random order: the image on which counting all siblings anew would cost most beside the check. */
+static inline unsigned fill_short(uint8_t *at, unsigned left, unsigned page) {
+    unsigned n = 0, seed = page;
+    while (n + 12 <= left) {
+        seed = seed * 1103515245u + 12345u;
+        unsigned size = 10 + (seed >> 16) % 3;
+        memset(put_node(at + n, 2, 9, size), 8, size - 6);
+        n += size;
+    }
+    return n;
+}
+
 #endif

@@ -56,7 +56,8 @@ static const struct {
     const char *name;
     unsigned (*fill)(uint8_t *, unsigned, unsigned);
 } fills[] = {{"full records", fill_literals}, {"6-byte nodes", fill_small}, {"nested nodes", fill_nested},
-             {"mixed nodes", fill_mixed},     {"combs", fill_combs},       {"pairs", fill_pairs}};
+             {"mixed nodes", fill_mixed},     {"combs", fill_combs},       {"pairs", fill_pairs},
+             {"short literals", fill_short}};
 
 int main(void) {
     static const unsigned splits[] = {0, 1, 5};

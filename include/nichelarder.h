@@ -11,8 +11,8 @@
  *  - a length is the number of bytes that the pointer leads to;
  *  - a buffer that is lent for writing overlaps neither the image nor another buffer of the same call.
  * The image and the buffers stay the caller's; the library keeps no pointer. The functions keep no state and allocate nothing: they may be called
- * from several threads on different images. They need up to 320 KB of stack on the deepest images, 16 KB on usual ones (each record nested in
- * another takes some 250 bytes).
+ * from several threads on different images. They need up to 416 KB of stack on the deepest images, 24 KB on usual ones (each record nested in
+ * another takes some 390 bytes).
  *
  * The format, for those who look at bytes: a record is a tree of nodes, each a header of six bytes (kind, label, size, two bytes each, low byte first)
  * and what it holds. Kind 1 is an aggregate, 2 a literal, 3 a proxy: two bytes that name the page of the record that stands in its place, 4 a helper:
