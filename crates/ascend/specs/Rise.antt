@@ -16,7 +16,7 @@ use Rattle.laws.specs.Laws.{breadth-shown}
 use Rattle.reads.specs.Steps.{steps, few-steps}
 use Rattle.reads.specs.Reading.{reads-valid}
 use Rattle.places.specs.Order.{lone-root, one-root}
-use Rattle.stands.specs.Here.{OnPage, root-nesting}
+use Rattle.stands.specs.Here.{OnPage}
 use Rattle.stands.specs.Items.{Item, node, proxy, items, In, top, sub}
 use Rattle.stands.specs.Order as order
 use Rattle.descend.specs.Rowed.{width-steps}
@@ -161,7 +161,6 @@ module _ (img : List ℕ) (st : Config) (root : Row) (reads : Reads img st root)
           item = c .item;
           starts = c .starts;
           has = c .has;
-          deep = omega (arith, order.in-depth (c .is), root-nesting img st root reads);
           few = few;
         };
         room = omega (arith, l, n, w .high, v .levels, c .ends);

@@ -5,16 +5,17 @@ use Prim.Native.Nat.{ℕ, suc, _+_, _*_, _-_, _≤_, _<_}
 use native.Mathlib.Omega.{arith}
 use lib.ListN.{length, getD, take, drop}
 use lib.Seq.{drop-at, length-take-le}
-use Rattle.model.specs.Row.{Row, nil, agg, lit, rec, size, base, recordSize}
+use Rattle.model.specs.Row.{Row, nil, agg, lit, rec, size}
 use Rattle.model.specs.Tree.{width}
 use Rattle.model.specs.Reading.{twoAt}
 use Rattle.model.specs.Calls.{four, pathBytes}
 use Rattle.reads.specs.Steps.{steps}
 use Rattle.octets.specs.Over.{over, over-is, length-over}
-use Rattle.stands.specs.Here.{nesting, PageIn, Here, agg-view, lit-view, rec-view, OnPage}
+use Rattle.stands.specs.Here.{PageIn, Here, agg-view, lit-view, rec-view}
+use Rattle.stands.specs.Widths.{Widths}
 use Rattle.stands.specs.Items.{Item}
 use Rattle.stands.specs.Order as order
-use Rattle.descend.specs.Rowed.{Rowed, startOn, endOn, width-steps}
+use Rattle.descend.specs.Rowed.{width-steps}
 use Rattle.ascend.specs.Route.{Has, agg-here, agg-in, agg-past, lit-here, lit-past, rec-here, rec-past, spot, before, number, way, has-low, has-high, spot-low}
 
 -- ── a node of the row ──
@@ -25,7 +26,6 @@ pub record Standing (img : List ℕ) (i : ℕ) : Type 0 where
   pub row : Row
   pub here : Here img page i row
   pub some : 6 ≤ size row
-  pub deep : nesting row ≤ 1024
   pub few : steps row ≤ 4194304
 
 -- How many nodes the first of a row shows.
@@ -59,61 +59,27 @@ plain-row img i page (rec p s r rest) h n k = absurd (k (rec-view img page i p s
 pub plain : (img : List ℕ) (i : ℕ) (w : Standing img i) → (getD img i 0 ≡ 3 → ⊥) → 1 ≡ first (w .row)
 plain img i w k = plain-row img i (w .page) (w .row) (w .here) (w .some) k
 
--- A proxy, and the record that it stands for.
-pub record Proxied (img : List ℕ) (i n : ℕ) : Type 0 where
-  pub inside : i + 8 ≤ length img
-  pub page : ℕ
-  pub named : twoAt img (i + 6) ≡ page
-  pub holder : ℕ
-  pub row : Row
-  pub on : OnPage img page holder row
-  pub deep : nesting row ≤ 1024
-  pub few : steps row ≤ 4194304
-  pub shows : width row ≡ n
+-- A proxy: the page that it names, and how many nodes the table has for it.
+pub record Proxied (img : List ℕ) (p n : ℕ) : Type 0 where
+  pub on : PageIn img p
+  pub few : n ≤ 4194304
+  pub told : (c : List ℕ) → Widths img c → getD c p 0 ≡ n
 
-proxied-row : (img : List ℕ) (i page : ℕ) (row : Row) → Here img page i row → 6 ≤ size row → nesting row ≤ 1024 → steps row ≤ 4194304 → getD img i 0 ≡ 3 → Proxied img i (first row)
-proxied-row img i page nil h n d f k = absurd (omega arith)
-proxied-row img i page (agg l cs rest) h n d f k = absurd (omega (arith, agg-view img page i l cs rest h .kind))
-proxied-row img i page (lit l c rest) h n d f k = absurd (omega (arith, lit-view img page i l c rest h .kind))
-proxied-row img i page (rec p s r rest) h n d f k =
-    let v = rec-view img page i p s r rest h in
-    let o = h .on in
+proxied-row : (img : List ℕ) (i p page : ℕ) (row : Row) → p ≡ twoAt img (i + 6) → Here img page i row → 6 ≤ size row → steps row ≤ 4194304 → getD img i 0 ≡ 3 → Proxied img p (first row)
+proxied-row img i p page nil named h n f k = absurd (omega arith)
+proxied-row img i p page (agg l cs rest) named h n f k = absurd (omega (arith, agg-view img page i l cs rest h .kind))
+proxied-row img i p page (lit l c rest) named h n f k = absurd (omega (arith, lit-view img page i l c rest h .kind))
+proxied-row img i p page (rec q s r rest) named h n f k =
+    let v = rec-view img page i q s r rest h in
+    let same : p ≡ q = named ∙ v .name in
     record {
-      inside = omega (arith, h .room);
-      page = p;
-      named = v .name;
-      holder = page;
-      row = r;
-      on = v .under;
-      deep = omega arith;
-      few = omega arith;
-      shows = refl;
+      on = subst (PageIn img) (sym same) (v .under .here .on);
+      few = omega (arith, width-steps r);
+      told = λ c t. ap (λ (m : ℕ). getD c m 0) same ∙ t .told q page r (h .on .low) (v .under);
     }
 
-pub proxied : (img : List ℕ) (i : ℕ) (w : Standing img i) → getD img i 0 ≡ 3 → Proxied img i (first (w .row))
-proxied img i w k = proxied-row img i (w .page) (w .row) (w .here) (w .some) (w .deep) (w .few) k
-
--- The row of that record, from its start to its end.
-pub rowed : (img : List ℕ) (i n p start stop : ℕ) (u : Proxied img i n) → p ≡ twoAt img (i + 6) → start ≡ startOn img p → stop ≡ endOn img p
-    → (w : Rowed img start stop 1024) × (width (w .row) ≡ n)
-rowed img i n p start stop u named starts stops =
-    let o = u .on in
-    let same : p ≡ u .page = named ∙ u .named in
-    let a : start ≡ 4096 * u .page + base (u .row) = starts ∙ ap (startOn img) same ∙ ap (λ (k : ℕ). 4096 * u .page + k) (o .first) in
-    let b : stop ≡ 4096 * u .page + recordSize (u .row) = stops ∙ ap (endOn img) same ∙ ap (λ (k : ℕ). 4096 * u .page + k) (o .used) in (
-      record {
-        page = u .page;
-        row = u .row;
-        here = subst (λ (k : ℕ). Here img (u .page) k (u .row)) (sym a) (o .here);
-        ends = omega arith;
-        deep = u .deep;
-        few = u .few;
-      },
-      u .shows,
-    )
-
-pub page-of : (img : List ℕ) (i n p : ℕ) (u : Proxied img i n) → p ≡ twoAt img (i + 6) → PageIn img p
-page-of img i n p u named = subst (PageIn img) (sym (named ∙ u .named)) (u .on .here .on)
+pub proxied : (img : List ℕ) (i p : ℕ) (w : Standing img i) → p ≡ twoAt img (i + 6) → getD img i 0 ≡ 3 → Proxied img p (first (w .row))
+proxied img i p w named k = proxied-row img i p (w .page) (w .row) named (w .here) (w .some) (w .few) k
 
 -- ── along the row ──
 
@@ -125,7 +91,6 @@ pub record Search (img : List ℕ) (pos target : ℕ) : Type 0 where
   pub item : Item
   pub starts : order.at item ≡ target
   pub has : Has item pos row
-  pub deep : nesting row ≤ 1024
   pub few : steps row ≤ 4194304
 
 pub has-some : {item : Item} (pos : ℕ) (row : Row) → Has item pos row → 6 ≤ size row
@@ -139,7 +104,6 @@ standing img pos target w = record {
   row = w .row;
   here = w .here;
   some = has-some pos (w .row) (w .has);
-  deep = w .deep;
   few = w .few;
 }
 
@@ -152,36 +116,36 @@ pub record Turned (img : List ℕ) (i n target : ℕ) (at passed fst : ℕ) : Ty
 
 module _ (img : List ℕ) (i n target : ℕ) (long : n ≡ twoAt img (i + 4)) where
   module _ (item : Item) (starts : order.at item ≡ target) where
-    turn-row : i + n ≤ target → (page : ℕ) (row : Row) → Here img page i row → (b : Has item i row) → nesting row ≤ 1024 → steps row ≤ 4194304
+    turn-row : i + n ≤ target → (page : ℕ) (row : Row) → Here img page i row → (b : Has item i row) → steps row ≤ 4194304
         → Turned img i n target (spot b) (before b) (first row)
-    turn-row on page (agg l cs rest) h (agg-here e) d f = let v = agg-view img page i l cs rest h in absurd (omega (arith, ap order.at e, v .long))
-    turn-row on page (agg l cs rest) h (agg-in b) d f = let v = agg-view img page i l cs rest h in absurd (omega (arith, has-high (i + 6) cs b, v .long))
-    turn-row on page (agg l cs rest) h (agg-past b) d f =
+    turn-row on page (agg l cs rest) h (agg-here e) f = let v = agg-view img page i l cs rest h in absurd (omega (arith, ap order.at e, v .long))
+    turn-row on page (agg l cs rest) h (agg-in b) f = let v = agg-view img page i l cs rest h in absurd (omega (arith, has-high (i + 6) cs b, v .long))
+    turn-row on page (agg l cs rest) h (agg-past b) f =
         let v = agg-view img page i l cs rest h in
         let z : 6 + size cs ≡ n = omega (arith, v .long) in
         subst (λ (m : ℕ). Turned img i m target (spot b) (suc (before b)) 1) z (record {
           more = omega arith;
-          after = record { page = page; row = rest; here = v .after; item = item; starts = starts; has = b; deep = omega arith; few = omega arith };
+          after = record { page = page; row = rest; here = v .after; item = item; starts = starts; has = b; few = omega arith };
           same = refl;
           counts = omega arith;
         })
-    turn-row on page (lit l c rest) h (lit-here e) d f = let v = lit-view img page i l c rest h in absurd (omega (arith, ap order.at e, v .long))
-    turn-row on page (lit l c rest) h (lit-past b) d f =
+    turn-row on page (lit l c rest) h (lit-here e) f = let v = lit-view img page i l c rest h in absurd (omega (arith, ap order.at e, v .long))
+    turn-row on page (lit l c rest) h (lit-past b) f =
         let v = lit-view img page i l c rest h in
         let z : 6 + length c ≡ n = omega (arith, v .long) in
         subst (λ (m : ℕ). Turned img i m target (spot b) (suc (before b)) 1) z (record {
           more = omega arith;
-          after = record { page = page; row = rest; here = v .after; item = item; starts = starts; has = b; deep = omega arith; few = omega arith };
+          after = record { page = page; row = rest; here = v .after; item = item; starts = starts; has = b; few = omega arith };
           same = refl;
           counts = omega arith;
         })
-    turn-row on page (rec p s r rest) h (rec-here e) d f = let v = rec-view img page i p s r rest h in absurd (omega (arith, ap order.at e, v .long))
-    turn-row on page (rec p s r rest) h (rec-past b) d f =
+    turn-row on page (rec p s r rest) h (rec-here e) f = let v = rec-view img page i p s r rest h in absurd (omega (arith, ap order.at e, v .long))
+    turn-row on page (rec p s r rest) h (rec-past b) f =
         let v = rec-view img page i p s r rest h in
         let z : 8 ≡ n = omega (arith, v .long) in
         subst (λ (m : ℕ). Turned img i m target (spot b) (width r + before b) (width r)) z (record {
           more = omega arith;
-          after = record { page = page; row = rest; here = v .after; item = item; starts = starts; has = b; deep = omega arith; few = omega arith };
+          after = record { page = page; row = rest; here = v .after; item = item; starts = starts; has = b; few = omega arith };
           same = refl;
           counts = refl;
         })
@@ -202,7 +166,7 @@ module _ (img : List ℕ) (i n target : ℕ) (long : n ≡ twoAt img (i + 4)) wh
         absurd (omega (arith, has-low (i + 8) rest b, v .long))
 
   pub turn : (w : Search img i target) → i + n ≤ target → Turned img i n target (spot (w .has)) (before (w .has)) (first (w .row))
-  turn w on = turn-row (w .item) (w .starts) on (w .page) (w .row) (w .here) (w .has) (w .deep) (w .few)
+  turn w on = turn-row (w .item) (w .starts) on (w .page) (w .row) (w .here) (w .has) (w .few)
 
   -- or ends at it.
   pub stop : (w : Search img i target) → target < i + n → (spot (w .has) ≡ i) × (before (w .has) ≡ 0)
@@ -247,30 +211,30 @@ pub record Below (img : List ℕ) (target carry at : ℕ) (n passed : ℕ) (path
   pub leads : path ≡ number carry (under .has) ∷ way carry (under .has)
 
 module _ (img : List ℕ) (target carry : ℕ) (item : Item) (starts : order.at item ≡ target) where
-  below-row : (page pos : ℕ) (row : Row) → Here img page pos row → (b : Has item pos row) → nesting row ≤ 1024 → steps row ≤ 4194304 → (spot b ≡ target → ⊥)
+  below-row : (page pos : ℕ) (row : Row) → Here img page pos row → (b : Has item pos row) → steps row ≤ 4194304 → (spot b ≡ target → ⊥)
       → Below img target carry (spot b) (number carry b) (before b) (way carry b)
-  below-row page pos (agg l cs rest) h (agg-here e) d f k = absurd (k (ap order.at (sym e) ∙ starts))
-  below-row page pos (agg l cs rest) h (agg-in b) d f k =
+  below-row page pos (agg l cs rest) h (agg-here e) f k = absurd (k (ap order.at (sym e) ∙ starts))
+  below-row page pos (agg l cs rest) h (agg-in b) f k =
       let v = agg-view img page pos l cs rest h in
       record {
-        under = record { page = page; row = cs; here = v .children; item = item; starts = starts; has = b; deep = omega arith; few = omega arith };
+        under = record { page = page; row = cs; here = v .children; item = item; starts = starts; has = b; few = omega arith };
         lower = omega (arith, has-low (pos + 6) cs b);
         same = refl;
         leads = refl;
       }
-  below-row page pos (agg l cs rest) h (agg-past b) d f k =
+  below-row page pos (agg l cs rest) h (agg-past b) f k =
       let v = agg-view img page pos l cs rest h in
-      let u = below-row page (pos + (6 + size cs)) rest (v .after) b (omega arith) (omega arith) k in
+      let u = below-row page (pos + (6 + size cs)) rest (v .after) b (omega arith) k in
       record { under = u .under; lower = u .lower; same = ap suc (u .same); leads = u .leads }
-  below-row page pos (lit l c rest) h (lit-here e) d f k = absurd (k (ap order.at (sym e) ∙ starts))
-  below-row page pos (lit l c rest) h (lit-past b) d f k =
+  below-row page pos (lit l c rest) h (lit-here e) f k = absurd (k (ap order.at (sym e) ∙ starts))
+  below-row page pos (lit l c rest) h (lit-past b) f k =
       let v = lit-view img page pos l c rest h in
-      let u = below-row page (pos + (6 + length c)) rest (v .after) b (omega arith) (omega arith) k in
+      let u = below-row page (pos + (6 + length c)) rest (v .after) b (omega arith) k in
       record { under = u .under; lower = u .lower; same = ap suc (u .same); leads = u .leads }
-  below-row page pos (rec p s r rest) h (rec-here e) d f k = absurd (k (ap order.at (sym e) ∙ starts))
-  below-row page pos (rec p s r rest) h (rec-past b) d f k =
+  below-row page pos (rec p s r rest) h (rec-here e) f k = absurd (k (ap order.at (sym e) ∙ starts))
+  below-row page pos (rec p s r rest) h (rec-past b) f k =
       let v = rec-view img page pos p s r rest h in
-      let u = below-row page (pos + 8) rest (v .after) b (omega arith) (omega arith) k in
+      let u = below-row page (pos + 8) rest (v .after) b (omega arith) k in
       record { under = u .under; lower = u .lower; same = ap (λ (n : ℕ). width r + n) (u .same); leads = u .leads }
 
   at-row : (pos : ℕ) (row : Row) (b : Has item pos row) → spot b ≡ target → (before b + carry ≡ number carry b) × (way carry b ≡ [])
@@ -326,7 +290,7 @@ module _ (img : List ℕ) (pos target carry at : ℕ) (w : Tracing img pos targe
   below k =
       let s = w .search in
       subst (λ (z : ℕ). Below img target carry z (numberOf w) (before (s .has)) (wayOf w)) (sym found)
-      (below-row img target carry (s .item) (s .starts) (s .page) pos (s .row) (s .here) (s .has) (s .deep) (s .few) (λ e. k (found ∙ e)))
+      (below-row img target carry (s .item) (s .starts) (s .page) pos (s .row) (s .here) (s .has) (s .few) (λ e. k (found ∙ e)))
 
   pub lower : (c ≡ target → ⊥) → (pos ≤ c) × (c + 6 ≤ target)
   lower k = let s = w .search in (omega (arith, spot-low pos (s .row) (s .has)), below k .lower)

@@ -1,7 +1,5 @@
 // The path of a node, from its place up to the root.
-use descend::row_end;
 use descend::row_start;
-use descend::width;
 use follow::find_proxy;
 use follow::node_at;
 use model::Place;
@@ -13,21 +11,22 @@ ghost use mathlib.Core.Path.{_≡_};
 ghost use Prim.Native.Nat.{_+_, _<_};
 ghost use lib.ListN.{length};
 ghost use Rattle.model.specs.Calls.{checkOf, climbOf};
+ghost use Rattle.stands.specs.Widths.{Widths};
 ghost use Rattle.follow.specs.Scan.{NodeAt};
 ghost use Rattle.ascend.specs.Route.{spot, before};
 ghost use Rattle.ascend.specs.Rise.{Rose, placeAtByte};
 ghost use Rattle.ascend.specs.Search.{Standing, first, Search, Tracing, numberOf, wayOf, Wrote};
 
-// How many nodes the one at byte i shows: a proxy as many as its record.
-fn nodes_in(image: &[u8], i: usize) -> usize
-    requires { ⌜ Standing (now image) i ⌝ }
+// How many nodes the one at byte i shows: a proxy as many as its record, which `widths` has.
+fn nodes_in(image: &[u8], widths: &[u32; 1024], i: usize) -> usize
+    requires { ⌜ Standing (now image) i × Widths (now image) (now widths) ⌝ }
     ensures { λ r. ⌜ ((w : Standing (now (image .entry)) i) → r ≡ first (w .row)) ⌝ }
 {
     if image[i] != 3 {
         return 1;
     }
     let p = two(image, i + 6);
-    width(image, row_start(image, p), row_end(image, p), 1024)
+    widths[p] as usize
 }
 
 // A node of a row, and how many nodes the row shows before it.
@@ -37,14 +36,14 @@ struct Child {
 }
 
 // The node of the row at pos that holds byte target.
-fn child_at(image: &[u8], pos: usize, target: usize) -> Child
-    requires { ⌜ Search (now image) pos target ⌝ }
+fn child_at(image: &[u8], widths: &[u32; 1024], pos: usize, target: usize) -> Child
+    requires { ⌜ Search (now image) pos target × Widths (now image) (now widths) ⌝ }
     ensures { λ r. ⌜ ((w : Search (now (image .entry)) pos target) → (r .at ≡ spot (w .has)) × (r .before ≡ before (w .has))) ⌝ }
 {
     let mut i = pos;
     let mut n = 0;
     while i + two(image, i + 4) <= target {
-        n = n + nodes_in(image, i);
+        n = n + nodes_in(image, widths, i);
         i = i + two(image, i + 4);
     }
     Child { at: i, before: n }
@@ -60,24 +59,25 @@ struct Traced {
 // sought among those that it shows.
 fn trace(
     image: &[u8],
+    widths: &[u32; 1024],
     pos: usize,
     target: usize,
     carry: usize,
     path: &mut [u8; 92],
     at: usize,
 ) -> Traced
-    requires { ⌜ Tracing (now image) pos target carry at × (length (now path) ≡ 92) ⌝ }
+    requires { ⌜ Tracing (now image) pos target carry at × Widths (now image) (now widths) × (length (now path) ≡ 92) ⌝ }
     ensures { λ r. ⌜ ((w : Tracing (now (image .entry)) pos target carry at) →
         Wrote (numberOf w) (wayOf w) at (r .index) (r .at) (now (path .exit)) (now (path .entry))) ⌝ }
 {
-    let c = child_at(image, pos, target);
+    let c = child_at(image, widths, pos, target);
     if c.at == target {
         return Traced {
             at: at,
             index: c.before + carry,
         };
     }
-    let t = trace(image, c.at + 6, target, carry, path, at);
+    let t = trace(image, widths, c.at + 6, target, carry, path, at);
     put32(path, t.at - 4, t.index);
     Traced {
         at: t.at - 4,
@@ -86,8 +86,8 @@ fn trace(
 }
 
 // Writes the path of the node at byte pos to the end of `path`, and gives where it starts. At most `left` records are above.
-fn climb_path(image: &[u8], pos: usize, path: &mut [u8; 92]) -> usize
-    requires { ⌜ NodeAt (now image) pos × (length (now path) ≡ 92) ⌝ }
+fn climb_path(image: &[u8], widths: &[u32; 1024], pos: usize, path: &mut [u8; 92]) -> usize
+    requires { ⌜ NodeAt (now image) pos × Widths (now image) (now widths) × (length (now path) ≡ 92) ⌝ }
     ensures { λ r. ⌜ ((w : NodeAt (now (image .entry)) pos) → Rose (w .root) (placeAtByte pos) r (now (path .exit))) × (length (now (path .exit)) ≡ 92) ⌝ }
 {
     let mut page = pos / 4096;
@@ -96,7 +96,15 @@ fn climb_path(image: &[u8], pos: usize, path: &mut [u8; 92]) -> usize
     let mut at = 92;
     let mut left: usize = 1024;
     loop {
-        let t = trace(image, row_start(image, page), target, carry, path, at);
+        let t = trace(
+            image,
+            widths,
+            row_start(image, page),
+            target,
+            carry,
+            path,
+            at,
+        );
         at = t.at;
         carry = t.index;
         if page == 1 {
@@ -110,8 +118,8 @@ fn climb_path(image: &[u8], pos: usize, path: &mut [u8; 92]) -> usize
 }
 
 // Climb: writes the path of the node at a place to the front of the buffer; 10 where no node stands, 11 where the buffer is short.
-pub fn climb_of(image: &[u8], x: Place, buffer: &mut [u8]) -> WriteAnswer
-    requires { ⌜ checkOf (now image) ≡ 0 ⌝ }
+pub fn climb_of(image: &[u8], widths: &[u32; 1024], x: Place, buffer: &mut [u8]) -> WriteAnswer
+    requires { ⌜ (checkOf (now image) ≡ 0) × Widths (now image) (now widths) ⌝ }
     ensures { λ r. ⌜ (r ≡ climbOf (now (image .entry)) x (now (buffer .entry)) .0) × (now (buffer .exit) ≡ climbOf (now (image .entry)) x (now (buffer .entry)) .1) ⌝ }
 {
     let pos = node_at(image, x.page, x.offset);
@@ -122,7 +130,7 @@ pub fn climb_of(image: &[u8], x: Place, buffer: &mut [u8]) -> WriteAnswer
         };
     }
     let mut path = [0u8; 92];
-    let at = climb_path(image, pos, &mut path);
+    let at = climb_path(image, widths, pos, &mut path);
     let n = 92 - at;
     if buffer.len() < n {
         return WriteAnswer {

@@ -165,9 +165,10 @@ counted img i end depth n t s h = go (s .rest .row) (s .rest .ends) (s .sum)
 pub count-node : (img : List ℕ) (i end depth n t len : ℕ) → (s : Counted img i end depth n t) → Passed img i end depth len (s .rest .row) → Counted img (i + len) end depth (n + 1) t
 count-node img i end depth n t len s a = record { rest = a .after; sum = omega (arith, s .sum, a .wide) }
 
-pub count-proxy : (img : List ℕ) (i end depth n t len p start stop m : ℕ) → (s : Counted img i end depth n t)
-    → (a : Entered img i end depth len p start stop (s .rest .row)) → m ≡ width (a .inside .row) → Counted img (i + len) end depth (n + m) t
-count-proxy img i end depth n t len p start stop m s a e = record { rest = a .after; sum = omega (arith, s .sum, a .wide) }
+-- A proxy, by the table's number of its record's nodes.
+pub count-proxy : (img : List ℕ) (i end depth n t len p start stop : ℕ) → (s : Counted img i end depth n t)
+    → Entered img i end depth len p start stop (s .rest .row) → (c : List ℕ) → Widths img c → Counted img (i + len) end depth (n + getD c p 0) t
+count-proxy img i end depth n t len p start stop s a c table = record { rest = a .after; sum = omega (arith, s .sum, a .wide, a .told c table) }
 
 -- ── searching ──
 

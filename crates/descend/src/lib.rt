@@ -36,21 +36,18 @@ pub fn row_end(image: &[u8], p: usize) -> usize
     a + two(image, a + 4082)
 }
 
-// How many nodes the row from pos to end shows. Records are nested at most `depth` deep below it.
-pub fn width(image: &[u8], pos: usize, end: usize, depth: usize) -> usize
-    requires { ⌜ Rowed (now image) pos end depth ⌝ }
-    ensures { λ r. ⌜ ((w : Rowed (now (image .entry)) pos end depth) → r ≡ tree.width (w .row)) ⌝ }
+// How many nodes the row from pos to end shows. `widths` has how many each record shows.
+pub fn width(image: &[u8], widths: &[u32; 1024], pos: usize, end: usize) -> usize
+    requires { ⌜ Rowed (now image) pos end 1024 × Widths (now image) (now widths) ⌝ }
+    ensures { λ r. ⌜ ((w : Rowed (now (image .entry)) pos end 1024) → r ≡ tree.width (w .row)) ⌝ }
 {
     let mut n = 0;
     let mut i = pos;
     while i < end {
         let next = i + two(image, i + 4);
         if image[i] == 3 {
-            if depth == 0 {
-                return 0;
-            }
             let p = two(image, i + 6);
-            n = n + width(image, row_start(image, p), row_end(image, p), depth - 1);
+            n = n + widths[p] as usize;
         } else {
             n = n + 1;
         }

@@ -17,6 +17,7 @@ ghost use lib.Dec.{eqb};
 ghost use Rattle.model.specs.Reading.{twoAt};
 ghost use Rattle.model.specs.Calls.{checkOf, kindOf, nextOf, readOf};
 ghost use Rattle.stands.specs.Order.{step};
+ghost use Rattle.stands.specs.Widths.{Widths};
 ghost use Rattle.follow.specs.Scan.{OnRecord, Reached, Standing, Located, HeldBy, NodeAt, names as namesPage};
 ghost use Rattle.follow.specs.Read.{Inner, aggRead, litRead};
 ghost use Rattle.follow.specs.Follow.{Climbed, Ahead, Follows, Nexted};
@@ -198,13 +199,14 @@ pub fn next_of(image: &[u8], x: Place) -> NextAnswer
 
 // ── a node's numbers ──
 
-fn read_agg(image: &[u8], pos: usize) -> ReadNode
-    requires { ⌜ (pos + 5 < length (now image)) × (pos < 4194304) × Inner (now image) pos ⌝ }
+// An aggregate's; `widths` has how many nodes each record shows.
+fn read_agg(image: &[u8], widths: &[u32; 1024], pos: usize) -> ReadNode
+    requires { ⌜ (pos + 5 < length (now image)) × (pos < 4194304) × Inner (now image) pos × Widths (now image) (now widths) ⌝ }
     ensures { λ r. ⌜ ((w : Inner (now (image .entry)) pos) → r ≡ aggRead (now (image .entry)) pos (w .row)) ⌝ }
 {
     let label = two(image, pos + 2);
     let end = pos + two(image, pos + 4);
-    let n = width(image, pos + 6, end, 1024);
+    let n = width(image, widths, pos + 6, end);
     ReadNode {
         number: 0,
         kind: 1,
@@ -244,8 +246,8 @@ fn read_lit(image: &[u8], pos: usize) -> ReadNode
 }
 
 // Read: 0, or 10 where the place is no node's; the content is a part of the image.
-pub fn read_of(image: &[u8], x: Place) -> ReadNode
-    requires { ⌜ checkOf (now image) ≡ 0 ⌝ }
+pub fn read_of(image: &[u8], widths: &[u32; 1024], x: Place) -> ReadNode
+    requires { ⌜ (checkOf (now image) ≡ 0) × Widths (now image) (now widths) ⌝ }
     ensures { λ r. ⌜ r ≡ readOf (now (image .entry)) x ⌝ }
 {
     let pos = node_at(image, x.page, x.offset);
@@ -260,7 +262,7 @@ pub fn read_of(image: &[u8], x: Place) -> ReadNode
         };
     }
     if image[pos] == 1 {
-        return read_agg(image, pos);
+        return read_agg(image, widths, pos);
     }
     read_lit(image, pos)
 }

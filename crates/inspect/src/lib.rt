@@ -339,7 +339,7 @@ fn list_check<'a>(
     cur
 }
 
-// The nodes that a helper holds: as list_check, and they are counted.
+// The nodes that a helper holds: as list_check, and they are counted. A function of its own, so that list_check stays small.
 fn helper_check<'a>(
     image: &'a [u8],
     part: &'a [u8],

@@ -28,7 +28,7 @@ pub fn check(image: &[u8]) -> u32
     inspect::check(image)
 }
 
-// The check, for calls that look for a node by its number among others: it leaves in a table how many nodes the record on each page shows.
+// The check, for calls that count the nodes of rows: it leaves in a table how many nodes the record on each page shows.
 fn check_widths(image: &[u8], widths: &mut [u32; 1024]) -> u32
     requires { ⌜ length (now widths) ≡ 1024 ⌝ }
     ensures { λ r. ⌜ (r ≡ checkOf (now (image .entry))) × (r ≡ 0 → Widths (now (image .entry)) (now (widths .exit))) ⌝ }
@@ -81,21 +81,23 @@ pub fn climb(image: &[u8], place: Place, buffer: &mut [u8]) -> WriteAnswer
     ensures answer { λ r. ⌜ r ≡ climbOf (now (image .entry)) place (now (buffer .entry)) .0 ⌝ }
     ensures buffer { λ _. ⌜ now (buffer .exit) ≡ climbOf (now (image .entry)) place (now (buffer .entry)) .1 ⌝ }
 {
-    let n = check(image);
+    let mut widths = [0u32; 1024];
+    let n = check_widths(image, &mut widths);
     if n != 0 {
         return WriteAnswer {
             number: n,
             written: 0,
         };
     }
-    ascend::climb_of(image, place, buffer)
+    ascend::climb_of(image, &widths, place, buffer)
 }
 
 // Kind, label, number of children and where the content is, of the node at a place.
 pub fn read_node(image: &[u8], place: Place) -> ReadNode
     ensures { λ r. ⌜ r ≡ readOf (now (image .entry)) place ⌝ }
 {
-    let n = check(image);
+    let mut widths = [0u32; 1024];
+    let n = check_widths(image, &mut widths);
     if n != 0 {
         return ReadNode {
             number: n,
@@ -106,7 +108,7 @@ pub fn read_node(image: &[u8], place: Place) -> ReadNode
             len: 0,
         };
     }
-    follow::read_of(image, place)
+    follow::read_of(image, &widths, place)
 }
 
 // The same from a page and an offset.

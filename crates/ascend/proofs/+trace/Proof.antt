@@ -12,14 +12,14 @@ use Rattle.octets.proofs.put32.Reads as put32-reads
 use Rattle.ascend.proofs.+trace.{statement}
 use Rattle.ascend.proofs.+trace.Tie.{close}
 
-abbrev μ-trace : Measures 2 trace-kinds.ps ℕ
-μ-trace κs a = a .1 .1 .0 - a .1 .0
+abbrev μ-trace : Measures 3 trace-kinds.ps ℕ
+μ-trace κs a = a .1 .1 .1 .0 - a .1 .1 .0
 
-abbrev trace-at : ℕ → In 2 trace-kinds.ps
-trace-at t = and 2 trace-kinds.ps (is 2 trace-kinds.ps μ-trace t) trace.Pre
+abbrev trace-at : ℕ → In 3 trace-kinds.ps
+trace-at t = and 3 trace-kinds.ps (is 3 trace-kinds.ps μ-trace t) trace.Pre
 
-abbrev trace-less : ℕ → In 2 trace-kinds.ps
-trace-less t = and 2 trace-kinds.ps (falls 2 trace-kinds.ps _<_ μ-trace t) trace.Pre
+abbrev trace-less : ℕ → In 3 trace-kinds.ps
+trace-less t = and 3 trace-kinds.ps (falls 3 trace-kinds.ps _<_ μ-trace t) trace.Pre
 
 abbrev claims : ℕ → trace-lts.Claims
 claims t = (
@@ -32,17 +32,19 @@ claims t = (
 )
 
 trace-child-at-requires : (t : ℕ) → trace-lts.Need-child-at-requires (claims t) (trace-at t) trace.Post
-trace-child-at-requires t c κs = c .before .pre .1 .0 .search
+trace-child-at-requires t c κs =
+    let w = c .before .pre .1 in
+    (w .0 .search, w .1)
 
-trace-add-t10 : (t : ℕ) → trace-lts.Need-add-t10 (claims t) (trace-at t) trace.Post
-trace-add-t10 t c =
+trace-add-t11 : (t : ℕ) → trace-lts.Need-add-t11 (claims t) (trace-at t) trace.Post
+trace-add-t11 t c =
     let w = c .before .before .before .before .before .pre .1 .0 in
     omega (arith, c .before .before .before .child-at .ensures (w .search) .1, few-before _ _ _ (w .search), w .small)
 
 trace-returns : (t : ℕ) → trace-lts.Need-returns (claims t) (trace-at t) trace.Post
 trace-returns t c w =
     let f = c .before .before .before .child-at .ensures (w .search) in
-    wrote-here _ _ _ _ _ w _ (f .0) _ _ (f .1) (c .before .if1 .taken) (c .before .before .before .before .before .pre .1 .1)
+    wrote-here _ _ _ _ _ w _ (f .0) _ _ (f .1) (c .before .if1 .taken) (c .before .before .before .before .before .pre .1 .2)
 
 trace-add-trace : (t : ℕ) → trace-lts.Need-add-trace (claims t) (trace-at t) trace.Post
 trace-add-trace t c =
@@ -55,7 +57,7 @@ trace-trace-requires t c κs =
     let w = s .pre .1 .0 in
     let f = c .before .before .before .before .child-at .ensures (w .search) .0 in
     let k = c .before .before .if1 .left in
-    (omega (arith, s .pre .0, lower _ _ _ _ _ w _ f k), (trace-below _ _ _ _ _ w _ f k, s .pre .1 .1))
+    (omega (arith, s .pre .0, lower _ _ _ _ _ w _ f k), (trace-below _ _ _ _ _ w _ f k, s .pre .1 .1, s .pre .1 .2))
 
 trace-sub-put32 : (t : ℕ) → trace-lts.Need-sub-put32 (claims t) (trace-at t) trace.Post
 trace-sub-put32 t c =
@@ -72,8 +74,8 @@ trace-put32-requires t c κs =
     let n = c .before .before .trace .ensures (trace-below _ _ _ _ _ w _ f k) in
     omega (arith, room-below _ _ _ _ _ w _ f k _ _ _ _ n, n .long)
 
-trace-sub-t11 : (t : ℕ) → trace-lts.Need-sub-t11 (claims t) (trace-at t) trace.Post
-trace-sub-t11 t c =
+trace-sub-t12 : (t : ℕ) → trace-lts.Need-sub-t12 (claims t) (trace-at t) trace.Post
+trace-sub-t12 t c =
     let w = c .before .before .before .before .before .before .before .before .before .before .before .pre .1 .0 in
     let f = c .before .before .before .before .before .before .before .before .before .child-at .ensures (w .search) .0 in
     let k = c .before .before .before .before .before .before .before .if1 .left in
@@ -90,11 +92,11 @@ pub +trace-spec : {M : Type 1} → statement M
     (trace-at t)
     trace.Post
     (trace-child-at-requires t)
-    (trace-add-t10 t)
+    (trace-add-t11 t)
     (trace-returns t)
     (trace-add-trace t)
     (trace-trace-requires t)
     (trace-sub-put32 t)
     (trace-put32-requires t)
-    (trace-sub-t11 t)
+    (trace-sub-t12 t)
     (trace-returns-2 t)

@@ -10,10 +10,10 @@ node-at-requires : tie.Need-node-at-requires
 node-at-requires c κs = search needs
 
 returns : tie.Need-returns
-returns c = climb-none _ _ _ _ (c .before .before .before .before .pre) (c .before .node-at .ensures) (c .if1 .taken)
+returns c = climb-none _ _ _ _ (c .before .before .before .before .pre .0) (c .before .node-at .ensures) (c .if1 .taken)
 
 climb-path-requires : tie.Need-climb-path-requires
-climb-path-requires c κs = (some-node _ _ _ _ (c .before .before .node-at .ensures) (c .before .if1 .left) .node, refl)
+climb-path-requires c κs = (some-node _ _ _ _ (c .before .before .node-at .ensures) (c .before .if1 .left) .node, c .before .before .before .before .before .pre .1, refl)
 
 sub-n : tie.Need-sub-n
 sub-n c = omega (arith, room _ _ _ _ (some-node _ _ _ _ (c .before .before .before .node-at .ensures) (c .before .before .if1 .left) .node) (c .climb-path .ensures))

@@ -8,14 +8,14 @@ use Rattle.ascend.proofs.climb_path.Statement.{statement}
 use Rattle.ascend.proofs.climb_path.Tie as tie
 
 abbrev Inv-loop : tie.InvT-loop
-Inv-loop image pos path₀ page₀ target₀ carry₀ at₀ left₀ path page target carry at left =
+Inv-loop image widths pos path₀ page₀ target₀ carry₀ at₀ left₀ path page target carry at left =
     ((w : NodeAt image pos) → Climb (w .root) (placeAtByte pos) page target carry at left path) × (length path ≡ 92)
 
 abbrev μ-loop : tie.MeasureT-loop
-μ-loop image pos path₀ page₀ target₀ carry₀ at₀ left₀ path page target carry at left = left
+μ-loop image widths pos path₀ page₀ target₀ carry₀ at₀ left₀ path page target carry at left = left
 
 loop-holds : tie.Need-loop-holds Inv-loop μ-loop
-loop-holds c = (λ w. rise-start _ _ _ _ w refl (c .before .pre .1), c .before .pre .1)
+loop-holds c = (λ w. rise-start _ _ _ _ w refl (c .before .pre .2), c .before .pre .2)
 
 row-start-requires : tie.Need-row-start-requires Inv-loop μ-loop
 row-start-requires c κs =
@@ -24,9 +24,9 @@ row-start-requires c κs =
 
 trace-requires : tie.Need-trace-requires Inv-loop μ-loop
 trace-requires c κs =
-    let w = c .before .before .before .before .pre .0 in
+    let p = c .before .before .before .before .pre in
     let l = c .before .before .loop .inv in
-    (started _ _ _ (w .reads) _ _ _ _ _ _ _ (l .0 w) _ (c .before .row-start .ensures) .trace, l .1)
+    (started _ _ _ (p .0 .reads) _ _ _ _ _ _ _ (l .0 (p .0)) _ (c .before .row-start .ensures) .trace, p .1, l .1)
 
 returns : tie.Need-returns Inv-loop μ-loop
 returns c = (

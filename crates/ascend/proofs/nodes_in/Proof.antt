@@ -1,9 +1,12 @@
--- `ascend::nodes_in`: a node shows itself, a proxy what its record's row shows.
-use mathlib.Core.Path.{_∙_}
+-- `ascend::nodes_in`: a node shows itself, a proxy as many nodes as the table has for its page.
+use native.Mathlib.Omega.{arith}
 use borrow.Author.Needs.{needs}
-use Rattle.ascend.specs.Search.{plain, proxied, rowed, page-of}
+use Rattle.ascend.specs.Search.{Proxied, first, plain, proxied}
 use Rattle.ascend.proofs.nodes_in.Statement.{statement}
 use Rattle.ascend.proofs.nodes_in.Tie as tie
+
+proxy : (c : tie.After-two) → let s = c .before .before .before .before in Proxied (s .args .image .now) (c .two .result) (first (s .pre .0 .row))
+proxy c = proxied _ _ _ (c .before .before .before .before .pre .0) (c .two .ensures .0) (c .before .if1 .left)
 
 shared-slice-read-if1 : tie.Need-shared-slice-read-if1
 shared-slice-read-if1 c = search needs
@@ -17,19 +20,19 @@ add-two c = search needs
 two-requires : tie.Need-two-requires
 two-requires c κs = search needs
 
-row-start-requires : tie.Need-row-start-requires
-row-start-requires c κs = page-of _ _ _ _ (proxied _ _ (c .before .before .before .before .pre) (c .before .if1 .left)) (c .two .ensures .0)
+mul-result : tie.Need-mul-result
+mul-result c = search needs
 
-row-end-requires : tie.Need-row-end-requires
-row-end-requires c κs = page-of _ _ _ _ (proxied _ _ (c .before .before .before .before .before .pre) (c .before .before .if1 .left)) (c .before .two .ensures .0)
+element-copy-out-result : tie.Need-element-copy-out-result
+element-copy-out-result c = proxy c .on .high
 
-width-requires : tie.Need-width-requires
-width-requires c κs = rowed _ _ _ _ _ _ (proxied _ _ (c .before .before .before .before .before .before .pre) (c .before .before .before .if1 .left)) (c .before .before .two .ensures .0) (c .before .row-start .ensures) (c .row-end .ensures) .0
+cast-result : tie.Need-cast-result
+cast-result c =
+    let p = proxy (c .before) in
+    omega (arith, p .few, p .told _ (c .before .before .before .before .before .pre .1))
 
 returns-2 : tie.Need-returns-2
-returns-2 c w =
-    let r = rowed _ _ _ _ _ _ (proxied _ _ w (c .before .before .before .before .if1 .left)) (c .before .before .before .two .ensures .0) (c .before .before .row-start .ensures) (c .before .row-end .ensures) in
-    c .width .ensures (r .0) ∙ r .1
+returns-2 c w = proxied _ _ _ w (c .before .two .ensures .0) (c .before .before .if1 .left) .told _ (c .before .before .before .before .before .pre .1)
 
 pub nodes-in-spec : {M : Type 1} → statement M
 nodes-in-spec =
@@ -39,7 +42,7 @@ nodes-in-spec =
     returns
     add-two
     two-requires
-    row-start-requires
-    row-end-requires
-    width-requires
+    mul-result
+    element-copy-out-result
+    cast-result
     returns-2)

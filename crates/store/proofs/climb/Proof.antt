@@ -1,25 +1,28 @@
 -- `store::climb` meets its contract: an image that does not pass gives the check's number.
-use borrow.Author.Needs.{needs}
-use denote.Ref.{now}
-use mathlib.Core.Path.{sym, ap}
+use mathlib.Core.Path.{sym, ap, _∙_}
 use mathlib.Core.List.{List}
 use Prim.Native.Nat.{ℕ}
+use borrow.Author.Needs.{needs}
+use denote.Ref.{now}
+use lib.ListN.{length-replicate}
 use Rattle.model.specs.declared.WriteAnswer.{WriteAnswer}
 use Rattle.store.specs.Refused.{climb-refused}
 use Rattle.store.proofs.climb.Statement.{statement}
 use Rattle.store.proofs.climb.Tie as tie
 
-check-requires : tie.Need-check-requires
-check-requires c κs = search needs
+check-widths-requires : tie.Need-check-widths-requires
+check-widths-requires c κs = length-replicate {A = ℕ} 1024 0
 
 returns : tie.Need-returns
 returns c =
-    let a = c .before .before .before .before .args in
-    let e = climb-refused (now (a .image)) (c .before .check .result) (c .before .check .ensures) (c .if1 .taken) (a .place) (now (a .buffer)) in
+    let a = c .before .before .before .before .before .args in
+    let e = climb-refused (now (a .image)) (c .before .check-widths .result) (c .before .check-widths .ensures .0) (c .if1 .taken) (a .place) (now (a .buffer)) in
     (sym (ap (λ (o : WriteAnswer × List ℕ). o .0) e), sym (ap (λ (o : WriteAnswer × List ℕ). o .1) e))
 
 climb-of-requires : tie.Need-climb-of-requires
-climb-of-requires c κs = search needs
+climb-of-requires c κs =
+    let e = c .before .before .before .check-widths .ensures in
+    (sym (e .0) ∙ c .before .before .if1 .left, e .1 (c .before .before .if1 .left))
 
 same-length : tie.Need-same-length
 same-length c = search needs
@@ -28,4 +31,4 @@ returns-2 : tie.Need-returns-2
 returns-2 c = search needs
 
 pub climb-spec : {M : Type 1} → statement M
-climb-spec = tie.close (tie.spec check-requires returns climb-of-requires same-length returns-2)
+climb-spec = tie.close (tie.spec check-widths-requires returns climb-of-requires same-length returns-2)

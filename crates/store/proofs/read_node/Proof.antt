@@ -1,23 +1,28 @@
 -- `store::read_node` meets its contract: an image that does not pass gives the check's number.
+use mathlib.Core.Path.{sym, _∙_}
+use Prim.Native.Nat.{ℕ}
 use borrow.Author.Needs.{needs}
 use denote.Ref.{now}
+use lib.ListN.{length-replicate}
 use Rattle.store.specs.Refused.{read-refused}
 use Rattle.store.proofs.read_node.Statement.{statement}
 use Rattle.store.proofs.read_node.Tie as tie
 
-check-requires : tie.Need-check-requires
-check-requires c κs = search needs
+check-widths-requires : tie.Need-check-widths-requires
+check-widths-requires c κs = length-replicate {A = ℕ} 1024 0
 
 returns : tie.Need-returns
 returns c =
-    let a = c .before .before .before .args in
-    read-refused (now (a .image)) (c .before .check .result) (c .before .check .ensures) (c .if1 .taken) (a .place)
+    let a = c .before .before .before .before .args in
+    read-refused (now (a .image)) (c .before .check-widths .result) (c .before .check-widths .ensures .0) (c .if1 .taken) (a .place)
 
 read-of-requires : tie.Need-read-of-requires
-read-of-requires c κs = search needs
+read-of-requires c κs =
+    let e = c .before .before .check-widths .ensures in
+    (sym (e .0) ∙ c .before .if1 .left, e .1 (c .before .if1 .left))
 
 returns-2 : tie.Need-returns-2
 returns-2 c = search needs
 
 pub read-node-spec : {M : Type 1} → statement M
-read-node-spec = tie.close (tie.spec check-requires returns read-of-requires returns-2)
+read-node-spec = tie.close (tie.spec check-widths-requires returns read-of-requires returns-2)
