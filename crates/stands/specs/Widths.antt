@@ -34,7 +34,7 @@ one-page img p holder holder₁ a b same x y =
     same p p (4096 * p + base a) (x .here) (subst (λ (n : ℕ). Here img p n b) z (y .here)) (omega arith)
 
 -- Two rows that stand at one byte with one size show as many nodes.
-pub same-width : (img : List ℕ) (page page₁ pos : ℕ) (a b : Row) → Here img page pos a → Here img page₁ pos b → size a ≡ size b → width a ≡ width b
+same-width : (img : List ℕ) (page page₁ pos : ℕ) (a b : Row) → Here img page pos a → Here img page₁ pos b → size a ≡ size b → width a ≡ width b
 same-width img page page₁ pos nil nil x y e = refl
 same-width img page page₁ pos nil (agg h cs rest) x y e = absurd (omega arith)
 same-width img page page₁ pos nil (lit h c rest) x y e = absurd (omega arith)
@@ -73,7 +73,7 @@ same-width img page page₁ pos (rec p s r rest) (rec p₁ s₁ r₁ rest₁) x 
     omega (arith, same-width img page page₁ (pos + 8) rest rest₁ (v .after) (w .after) (omega arith))
 
 -- So a page's record shows as many nodes however it is read.
-pub page-width : (img : List ℕ) (p holder holder₁ : ℕ) (a b : Row) → OnPage img p holder a → OnPage img p holder₁ b → width a ≡ width b
+page-width : (img : List ℕ) (p holder holder₁ : ℕ) (a b : Row) → OnPage img p holder a → OnPage img p holder₁ b → width a ≡ width b
 page-width img p holder holder₁ a b = one-page img p holder holder₁ a b (λ page page₁ pos. same-width img page page₁ pos a b)
 
 -- ── the table of a root record ──
@@ -87,7 +87,7 @@ either {A = A} x y h f g = go (leb 1 x) refl
     go false e = g (omega (arith, leb-false 1 x e))
 
 -- For each page named in a row that stands: the record there, with the table's entry.
-pub told-at : (img c : List ℕ) (page pos : ℕ) (row : Row) → Here img page pos row → Told c row → (q : ℕ) → 1 ≤ count q row
+told-at : (img c : List ℕ) (page pos : ℕ) (row : Row) → Here img page pos row → Told c row → (q : ℕ) → 1 ≤ count q row
     → (holder : ℕ) × (r : Row) × OnPage img q holder r × (getD c q 0 ≡ width r)
 told-at img c page pos nil x t q k = absurd (omega arith)
 told-at img c page pos (agg h cs rest) x t q k =

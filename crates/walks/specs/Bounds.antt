@@ -14,7 +14,7 @@ use Rattle.laws.specs.Laws.{width-⊹, cond-case}
 use Rattle.reads.specs.Valid as valid
 use Rattle.walks.specs.Rec.{run, under, steps}
 use Rattle.walks.specs.Tests.{sizeOf, headOf, stateOf, settingsOk, firstOk}
-use Rattle.walks.specs.Walk.{State, withMark, entersOf, Decoded, Job, node, list, measure, stop, none, recordOf, step, proxyStep, nodeStep, moreStep, listStep, decode, proxyOf}
+use Rattle.walks.specs.Walk.{State, withMark, entersOf, Decoded, Job, node, list, measure, stop, none, recordOf, step, proxyStep, nodeStep, moreStep, listStep, decode}
 use Rattle.walks.specs.Facts.{both}
 use Rattle.walks.specs.Steps.{from, head-long, size-long, entered, length-part, used-is}
 use Rattle.walks.specs.Check.{scanFrom, trailersOf}
@@ -102,10 +102,6 @@ module _ (img : List ℕ) where
   pub decoded-wide : (j : Job) → width (decode img j .row) + 4096 * decode img j .walk .left ≤ bytesIn j + 4096 * from j .left
   unfolding decode run
   decoded-wide j = wide-steps (suc (measure j)) j
-
-  pub proxy-wide : (p page level : ℕ) (w : State)
-      → width (proxyOf img p page level w .row) + 4096 * proxyOf img p page level w .walk .left ≤ 4096 * w .left
-  proxy-wide p page level w = omega (arith, wide-proxy img (decode img) decoded-wide p page level w)
 
 -- ── the pages that it is to reach ──
 
