@@ -1,4 +1,4 @@
--- The walk at each return of the three functions that make it: what `decode` gives there.
+-- The walk at each return of the four functions that make it: what `decode` gives there.
 use mathlib.Core.Path.{_≡_, refl, ap, sym, subst, _∙_}
 use mathlib.Core.List.{List}
 use mathlib.Core.Bool.{Bool, true, false, cond, not}
@@ -84,7 +84,7 @@ module _ (img : List ℕ) (s : List ℕ) (page holder level : ℕ) (w : State) w
     node-at : (d : Decoded) → nodeStep img (decode img) s page holder level w kind ≡ d → Is d
     node-at d e = node-eq img s page holder level w ∙ ap (nodeStep img (decode img) s page holder level w) (sym is) ∙ e
 
-    pub node-0 : kind ≡ 0 → Is (stop w)
+    node-0 : kind ≡ 0 → Is (stop w)
     unfolding nodeStep
     node-0 a = node-at _ (simp a)
 
@@ -172,6 +172,10 @@ pub record On (img part : List ℕ) (page holder level : ℕ) (whole : Decoded) 
   pub walk : whole .walk ≡ listOf img (drop at part) page holder level cur .walk
   pub table : widthsAfter (whole .row) old ≡ widthsAfter (listOf img (drop at part) page holder level cur .row) new
 
+-- the count is whole where nothing more is passed
+pub counted-end : (d : Decoded) (v : State) (n all : ℕ) → d ≡ record { row = nil; walk = v } → all ≡ n + width (d .row) → n ≡ all
+counted-end d v n all e k = sym (k ∙ ap (λ (d : Decoded). n + width (d .row)) e ∙ omega arith)
+
 module _ (img part : List ℕ) (page holder level : ℕ) (whole : Decoded) where
   -- n nodes are passed
   abbrev pub Counted : State → (n at : ℕ) → Type 0
@@ -185,9 +189,6 @@ module _ (img part : List ℕ) (page holder level : ℕ) (whole : Decoded) where
       walk = sym (on .walk ∙ ap (λ (d : Decoded). d .walk) e);
       table = sym (on .table ∙ ap (λ (d : Decoded). widthsAfter (d .row) new) e);
     }
-
-    pub counted-end : (n : ℕ) → Counted cur n at → (v : State) → listOf img (drop at part) page holder level cur ≡ record { row = nil; walk = v } → n ≡ width (whole .row)
-    counted-end n k v e = sym (k ∙ ap (λ (d : Decoded). n + width (d .row)) e ∙ omega arith)
 
     module _ (here : at < length part) (ok : cur .left ≡ 0 → ⊥) where
       -- the bytes from `at` on

@@ -225,9 +225,9 @@ pub fn enters(image: &[u8], p: usize, page: usize, left: usize, marks: &[u8; 128
 }
 
 // What a walk leaves to be reached, 0 where it is refused, and how many nodes it was shown.
-pub struct Walked {
-    pub left: usize,
-    pub width: usize,
+struct Walked {
+    left: usize,
+    width: usize,
 }
 
 // The record that a proxy in the record of a page names. `widths`, here and below, gets how many nodes each record shows.

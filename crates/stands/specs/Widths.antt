@@ -18,7 +18,6 @@ use Rattle.stands.specs.Here.{Here, OnPage, RecView, agg-view, lit-view,
 
 -- It is right for each record that a proxy in another record names.
 pub record Widths (img c : List ℕ) : Type 0 where
-  pub long : length c ≡ 1024
   pub told : (p holder : ℕ) (r : Row) → 1 ≤ holder → OnPage img p holder r → getD c p 0 ≡ width r
 
 -- ── what stands at one place shows as many nodes ──
@@ -112,8 +111,8 @@ told-at img c page pos (rec p s r rest) x t q k =
     go v false e k inner after = either (count q r) (count q rest) (omega arith) inner after
 
 -- A table that is right for the root record's row is right for the image.
-pub widths : (img c : List ℕ) (st : Config) (root : Row) → Reads img st root → length c ≡ 1024 → Told c root → Widths img c
-widths img c st root x l t = record { long = l; told = told }
+pub widths : (img c : List ℕ) (st : Config) (root : Row) → Reads img st root → Told c root → Widths img c
+widths img c st root x t = record { told = told }
   where
     told : (p holder : ℕ) (r : Row) → 1 ≤ holder → OnPage img p holder r → getD c p 0 ≡ width r
     told p holder r h o =

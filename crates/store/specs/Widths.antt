@@ -1,17 +1,16 @@
 -- The table that the check leaves is right for an image that passes.
-use mathlib.Core.Path.{_≡_, subst, sym, _∙_}
+use mathlib.Core.Path.{_≡_, subst, sym}
 use mathlib.Core.List.{List}
 use Prim.Native.Nat.{ℕ, _<_}
 use lib.ListN.{length, getD}
 use Rattle.walks.specs.Check.{trailersOf, walkOf, checkBy}
-use Rattle.walks.specs.Widths.{widthsAfter, widths-length}
-use Rattle.walks.specs.Sound.{sound}
-use Rattle.walks.specs.Told.{walk-told}
+use Rattle.walks.specs.Widths.{widthsAfter}
+use Rattle.walks.specs.Sound.{sound-row}
+use Rattle.walks.specs.Told.{reads-told}
 use Rattle.stands.specs.Widths.{Widths, widths}
 
 pub table : (img old new : List ℕ) → ((i : ℕ) → getD img i 0 < 256) → checkBy img ≡ 0 → length old ≡ 1024
     → new ≡ widthsAfter (walkOf img (trailersOf img) .row) old → Widths img new
 table img old new all e l z =
-    let s = sound img all e in
-    subst (Widths img) (sym z)
-    (widths img _ (s .0 .0) (s .0 .1) (s .1) (widths-length _ old ∙ l) (walk-told img all e old l (s .0 .0) (s .0 .1) (s .1)))
+    let r = sound-row img all e in
+    subst (Widths img) (sym z) (widths img _ _ _ r (reads-told img _ _ r old l))

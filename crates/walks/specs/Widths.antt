@@ -19,7 +19,7 @@ widthsAfter (agg h cs rest) c = widthsAfter rest (widthsAfter cs c)
 widthsAfter (lit h b rest) c = widthsAfter rest c
 widthsAfter (rec p s r rest) c = widthsAfter rest (set (widthsAfter r c) p (width r))
 
-pub widths-length : (row : Row) (c : List ℕ) → length (widthsAfter row c) ≡ length c
+widths-length : (row : Row) (c : List ℕ) → length (widthsAfter row c) ≡ length c
 unfolding widthsAfter
 widths-length nil c = refl
 widths-length (agg h cs rest) c = widths-length rest (widthsAfter cs c) ∙ widths-length cs c

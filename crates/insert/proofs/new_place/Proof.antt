@@ -4,7 +4,7 @@ use mathlib.Core.Bool.{true}
 use Prim.Native.Nat.{ℕ}
 use native.Mathlib.Omega.{arith}
 use borrow.Author.Needs.{needs}
-use Rattle.step.specs.Off.{leaves, off-sizes, off-env, off-large}
+use Rattle.step.specs.Off.{off-sizes, off-env, off-large}
 use Rattle.writes.specs.Steps.{bit-le}
 use Rattle.insert.proofs.new_place.Statement.{statement}
 use Rattle.insert.proofs.new_place.Tie as tie

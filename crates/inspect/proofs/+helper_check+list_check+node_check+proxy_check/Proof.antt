@@ -168,8 +168,7 @@ list-childless : (t : ℕ) (c : list-check-lts.Then2 (list-claims t) (list-check
     let s = k .before .before .before in
     let l = k .loop in
     On (now (s .args .image)) (now (s .args .part)) (s .args .page) 1 (s .args .level) (listOf (now (s .args .image)) (now (s .args .part)) (s .args .page) 1 (s .args .level) (state (s .args .left) (now (s .args .marks)))) (now (s .args .widths)) (state (l .cur) (l .marks)) (l .at + 6) (l .widths)
-    × ((n : ℕ) → Counted (now (s .args .image)) (now (s .args .part)) (s .args .page) 1 (s .args .level) (listOf (now (s .args .image)) (now (s .args .part)) (s .args .page) 1 (s .args .level) (state (s .args .left) (now (s .args .marks)))) (state (l .cur) (l .marks)) (n) (l .at) → Counted (now (s .args .image)) (now (s .args .part)) (s .args .page) 1 (s .args .level) (listOf (now (s .args .image)) (now (s .args .part)) (s .args .page) 1 (s .args .level) (state (s .args .left) (now (s .args .marks)))) (state (l .cur) (l .marks)) (n + 1) (l .at + 6))
-list-childless t c = turn-childless _ _ _ _ _ _ _ _ _ _ (c .before .before .before .before .before .loop .inv .0) (c .before .before .before .before .loop-test .taken) (c .before .before .before .if1 .left) (sym (c .before .aggregate .ensures) ∙ c .if2 .taken)
+list-childless t c = turn-childless _ _ _ _ _ _ _ _ _ _ (c .before .before .before .before .before .loop .inv .0) (c .before .before .before .before .loop-test .taken) (c .before .before .before .if1 .left) (sym (c .before .aggregate .ensures) ∙ c .if2 .taken) .0
 
 -- The size of the node that is not passed so.
 list-whole : (t : ℕ) (c : list-check-lts.Else3 (list-claims t) (list-check-at t) list-check.Post list-check-Inv-loop list-check-μ-loop) → let k = c .before .before .before .before .before .before .before in
@@ -183,10 +182,9 @@ list-passed : (t : ℕ) (c : list-check-lts.Then4 (list-claims t) (list-check-at
     let s = k .before .before .before in
     let l = k .loop in
     On (now (s .args .image)) (now (s .args .part)) (s .args .page) 1 (s .args .level) (listOf (now (s .args .image)) (now (s .args .part)) (s .args .page) 1 (s .args .level) (state (s .args .left) (now (s .args .marks)))) (now (s .args .widths)) (state (l .cur) (l .marks)) (l .at + c .before .before .before .size-of .result) (l .widths)
-    × ((n : ℕ) → Counted (now (s .args .image)) (now (s .args .part)) (s .args .page) 1 (s .args .level) (listOf (now (s .args .image)) (now (s .args .part)) (s .args .page) 1 (s .args .level) (state (s .args .left) (now (s .args .marks)))) (state (l .cur) (l .marks)) (n) (l .at) → Counted (now (s .args .image)) (now (s .args .part)) (s .args .page) 1 (s .args .level) (listOf (now (s .args .image)) (now (s .args .part)) (s .args .page) 1 (s .args .level) (state (s .args .left) (now (s .args .marks)))) (state (l .cur) (l .marks)) (n + 1) (l .at + c .before .before .before .size-of .result))
 list-passed t c =
     turn-literal _ _ _ _ _ _ _ _ _ _ (c .before .before .before .before .before .before .before .before .before .loop .inv .0) (c .before .before .before .before .before .before .before .before .loop-test .taken) (c .before .before .before .before .before .before .before .if1 .left) _
-    (c .before .before .before .size-of .ensures) (c .before .before .if3 .left) (sym (c .before .literal .ensures) ∙ c .if4 .taken)
+    (c .before .before .before .size-of .ensures) (c .before .before .if3 .left) (sym (c .before .literal .ensures) ∙ c .if4 .taken) .0
 
 -- After the turn with any other node.
 list-gone : (t : ℕ) (c : list-check-lts.After-node-check (list-claims t) (list-check-at t) list-check.Post list-check-Inv-loop list-check-μ-loop) → let k = c .before .before .before .before .before .before .before .before .before .before .before .before .before in
@@ -241,7 +239,7 @@ pub +helper-check+list-check+node-check+proxy-check-spec : {M : Type 1} → stat
     let z = c .if1 .taken in
     let e = list-bad _ _ _ _ _ (state (l .cur) (l .marks)) (λ e. omega (arith, length-drop (l .at) (now (k .before .before .before .args .part)), c .before .loop-test .taken)) z
     ∙ ap {B = Decoded} (λ (x : ℕ). record { row = nil; walk = state x (l .marks) }) z in
-    (on-end _ _ _ _ _ _ _ _ _ _ (l .inv .0) (state 0 (l .marks)) e, counted-end _ _ _ _ _ _ _ _ _ _ (l .inv .0) _ (l .inv .2) (state 0 (l .marks)) e))
+    (on-end _ _ _ _ _ _ _ _ _ _ (l .inv .0) (state 0 (l .marks)) e, counted-end _ _ _ _ e (l .inv .2)))
     -- sub-rest
     (λ c. search needs)
     -- part-rest-start
@@ -267,7 +265,7 @@ pub +helper-check+list-check+node-check+proxy-check-spec : {M : Type 1} → stat
     let part = now (k .before .before .before .args .part) in
     let e = list-stop _ _ _ _ _ (state (l .cur) (l .marks)) (λ e. omega (arith, length-drop (l .at) part, c .before .before .before .before .before .before .loop-test .taken)) (c .before .before .before .before .before .if1 .left)
     (sym (c .before .size-of .ensures ∙ ap sizeOf (rest-is (l .at) part)) ∙ c .if3 .taken) in
-    (on-end _ _ _ _ _ _ _ _ _ _ (l .inv .0) (state 0 (l .marks)) e, counted-end _ _ _ _ _ _ _ _ _ _ (l .inv .0) _ (l .inv .2) (state 0 (l .marks)) e))
+    (on-end _ _ _ _ _ _ _ _ _ _ (l .inv .0) (state 0 (l .marks)) e, counted-end _ _ _ _ e (l .inv .2)))
     -- literal-requires
     (λ c κs. (omega (arith, sized _ _ (c .before .size-of .ensures) (c .if3 .left)), omega arith))
     -- add-at-2
@@ -308,7 +306,7 @@ pub +helper-check+list-check+node-check+proxy-check-spec : {M : Type 1} → stat
     let k = c .before in
     let l = k .loop in
     let e = list-none _ _ _ _ _ (state (l .cur) (l .marks)) (omega (arith, length-drop (l .at) (now (k .before .before .before .args .part)), c .loop-test .left)) in
-    (on-end _ _ _ _ _ _ _ _ _ _ (l .inv .0) (state (l .cur) (l .marks)) e, counted-end _ _ _ _ _ _ _ _ _ _ (l .inv .0) _ (l .inv .2) (state (l .cur) (l .marks)) e)))
+    (on-end _ _ _ _ _ _ _ _ _ _ (l .inv .0) (state (l .cur) (l .marks)) e, counted-end _ _ _ _ e (l .inv .2))))
     (λ t. list-check-lts.spec (list-claims t)
     (list-check-at t)
     list-check.Post
@@ -333,11 +331,11 @@ pub +helper-check+list-check+node-check+proxy-check-spec : {M : Type 1} → stat
     -- aggregate-requires
     (λ c κs. search needs)
     -- add-at
-    (λ c. let s = c .before .before .before .before .before .before .before .before in omega (arith, list-childless t c .0 .inside, s .good))
+    (λ c. let s = c .before .before .before .before .before .before .before .before in omega (arith, list-childless t c .inside, s .good))
     -- loop-less
-    (λ c. omega (arith, list-childless t c .0 .inside, c .before .before .before .before .loop-test .taken))
+    (λ c. omega (arith, list-childless t c .inside, c .before .before .before .before .loop-test .taken))
     -- loop-again
-    (λ c. (list-childless t c .0, c .before .before .before .before .before .loop .inv .1))
+    (λ c. (list-childless t c, c .before .before .before .before .before .loop .inv .1))
     -- size-of-requires
     (λ c κs. tt)
     -- returns-2
@@ -351,11 +349,11 @@ pub +helper-check+list-check+node-check+proxy-check-spec : {M : Type 1} → stat
     -- literal-requires
     (λ c κs. (omega (arith, sized _ _ (c .before .size-of .ensures) (c .if3 .left)), omega arith))
     -- add-at-2
-    (λ c. let s = c .before .before .before .before .before .before .before .before .before .before .before .before in omega (arith, list-passed t c .0 .inside, s .good))
+    (λ c. let s = c .before .before .before .before .before .before .before .before .before .before .before .before in omega (arith, list-passed t c .inside, s .good))
     -- loop-less-2
-    (λ c. omega (arith, list-whole t (c .before .before), list-passed t c .0 .inside, c .before .before .before .before .before .before .before .before .loop-test .taken))
+    (λ c. omega (arith, list-whole t (c .before .before), list-passed t c .inside, c .before .before .before .before .before .before .before .before .loop-test .taken))
     -- loop-again-2
-    (λ c. (list-passed t c .0, c .before .before .before .before .before .before .before .before .before .loop .inv .1))
+    (λ c. (list-passed t c, c .before .before .before .before .before .before .before .before .before .loop .inv .1))
     -- slice-aggregate-node-check
     (λ c. list-whole t (c .before .before .before) .2)
     -- node-check-requires
