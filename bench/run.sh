@@ -5,10 +5,10 @@ cd "$(dirname "$0")/.."
 cc=${CC:-gcc}
 flags=(-std=c99 -D_POSIX_C_SOURCE=200809L -O3 -Wall -Wextra)
 echo "bench: proving and building the archive (minutes)"
-rt staticlib panel >/dev/null
-"$cc" "${flags[@]}" bench/check.c target/staticlib/libpanel.a -o target/bench_check
-"$cc" "${flags[@]}" bench/insert.c target/staticlib/libpanel.a -o target/bench_insert
-"$cc" "${flags[@]}" bench/tree.c target/staticlib/libpanel.a -lsqlite3 -o target/bench_tree
+rt staticlib nichelarder >/dev/null
+"$cc" "${flags[@]}" bench/check.c target/staticlib/libnichelarder.a -o target/bench_check
+"$cc" "${flags[@]}" bench/insert.c target/staticlib/libnichelarder.a -o target/bench_insert
+"$cc" "${flags[@]}" bench/tree.c target/staticlib/libnichelarder.a -lsqlite3 -o target/bench_tree
 target/bench_check
 target/bench_insert
 target/bench_tree

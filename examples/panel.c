@@ -1,5 +1,5 @@
 /* A front panel in small: makes an image of three pages, puts two nodes into it, finds the way back to one of them, and prints all there is.
- * From the repository's root: rt staticlib panel && cc -std=c99 examples/panel.c target/staticlib/libpanel.a -o panel && ./panel */
+ * From the repository's root: rt staticlib nichelarder && cc -std=c99 examples/panel.c target/staticlib/libnichelarder.a -o panel && ./panel */
 #include "../include/nichelarder.h"
 #include <stdio.h>
 #include <string.h>

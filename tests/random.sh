@@ -14,9 +14,9 @@ mkdir -p target
 replay=${REPLAY:-}
 if [ -z "$replay" ]; then
     echo "$kind: proving and building the archive (minutes)"
-    rt staticlib panel >/dev/null
+    rt staticlib nichelarder >/dev/null
     replay=target/replay
-    "${CC:-cc}" -std=c99 -O2 -Wall -Wextra -Werror tests/replay.c target/staticlib/libpanel.a -o "$replay"
+    "${CC:-cc}" -std=c99 -O2 -Wall -Wextra -Werror tests/replay.c target/staticlib/libnichelarder.a -o "$replay"
 fi
 under=()
 if [ -n "${MEMCHECK:-}" ]; then under=(valgrind --quiet --error-exitcode=3); fi

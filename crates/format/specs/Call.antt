@@ -11,7 +11,7 @@ use Rattle.model.specs.Row.{every, isEntry, inRange, image}
 use Rattle.model.specs.Reading.{lengthOk}
 use Rattle.model.specs.Calls.{config, formatNumber, formatOf}
 use Rattle.model.specs.declared.Settings.{Settings}
-use Rattle.reads.specs.Valid.{both}
+use Rattle.theory_decoding.specs.Valid.{both}
 use Rattle.format.specs.First.{matrixFits, numbersFit, firstRoot}
 
 -- An image's length that passes.

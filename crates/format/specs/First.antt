@@ -7,7 +7,7 @@ use native.Mathlib.Omega.{arith}
 use lib.ListN.{length, replicate, length-append, length-replicate, replicate-append-replicate}
 use lib.Dec.{ltb, eqb}
 use Rattle.model.specs.Row.{Row, nil, agg, two, header, trailer, settingsPage, recordPage, Config, every, isEntry}
-use Rattle.octets.specs.Over.{over, over-right, over-left, over-all}
+use Rattle.base_numbers.specs.Over.{over, over-right, over-left, over-all}
 use Rattle.model.specs.declared.Settings.{Settings}
 
 unfoldable pub matrixFits : List ℕ → Bool

@@ -9,8 +9,8 @@ use lib.ListN.{length, take, drop, replicate, length-append, length-drop, length
 use lib.Seq.{take-at, drop-at}
 use lib.Dec.{eqb}
 use Rattle.model.specs.Row.{Held, store, records, pageAt, pagesFrom, Config, inRange, image}
-use Rattle.reads.specs.Valid.{ranges-say}
-use Rattle.octets.specs.Over.{over, over-all}
+use Rattle.theory_decoding.specs.Valid.{ranges-say}
+use Rattle.base_numbers.specs.Over.{over, over-all}
 use Rattle.format.specs.First.{firstRoot, rootPage, firstPage, zeros, zeros-split, length-zeros, Numbers}
 
 -- ── zero bytes ──

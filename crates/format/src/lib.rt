@@ -1,8 +1,8 @@
 // Formatting: the settings' ranges, the two pages of a store with a root aggregate alone, and the call.
 use model::Settings;
-use octets::clear;
-use octets::copy_in;
-use octets::put16;
+use base_numbers::clear;
+use base_numbers::copy_in;
+use base_numbers::put16;
 ghost use mathlib.Core.Path.{_≡_};
 ghost use mathlib.Core.Bool.{true, _&&_};
 ghost use Prim.Native.Nat.{_*_, _≤_};

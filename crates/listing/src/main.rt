@@ -28,7 +28,7 @@ fn main() {
     let mut input = io::large_buffer();
     let n = io::read_full(0, &mut input);
     let mut out = room();
-    let k = lines::print(&input[..n], &mut out);
+    let k = listing_text::print(&input[..n], &mut out);
     io::write_all(1, &out[..k]);
     if n == 65536 {
         drain();

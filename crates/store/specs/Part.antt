@@ -12,13 +12,13 @@ use Rattle.model.specs.Tree.{shown, Node, nodes, placeOf, fromPlace}
 use Rattle.model.specs.Reading.{Reads}
 use Rattle.model.specs.Calls.{checkOf, readIn, readFrom, asRead, readOf, partOf}
 use Rattle.model.specs.declared.Place.{Place}
-use Rattle.reads.specs.Reading.{reads-valid}
-use Rattle.places.specs.Order.{one-root}
-use Rattle.places.specs.Named.{in-tree}
-use Rattle.places.specs.From.{from-stands}
-use Rattle.places.specs.Content.{content-inside}
-use Rattle.agree.specs.Open.{opens, passing, refuses}
-use Rattle.agree.specs.Pieces.{literal-content}
+use Rattle.theory_decoding.specs.Reading.{reads-valid}
+use Rattle.theory_places.specs.Order.{one-root}
+use Rattle.theory_places.specs.Named.{in-tree}
+use Rattle.theory_places.specs.From.{from-stands}
+use Rattle.theory_places.specs.Content.{content-inside}
+use Rattle.theory_calls.specs.Open.{opens, passing, refuses}
+use Rattle.theory_calls.specs.Pieces.{literal-content}
 
 -- So many bytes from a start on, or none where they do not lie in the image.
 unfoldable pub slice : (img : List ℕ) → (start len : ℕ) → List ℕ

@@ -5,7 +5,7 @@ use Prim.Native.Nat.{ℕ}
 use Rattle.model.specs.Answers.{insertRefused, findRefused, writeRefused, readRefused, nextRefused}
 use Rattle.model.specs.Calls.{checkOf, insertOf, findOf, climbOf, readOf, nextOf, recordsOf}
 use Rattle.model.specs.declared.Place.{Place}
-use Rattle.agree.specs.Open.{refuses}
+use Rattle.theory_calls.specs.Open.{refuses}
 
 module _ (img : List ℕ) (n : ℕ) (e : n ≡ checkOf img) (z : n ≡ 0 → ⊥) where
   pub insert-refused : (path : List ℕ) (child kind label : ℕ) (content : List ℕ) → (insertRefused n, img) ≡ insertOf img path child kind label content

@@ -3,11 +3,11 @@ use mathlib.Core.Path.{_≡_, subst, sym}
 use mathlib.Core.List.{List}
 use Prim.Native.Nat.{ℕ, _<_}
 use lib.ListN.{length, getD}
-use Rattle.walks.specs.Check.{trailersOf, walkOf, checkBy}
-use Rattle.walks.specs.Widths.{widthsAfter}
-use Rattle.walks.specs.Sound.{sound-row}
-use Rattle.walks.specs.Told.{reads-told}
-use Rattle.stands.specs.Widths.{Widths, widths}
+use Rattle.theory_check.specs.Check.{trailersOf, walkOf, checkBy}
+use Rattle.theory_check.specs.Widths.{widthsAfter}
+use Rattle.theory_check.specs.Sound.{sound-row}
+use Rattle.theory_check.specs.Told.{reads-told}
+use Rattle.theory_layout.specs.Widths.{Widths, widths}
 
 pub table : (img old new : List ℕ) → ((i : ℕ) → getD img i 0 < 256) → checkBy img ≡ 0 → length old ≡ 1024
     → new ≡ widthsAfter (walkOf img (trailersOf img) .row) old → Widths img new

@@ -10,9 +10,9 @@ use model::WriteAnswer;
 ghost use mathlib.Core.Path.{_≡_};
 ghost use lib.ListN.{length};
 ghost use Rattle.model.specs.Calls.{formatOf, checkOf, insertOf, findOf, climbOf, readOf, partOf, nextOf, recordsOf};
-ghost use Rattle.stands.specs.Widths.{Widths};
+ghost use Rattle.theory_layout.specs.Widths.{Widths};
 ghost use Rattle.store.specs.Part.{slice};
-ghost use Rattle.records.specs.Up.{upPages};
+ghost use Rattle.read_records.specs.Up.{upPages};
 
 // Leaves a root aggregate alone, pages 2 on free.
 pub fn format(image: &mut [u8], settings: Settings, matrix: &[u8], label: u16) -> u32
@@ -25,7 +25,7 @@ pub fn format(image: &mut [u8], settings: Settings, matrix: &[u8], label: u16) -
 pub fn check(image: &[u8]) -> u32
     ensures { λ r. ⌜ r ≡ checkOf (now (image .entry)) ⌝ }
 {
-    inspect::check(image)
+    read_check::check(image)
 }
 
 // The check, for calls that count the nodes of rows: it leaves in a table how many nodes the record on each page shows.
@@ -33,7 +33,7 @@ fn check_widths(image: &[u8], widths: &mut [u32; 1024]) -> u32
     requires { ⌜ length (now widths) ≡ 1024 ⌝ }
     ensures { λ r. ⌜ (r ≡ checkOf (now (image .entry))) × (r ≡ 0 → Widths (now (image .entry)) (now (widths .exit))) ⌝ }
 {
-    inspect::check_widths(image, widths)
+    read_check::check_widths(image, widths)
 }
 
 // Puts a new node as child `child` of the aggregate that the path names, and gives its place, how many records were split and the lean of the first split.
@@ -58,7 +58,7 @@ pub fn insert(
             lean: 0,
         };
     }
-    insert::insert_of(image, &widths, path, child, kind, label, content)
+    grow_insert::insert_of(image, &widths, path, child, kind, label, content)
 }
 
 // The place of the node that a path names.
@@ -73,7 +73,7 @@ pub fn find(image: &[u8], path: &[u8]) -> FindAnswer
             place: Place { page: 0, offset: 0 },
         };
     }
-    descend::find_in(image, &widths, path)
+    read_find::find_in(image, &widths, path)
 }
 
 // The path of the node at a place, to the front of the lent buffer.
@@ -89,7 +89,7 @@ pub fn climb(image: &[u8], place: Place, buffer: &mut [u8]) -> WriteAnswer
             written: 0,
         };
     }
-    ascend::climb_of(image, &widths, place, buffer)
+    read_climb::climb_of(image, &widths, place, buffer)
 }
 
 // Kind, label, number of children and where the content is, of the node at a place.
@@ -108,7 +108,7 @@ pub fn read_node(image: &[u8], place: Place) -> ReadNode
             len: 0,
         };
     }
-    follow::read_of(image, &widths, place)
+    read_next::read_of(image, &widths, place)
 }
 
 // The same from a page and an offset.
@@ -172,7 +172,7 @@ pub fn next(image: &[u8], place: Place) -> NextAnswer
             next: Next::End,
         };
     }
-    follow::next_of(image, place)
+    read_next::next_of(image, place)
 }
 
 // All record pages, each one time, to the front of the lent buffer; the order is free, and here it is ascending.
@@ -187,5 +187,5 @@ pub fn records(image: &[u8], buffer: &mut [u8]) -> WriteAnswer
             written: 0,
         };
     }
-    records::records_of(image, buffer)
+    read_records::records_of(image, buffer)
 }

@@ -5,7 +5,7 @@ use native.Mathlib.Omega.{arith}
 use borrow.Author.Needs.{needs}
 use denote.Ref.{now}
 use lib.ListN.{getD}
-use Rattle.walks.specs.Exact.{exact}
+use Rattle.theory_check.specs.Exact.{exact}
 use Rattle.store.specs.Widths.{table}
 use Rattle.store.proofs.check_widths.Statement.{statement}
 use Rattle.store.proofs.check_widths.Tie as tie

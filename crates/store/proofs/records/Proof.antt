@@ -5,7 +5,7 @@ use mathlib.Core.Path.{sym, ap}
 use mathlib.Core.List.{List}
 use Prim.Native.Nat.{ℕ}
 use Rattle.model.specs.declared.WriteAnswer.{WriteAnswer}
-use Rattle.records.specs.Up.{upPages}
+use Rattle.read_records.specs.Up.{upPages}
 use Rattle.store.specs.Refused.{records-refused}
 use Rattle.store.proofs.records.Statement.{statement}
 use Rattle.store.proofs.records.Tie as tie

@@ -1,0 +1,136 @@
+-- The record is settled and too large: its separator is written in its place, and growth stops.
+use mathlib.Core.Path.{_≡_, refl, sym, ap, subst, _∙_}
+use mathlib.Core.Bool.{Bool, true, false, cond, _||_, false≢true}
+use mathlib.Core.List.{List}
+use Prim.Native.Nat.{ℕ, suc, _+_, _<_, _≤_}
+use native.Mathlib.Omega.{arith}
+use native.Mathlib.Numerals.{add-one}
+use borrow.Author.Tests.{lt-leb}
+use lib.Dec.{eqb, leb}
+use lib.ListN.{length, take}
+use lib.IntN.{ℤ, subℕ}
+use Rattle.model.specs.Row.{Row, size, isNil, lone, bytes, recordSize, recordBytes, Config}
+use Rattle.model.specs.Reading.{pageOf}
+use Rattle.theory_rows.specs.Bound.{split-good}
+use Rattle.grow_write_back.specs.Leaning.{Leaning}
+use Rattle.model.specs.Growth.{noWork, Work, Out, onRow, separator, counted, kept, splitPoint, startOfD}
+use Rattle.model.specs.Claims.{InLean}
+use Rattle.theory_rows.specs.Fits.{Shape}
+use Rattle.theory_rows.specs.Laws.{length-bytes, cond-case}
+use Rattle.theory_rows.specs.Keeps.{separator-lone}
+use Rattle.theory_rows.specs.Store.{settled-lone}
+use Rattle.base_numbers.specs.Over.{take-over}
+use Rattle.theory_insert_point.specs.Chain.{Chain, top, below, lastPage, lastSettled, lastHolder, whole, rise}
+use Rattle.theory_insert_point.specs.Fit.{chain-fits}
+use Rattle.theory_page_memory.specs.Memory.{Mem, putMem, separatorMem, keptMem, riseMem}
+use Rattle.theory_page_memory.specs.Around.{Low, rise-stays}
+use Rattle.grow_pages.specs.Links.{Below}
+use Rattle.grow_pages.specs.Relinked.{written}
+use Rattle.grow_split.specs.Severed.{Severed}
+use Rattle.grow_split.specs.Same.{Marked}
+use Rattle.grow_write_back.specs.Content.{Content}
+use Rattle.grow_write_back.specs.Names.{below-separator}
+use Rattle.grow_write_back.specs.Off.{leaves, leftImage}
+use Rattle.grow_cascade.specs.Rising.{Rising, Risen, inside, long-image, low, held-fits, good}
+use Rattle.grow_cascade.specs.Low.{put-is}
+
+-- The lean after one split more.
+abbrev pub leanNow : (st : Config) → (row : Row) → (count : ℕ) → (lean : ℤ) → ℤ
+leanNow st row k lean = cond (eqb k 0) (subℕ (startOfD st row) (splitPoint st (recordSize row))) lean
+
+pub leaning-in : {l : List ℕ} {target tolerance : ℕ} (w : Leaning l target tolerance) → InLean (subℕ (startOfD (w .st) (w .row)) (splitPoint (w .st) (recordSize (w .row))))
+leaning-in w = split-good (w .st) (w .ranges) 0 (w .row) noWork (w .fits) (w .big) (w .most) (w .deep) .lean
+
+pub lean-in : (st : Config) (row : Row) (k : ℕ) (lean : ℤ) → InLean lean → InLean (subℕ (startOfD st row) (splitPoint st (recordSize row))) → InLean (leanNow st row k lean)
+lean-in st row k lean a b = cond-case InLean (eqb k 0) (λ _. b) (λ _. a)
+
+left-stays : (dry : Bool) (q : ℕ) (img : List ℕ) → leftImage dry true q img ≡ img
+left-stays true q img = refl
+left-stays false q img = refl
+
+lone-bytes : (r : Row) → lone r ≡ true → recordBytes r ≡ bytes r
+lone-bytes r e = rw e
+
+lone-size : (r : Row) → lone r ≡ true → recordSize r ≡ size r
+lone-size r e = ap (λ (b : Bool). cond b 0 6 + size r) e ∙ omega arith
+
+-- The split of a record that stays on its page.
+kept-big : (st : Config) (q : ℕ) (o : Out) → 4080 < recordSize (o .0) → kept st q o ≡ separator st q (o .0) (counted st (o .0) (o .1))
+unfolding kept
+kept-big st q o k = rw (lt-leb (recordSize (o .0)) 4080 k)
+
+module _ {st : Config} {was : List ℕ} {root : Row} {c : Chain} {old row : Row} {work : Work} {dry : Bool} {n page len : ℕ} {filled : Bool} {count : ℕ} {leans : ℤ} {l u img : List ℕ}
+    (w : Rising st was root c old row work dry n page len filled count leans l u img) (big : 4080 < recordSize row) (stays : lastSettled c ≡ true) where
+  abbrev v : Work
+  v = counted st row work
+
+  abbrev S : Out
+  S = separator st page row v
+
+  row-lone : lone row ≡ true
+  row-lone = w .keeps (settled-lone old (subst (λ (b : Bool). Shape b old) stays (chain-fits c old (held-fits w) .0 .shape)))
+
+  S-lone : lone (S .0) ≡ true
+  S-lone = separator-lone st page row v row-lone
+
+  goal-is : rise st c (row, work) ≡ onRow (whole c) S
+  unfolding rise
+  goal-is = go c stays (low w) ∙ ap (λ (q : ℕ). onRow (whole c) (separator st q row v)) (sym (w .at))
+    where
+      go : (c : Chain) → lastSettled c ≡ true → Low c old → rise st c (row, work) ≡ onRow (whole c) (separator st (lastPage c) row v)
+      go top e k = kept-big st 1 (row, work) big
+      go (below c s q b rest) e k = rise-stays st c s q b rest old (row, work) (ap (λ (b : Bool). b || leb (recordSize row) 4080) e) k ∙ ap (onRow (whole (below c s q b rest))) (kept-big st q (row, work) big)
+
+  mem-is : (m : Mem) → riseMem st c row work m ≡ putMem page (lastSettled c) (lastHolder c) (S .0) (separatorMem st page row v m)
+  unfolding riseMem keptMem
+  mem-is m = go c stays ∙ ap (λ (q : ℕ). putMem q (lastSettled c) (lastHolder c) (separator st q row v .0) (separatorMem st q row v m)) (sym (w .at))
+    where
+      go : (c : Chain) → lastSettled c ≡ true → riseMem st c row work m ≡ putMem (lastPage c) (lastSettled c) (lastHolder c) (separator st (lastPage c) row v .0) (separatorMem st (lastPage c) row v m)
+      go top e = rw (lt-leb (recordSize row) 4080 big)
+      go (below c s q true rest) e = rw (lt-leb (recordSize row) 4080 big)
+      go (below c s q false rest) e = absurd (false≢true e)
+
+  module _ {target tolerance end : ℕ} {f : Bool} {u′ img₁ out₀ out₁ : List ℕ} (targ : st .target ≡ target) (tol : st .tolerance ≡ tolerance)
+      (sev : Severed st page row (leaves st (lastSettled c) page row work) dry end f u′ (leftImage dry (lastSettled c) page img) img₁ out₀ out₁) where
+    cut : Severed st page row v dry end f u′ img img₁ out₀ out₁
+    cut =
+        subst (λ (i : List ℕ). Severed st page row (counted st row work) dry end f u′ i img₁ out₀ out₁) (left-stays dry page img)
+        (subst (λ (b : Bool). Severed st page row (leaves st b page row work) dry end f u′ (leftImage dry b page img) img₁ out₀ out₁) stays sev)
+
+    marks : Marked u v
+    marks = record { long = w .marked .long; same = w .marked .same }
+
+    pub severed-long : length img₁ ≡ length img
+    severed-long = cut .long
+
+    pub severed-is : take end out₁ ≡ recordBytes (S .0)
+    severed-is = (λ i. take (cut .end i) (cut .out i)) ∙ take-over (size (S .0)) (bytes (S .0)) out₀ (length-bytes (S .0)) ∙ sym (lone-bytes (S .0) S-lone)
+
+    pub severed-below : Below n (S .0)
+    severed-below = let i = inside w in below-separator st n page u v (w .pages) (i .1 .1 .0) (i .1 .0) marks (w .past) row (w .below)
+
+    pub severed-small : recordSize (S .0) ≤ 4080
+    severed-small = omega (arith, lone-size (S .0) S-lone, good w targ tol big v .small)
+
+    pub severed-some : isNil (S .0) ≡ false
+    severed-some = good w targ tol big v .some
+
+    -- What the code that writes the separator requires.
+    abbrev pub severed-content : Content (take end out₁) n
+    severed-content = record { row = S .0; is = severed-is; below = severed-below; small = severed-small; some = severed-some }
+
+    pub settled-done : {leans′ : ℤ} {holder : ℕ} {new : List ℕ} → leans′ ≡ leanNow st row count leans → holder ≡ lastHolder c
+        → new ≡ cond dry img₁ (written page (lastSettled c) holder (severed-content .row) img₁)
+        → Risen (rise st c (row, work)) (riseMem st c row work (pageOf img)) dry (filled || f) (count + 1) leans′ img new
+    settled-done {leans′} {holder} {new} le h e =
+        let i = inside w in
+        let p = put-is dry n page (lastSettled c) holder (S .0) img₁ new severed-below severed-small (omega (arith, long-image w, cut .long)) (i .1 .0) e in
+        let g = goal-is in
+        record {
+          full = ap (λ (b : Bool). b || f) (w .full) ∙ cut .full ∙ sym (ap (λ (o : Out). o .1 .full) g);
+          splits = add-one count ∙ ap suc (w .splits) ∙ sym (cut .splits) ∙ sym (ap (λ (o : Out). o .1 .splits) g);
+          lean = le ∙ (λ i. cond (eqb (w .splits i) 0) (subℕ (startOfD st row) (splitPoint st (recordSize row))) (w .lean i)) ∙ sym (cut .lean) ∙ sym (ap (λ (o : Out). o .1 .lean) g);
+          same = p .same ∙ cut .long;
+          still = λ z. p .still z ∙ cut .same z;
+          pages = λ z. p .pages z ∙ (λ i. putMem page (lastSettled c) (h i) (S .0) (cut .pages z i)) ∙ sym (mem-is (pageOf img));
+        }

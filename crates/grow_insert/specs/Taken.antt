@@ -1,0 +1,53 @@
+-- The new node goes into the bytes of the record that takes it.
+use mathlib.Core.Path.{_≡_, ap}
+use mathlib.Core.Bool.{Bool}
+use mathlib.Core.List.{List}
+use Prim.Native.Nat.{ℕ, _+_, _*_, _-_, _≤_}
+use native.Mathlib.Omega.{arith}
+use lib.ListN.{length, take, drop}
+use Rattle.model.specs.Row.{Row, _⊹_, size, base, bytes, recordSize, recordBytes, Held, recordPage}
+use Rattle.model.specs.Reading.{twoAt, pageOf}
+use Rattle.theory_rows.specs.Laws.{length-bytes}
+use Rattle.theory_rows.specs.Image.{length-record}
+use Rattle.theory_layout.specs.Here.{PageIn}
+use Rattle.theory_insert_point.specs.Chain.{Spot, fill}
+use Rattle.grow_splice.specs.Spot.{at, parent}
+use Rattle.grow_splice.specs.Splice.{KeepsRoot, Place, put-in}
+use Rattle.grow_replace_proxy.specs.Lift.{page-used, page-part}
+
+-- A record stands on `page`; the bytes `new` of the row `put` go into it at `pos`, in the node at par, in front of `tail`.
+pub record Taken (img : List ℕ) (page pos par : ℕ) (new : List ℕ) : Type 0 where
+  pub spot : Spot
+  pub tail : Row
+  pub put : Row
+  pub settled : Bool
+  pub up : ℕ
+  pub on : PageIn img page
+  pub is : pageOf img page ≡ recordPage (record { page = page; settled = settled; holder = up; row = fill spot tail })
+  pub small : recordSize (fill spot tail) ≤ 4080
+  pub comes : new ≡ bytes put
+  pub most : size put ≤ 526
+  pub offset : pos ≡ at (base (fill spot tail)) spot
+  pub holder : par ≡ parent 0 (base (fill spot tail)) spot
+  pub root : KeepsRoot spot tail (put ⊹ tail)
+
+-- The record's row with the new node.
+abbrev pub taken : {img : List ℕ} {page pos par : ℕ} {new : List ℕ} → Taken img page pos par new → Row
+taken w = fill (w .spot) (w .put ⊹ w .tail)
+
+module _ {img : List ℕ} {page pos par : ℕ} {new : List ℕ} (w : Taken img page pos par new) where
+  abbrev held : Held
+  held = record { page = page; settled = w .settled; holder = w .up; row = fill (w .spot) (w .tail) }
+
+  pub taken-used : twoAt img (4096 * page + 4082) ≡ recordSize (fill (w .spot) (w .tail))
+  taken-used = page-used img held (w .is) (w .small)
+
+  pub taken-part : (n : ℕ) → n ≡ twoAt img (4096 * page + 4082) → take (4096 * page + n - 4096 * page) (drop (4096 * page) img) ≡ recordBytes (fill (w .spot) (w .tail))
+  taken-part n e = page-part img held (w .is) (w .small) n e
+
+  -- Where `splice` puts it.
+  abbrev pub taken-place : (l : List ℕ) → l ≡ recordBytes (fill (w .spot) (w .tail)) → Place l pos par 0 new
+  taken-place l e = put-in (w .spot) (w .put) (w .tail) l pos par new e (w .offset) (w .holder) (w .comes) (w .root)
+
+  pub taken-fits : (l : List ℕ) → l ≡ recordBytes (fill (w .spot) (w .tail)) → length l + length new ≤ 4608
+  taken-fits l e = omega (arith, ap length e, length-record (fill (w .spot) (w .tail)), w .small, ap length (w .comes), length-bytes (w .put), w .most)

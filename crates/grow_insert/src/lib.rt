@@ -1,0 +1,190 @@
+// An insert on an image that passes the check: the node goes into the record that takes it, and growth goes on from there. First dry, then writing.
+use grow_refusals::admit;
+use grow_cascade::rise;
+use grow_split_point::split_point;
+use grow_new_node::place_node;
+use grow_new_node::put_node;
+use grow_new_node::usage;
+use model::InsertAnswer;
+use model::Place;
+use base_numbers::two;
+use grow_locate::find_receiver;
+use grow_relocate::moved_to;
+use grow_splice::splice;
+use grow_write_back::leave;
+ghost use mathlib.Core.Path.{_≡_};
+ghost use lib.ListN.{length};
+ghost use Rattle.model.specs.Row.{recordSize, recordBytes};
+ghost use Rattle.base_numbers.specs.Over.{over};
+ghost use Rattle.model.specs.Answers.{insertRefused};
+ghost use Rattle.model.specs.Calls.{checkOf, insertOf};
+ghost use Rattle.theory_layout.specs.Widths.{Widths};
+ghost use Rattle.grow_insert.specs.Taken.{Taken, taken};
+ghost use Rattle.grow_insert.specs.Begin.{Begin, Grew};
+ghost use Rattle.grow_insert.specs.Seat.{Seat};
+
+// Writes to the front of buf the record on the page with the new node's bytes at byte `at`, in the node at par, and gives its length.
+fn take_in(image: &[u8], page: usize, at: usize, par: usize, new: &[u8], buf: &mut [u8]) -> usize
+    requires { ⌜ Taken (now image) page at par (now new) × (length (now buf) ≡ 4608) ⌝ }
+    ensures { λ r. ⌜ ((w : Taken (now (image .entry)) page at par (now (new .entry)))
+        → (r ≡ recordSize (taken w)) × (now (buf .exit) ≡ over 0 (recordBytes (taken w)) (now (buf .entry)))) ⌝ }
+{
+    let a = 4096 * page;
+    let e = a + two(image, a + 4082);
+    splice(&image[a..e], at, par, 0, new, buf)
+}
+
+// Where the new node will stand: `new` are the bytes that stand for it in its record, `content` the record's bytes with them at byte `at`. Apart, it is
+// the root of its own record; else it stays in its record, or goes where the record's split moves it, and later splits do not move it. The image stays.
+fn new_place(
+    image: &mut [u8],
+    used: [u8; 1024],
+    pages: usize,
+    target: usize,
+    tolerance: usize,
+    page: usize,
+    at: usize,
+    new: &[u8],
+    content: &[u8],
+) -> Place
+    requires { ⌜ Seat (now image) used pages target tolerance page at (now new) (now content) ⌝ }
+    ensures { λ r. ⌜ (now (image .exit) ≡ now (image .entry)) × ((w : Seat (now (image .entry)) used pages target tolerance page at (now (new .entry)) (now (content .entry))) → r ≡ w .place) ⌝ }
+{
+    if new[0] == 3 {
+        return Place {
+            page: two(new, 6),
+            offset: 0,
+        };
+    }
+    let n = content.len();
+    if n <= 4080 {
+        return Place {
+            page: page,
+            offset: at,
+        };
+    }
+    let mut marks = used;
+    let settled = image[4096 * page + 4081] as usize;
+    leave(image, &mut marks, page, settled, true);
+    let p = split_point(target, n);
+    moved_to(content, at, p, tolerance, image, &mut marks, pages, page)
+}
+
+// What a run of an insert gives: whether a page was missing, the records split, the lean of the first split, the new node's place.
+struct Run {
+    full: bool,
+    splits: u32,
+    lean: i32,
+    place: Place,
+}
+
+// Puts the node, whose label is `label`, as child k of the aggregate at the byte `parent`, behind the sibling at `left`, with all that growth does. A dry run counts and leaves the image.
+fn once(
+    image: &mut [u8],
+    parent: usize,
+    k: usize,
+    left: usize,
+    label: usize,
+    node: &[u8],
+    dry: bool,
+) -> Run
+    requires { ⌜ Begin dry (now image) parent k left label (now node) ⌝ }
+    ensures { λ r. ⌜ ((w : Begin dry (now (image .entry)) parent k left label (now (node .entry))) → Grew w (r .full) (r .splits) (r .lean) (r .place) (now (image .exit))) ⌝ }
+{
+    let pages = image.len() / 4096;
+    let target = image[2] as usize;
+    let tolerance = two(image, 4);
+    let above = two(image, parent + 2);
+    let mut used = usage(image, pages);
+    let t = find_receiver(image, parent, k, left);
+    let mut new = [0u8; 526];
+    let f = place_node(
+        image,
+        &mut used,
+        pages,
+        t.page,
+        above,
+        label,
+        node,
+        dry,
+        &mut new,
+    );
+    let mut buf = [0u8; 4608];
+    let len = take_in(image, t.page, t.at, t.par, &new[..f.size], &mut buf);
+    let place = new_place(
+        image,
+        used,
+        pages,
+        target,
+        tolerance,
+        t.page,
+        t.at,
+        &new[..f.size],
+        &buf[..len],
+    );
+    let g = rise(
+        image,
+        &mut used,
+        pages,
+        target,
+        tolerance,
+        t.page,
+        &mut buf,
+        len,
+        f.full,
+        dry,
+    );
+    Run {
+        full: g.full,
+        splits: g.splits,
+        lean: g.lean,
+        place: place,
+    }
+}
+
+fn refused(number: u32) -> InsertAnswer
+    ensures { λ r. ⌜ r ≡ insertRefused number ⌝ }
+{
+    InsertAnswer {
+        number: number,
+        place: Place { page: 0, offset: 0 },
+        splits: 0,
+        lean: 0,
+    }
+}
+
+// Insert, on an image that passes the check. The dry run finds whether the store is full, so that a refused insert alters no byte.
+pub fn insert_of(
+    image: &mut [u8],
+    widths: &[u32; 1024],
+    path: &[u8],
+    child: u32,
+    kind: usize,
+    label: u16,
+    content: &[u8],
+) -> InsertAnswer
+    requires { ⌜ (checkOf (now image) ≡ 0) × Widths (now image) (now widths) ⌝ }
+    ensures answer { λ r. ⌜ r ≡ insertOf (now (image .entry)) (now (path .entry)) child kind label (now (content .entry)) .0 ⌝ }
+    ensures image { λ _. ⌜ now (image .exit) ≡ insertOf (now (image .entry)) (now (path .entry)) child kind label (now (content .entry)) .1 ⌝ }
+{
+    let k = child as usize;
+    let l = label as usize;
+    let a = admit(image, widths, path, k, kind, content);
+    if a.number != 0 {
+        return refused(a.number);
+    }
+    let mut node = [0u8; 526];
+    let n = put_node(&mut node, kind, l, content);
+    let tried = once(image, a.parent, k, a.left, l, &node[..n], true);
+    if tried.full {
+        return refused(12);
+    }
+    let made = once(image, a.parent, k, a.left, l, &node[..n], false);
+    let place = made.place;
+    InsertAnswer {
+        number: 0,
+        place: place,
+        splits: made.splits,
+        lean: made.lean,
+    }
+}

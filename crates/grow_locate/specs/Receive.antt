@@ -1,0 +1,246 @@
+-- Where the code finds the place: behind the parent's header, behind the left sibling, or behind the sibling's proxy.
+use mathlib.Core.Path.{_≡_, refl, sym, ap, subst, _∙_}
+use mathlib.Core.Bool.{true, false, cond, false≢true}
+use mathlib.Core.List.{List, [], _∷_, _++_}
+use mathlib.Core.Option.{some}
+use Prim.Native.Nat.{ℕ, suc, _-_, _+_, _*_, _/_, _%_, _≤_, _<_}
+use native.Mathlib.Omega.{arith}
+use lib.ListN.{length}
+use lib.Dec.{eqb}
+use Rattle.model.specs.Row.{Row, nil, agg, lit, rec, _⊹_, size, lone, base, Config}
+use Rattle.model.specs.Tree.{placeAt, placeOf}
+use Rattle.model.specs.Reading.{Reads, twoAt}
+use Rattle.model.specs.declared.Place.{Place}
+use Rattle.theory_rows.specs.Fits.{Valid}
+use Rattle.theory_rows.specs.Laws.{isNil-nil}
+use Rattle.theory_decoding.specs.Steps.{steps, few-steps}
+use Rattle.theory_decoding.specs.Reading.{reads-valid}
+use Rattle.theory_layout.specs.Here.{nesting, Here, AggView, agg-view, lit-view, rec-view, root-nesting}
+use Rattle.read_find.specs.Nth.{nthOf, nth-found}
+use Rattle.read_find.specs.Rowed.{Rowed}
+use Rattle.read_find.specs.Find.{Leads, reach, no-entry}
+use Rattle.read_next.specs.Scan.{HeldBy}
+use Rattle.theory_insert_point.specs.Chain.{Spot, here, inside, fill, before, past, fill-past, lastPage, whole}
+use Rattle.theory_insert_point.specs.Taking.{Taking, taking, taking-whole}
+use Rattle.theory_insert_point.specs.Beside.{offsetIn, Beside, behindNode, behindProxy, taking-first, taking-beside, offset-past}
+use Rattle.theory_insert_point.specs.Bytes.{here-fill, chain-page, taking-here}
+use Rattle.theory_insert_point.specs.Parts.{Part, part-fill, part-whole}
+use Rattle.grow_splice.specs.Spot.{isInside}
+use Rattle.grow_locate.specs.Parent.{parentIn, Parent, parent-of, parent-wide, taking-parent}
+use Rattle.grow_locate.specs.Aim.{Aimed, receiverOf}
+use Rattle.grow_locate.specs.Keeps.{taking-helper}
+use Rattle.grow_locate.specs.Held.{held-by}
+
+-- The byte of the image where the new node goes.
+abbrev pub goesAt : Taking → ℕ
+goesAt t = 4096 * lastPage (t .chain) + offsetIn (t .spot) (t .rest)
+
+-- ── behind a sibling ──
+
+-- `next` is right behind the node at s, or behind the proxy of the record whose root it is.
+pub data Behind (img : List ℕ) (s next : ℕ) : Type 0 where
+  node : (s % 4096 ≡ 0 → ⊥) → s + 16 ≤ length img → s < 4194304 → next ≡ s + twoAt img (s + 4) → Behind img s next
+  proxy : s % 4096 ≡ 0 → s + 4096 ≤ length img → s < 4194304 → (holder : ℕ) → twoAt img (s + 4084) ≡ holder
+      → (h : HeldBy img holder (s / 4096)) × (h .pos + 8 ≡ next) → next < 4194304 → Behind img s next
+
+module _ (img : List ℕ) (s next : ℕ) where
+  pub behind-room : Behind img s next → (s + 16 ≤ length img) × (s < 4194304)
+  behind-room (node z a b e) = (a, b)
+  behind-room (proxy z a b holder e h l) = (omega arith, b)
+
+  pub root-room : Behind img s next → s % 4096 ≡ 0 → s + 4096 ≤ length img
+  root-room (node z a b e) y = absurd (z y)
+  root-room (proxy z a b holder e h l) y = a
+
+  pub behind-held : Behind img s next → s % 4096 ≡ 0 → (holder : ℕ) → holder ≡ twoAt img (s + 4084)
+      → (h : HeldBy img holder (s / 4096)) × ((h .pos + 8 ≡ next) × (next < 4194304))
+  behind-held (node z a b e) y holder f = absurd (z y)
+  behind-held (proxy z a b holder₁ e h l) y holder f =
+      let g : holder₁ ≡ holder = sym (f ∙ e) in
+      subst (λ (n : ℕ). (h : HeldBy img n (s / 4096)) × ((h .pos + 8 ≡ next) × (next < 4194304))) g (h .0, (h .1, l))
+
+  pub behind-node : Behind img s next → (s % 4096 ≡ 0 → ⊥) → next ≡ s + twoAt img (s + 4)
+  behind-node (node z a b e) y = e
+  behind-node (proxy z a b holder e h l) y = absurd (y z)
+
+-- how long a node is
+lone-long : (img : List ℕ) (page pos : ℕ) (one rest : Row) → lone one ≡ true → Here img page pos (one ⊹ rest) → twoAt img (pos + 4) ≡ size one
+lone-long img page pos nil rest l h = absurd (false≢true l)
+lone-long img page pos (agg g cs more) rest l h = omega (arith, agg-view img page pos g cs (more ⊹ rest) h .long, ap size (isNil-nil more l))
+lone-long img page pos (lit g c more) rest l h = omega (arith, lit-view img page pos g c (more ⊹ rest) h .long, ap size (isNil-nil more l))
+lone-long img page pos (rec q b r more) rest l h = absurd (false≢true l)
+
+module _ (img : List ℕ) (st : Config) (root : Row) (reads : Reads img st root) (path : List ℕ) (k : ℕ) (t : Taking) (e : taking root path k ≡ some t) where
+  -- what stood in front of the place
+  around : (s : Spot) (one : Row) → t .spot ≡ past s one → fill (t .spot) (t .rest) ≡ fill s (one ⊹ t .rest)
+  around s one z = ap (λ (s : Spot). fill s (t .rest)) z ∙ fill-past s one (t .rest)
+
+  whole-around : (s : Spot) (one : Row) → t .spot ≡ past s one → whole (t .chain) (fill s (one ⊹ t .rest)) ≡ root
+  whole-around s one z = ap (whole (t .chain)) (sym (around s one z)) ∙ taking-whole root path k t e
+
+  before-here : (s : Spot) (one : Row) → t .spot ≡ past s one → Here img (lastPage (t .chain)) (4096 * lastPage (t .chain) + base (fill s (one ⊹ t .rest)) + before s) (one ⊹ t .rest)
+  before-here s one z =
+      here-fill img (lastPage (t .chain)) (4096 * lastPage (t .chain) + base (fill s (one ⊹ t .rest))) s (one ⊹ t .rest)
+      (chain-page img st root reads (t .chain) (fill s (one ⊹ t .rest)) (whole-around s one z) .here)
+
+  goes-past : (s : Spot) (one : Row) → t .spot ≡ past s one → goesAt t ≡ 4096 * lastPage (t .chain) + base (fill s (one ⊹ t .rest)) + before s + size one
+  goes-past s one z = omega (arith, ap (λ (s : Spot). offsetIn s (t .rest)) z, offset-past s one (t .rest) (size one) refl)
+
+  -- a node behind others is not where its record starts
+  not-first : (s : Spot) (one : Row) → t .spot ≡ past s one → 6 ≤ offsetIn s (one ⊹ t .rest)
+  not-first (here left) one z =
+      let n : lone (fill (here left) (one ⊹ t .rest)) ≡ false = ap lone (sym (around (here left) one z)) ∙ taking-helper root path k t e (ap isInside z) in
+      let b : base (fill (here left) (one ⊹ t .rest)) ≡ 6 = rw n in
+      omega arith
+  not-first (inside left h rest s) one z = omega arith
+
+  beside : (y : Place) (s : ℕ) → s ≡ 4096 * y .page + y .offset → Beside t y → Behind img s (goesAt t)
+  beside y s a (behindNode u one l z p o) =
+      let h = before-here u one z in
+      let m : s ≡ 4096 * lastPage (t .chain) + base (fill u (one ⊹ t .rest)) + before u = omega arith in
+      let long : twoAt img (s + 4) ≡ size one = subst (λ (n : ℕ). twoAt img (n + 4) ≡ size one) (sym m) (lone-long img (lastPage (t .chain)) _ one (t .rest) l h) in
+      let high = h .on .high in
+      let in-img = h .on .inside in
+      let room = h .room in
+      let f = not-first u one z in
+      node (λ q. omega arith) (omega arith) (omega arith) (omega (arith, goes-past u one z))
+  beside y s a (behindProxy u q b r l z p o) =
+      let h = before-here u (rec q b r nil) z in
+      let v = rec-view img (lastPage (t .chain)) _ q b r (t .rest) h in
+      let m : s ≡ 4096 * q = omega arith in
+      let d : q ≡ s / 4096 = omega arith in
+      let (x, i) = held-by img st root reads (t .chain) u q b r (t .rest) (whole-around u (rec q b r nil) z) in
+      let g : x .pos + 8 ≡ goesAt t = omega (arith, goes-past u (rec q b r nil) z) in
+      let high = v .under .here .on .high in
+      let in-img = v .under .here .on .inside in
+      proxy (omega arith) (omega arith) (omega arith) (lastPage (t .chain)) (subst (λ (n : ℕ). twoAt img (n + 4084) ≡ lastPage (t .chain)) (sym m) (v .under .back))
+      (subst (λ (n : ℕ). (h : HeldBy img (lastPage (t .chain)) n) × (h .pos + 8 ≡ goesAt t)) d (x, g))
+      (omega (arith, goes-past u (rec q b r nil) z, h .room, h .on .high))
+
+  -- the place is on its page
+  goes-room : goesAt t ≤ 4096 * lastPage (t .chain) + 4080
+  goes-room = omega (arith, taking-here img st root reads path k t e .room)
+
+-- ── the parent ──
+
+nesting-part : Part nesting
+nesting-part = record {
+  children = λ h cs rest. omega arith;
+  after-agg = λ h cs rest. omega arith;
+  after-lit = λ h c rest. omega arith;
+  under = λ p b r rest. omega arith;
+  after-rec = λ p b r rest. omega arith;
+}
+
+steps-part : Part steps
+steps-part = record {
+  children = λ h cs rest. omega arith;
+  after-agg = λ h cs rest. omega arith;
+  after-lit = λ h c rest. omega arith;
+  under = λ p b r rest. omega arith;
+  after-rec = λ p b r rest. omega arith;
+}
+
+-- The left sibling of child k of the aggregate at `parent`, if there is one, stands at the byte `left`.
+abbrev pub LeftAt : (img : List ℕ) → (parent k left : ℕ) → Type 0
+LeftAt img parent k left = (r : Rowed img (parent + 6) (parent + twoAt img (parent + 4)) 1024) → (k ≡ 0 → ⊥) → left ≡ nthOf (parent + 6) (r .row) (k - 1) .at
+
+module _ (img : List ℕ) (parent k : ℕ) (w : Aimed img parent k) where
+  v : Valid (w .st) (w .root)
+  v = reads-valid img (w .st) (w .root) (w .reads)
+
+  -- The parent, in the records.
+  pub found : Parent (w .root) k (λ j. placeOf (w .root) (w .path ++ j ∷ [])) (w .t) (w .y)
+  found = parent-of (w .st) (w .root) v (w .path) k (w .t) (w .y) (w .taken) (w .names)
+
+  abbrev pub row : Row
+  row = agg (found .head) (found .children) (found .rest)
+
+  -- It stands at its byte.
+  pub parent-here : Here img (lastPage (found .chain)) parent row
+  parent-here =
+      let n : ℕ = 4096 * lastPage (found .chain) + base (fill (found .spot) row) in
+      let z : n + before (found .spot) ≡ parent = omega (arith, w .at, found .page, found .offset) in
+      subst (λ (n : ℕ). Here img (lastPage (found .chain)) n row) z
+      (here-fill img (lastPage (found .chain)) n (found .spot) row (chain-page img (w .st) (w .root) (w .reads) (found .chain) (fill (found .spot) row) (found .is) .here))
+
+  part-of : (f : Row → ℕ) → Part f → f row ≤ f (w .root)
+  part-of f q =
+      let z : f (whole (found .chain) (fill (found .spot) row)) ≡ f (w .root) = ap f (found .is) in
+      omega (arith, part-fill f q (found .spot) row, part-whole f q (found .chain) (fill (found .spot) row))
+
+  deep : nesting row ≤ 1024
+  deep = omega (arith, part-of nesting nesting-part, root-nesting img (w .st) (w .root) (w .reads))
+
+  few : steps row ≤ 4194304
+  few = omega (arith, part-of steps steps-part, few-steps (w .st) (w .root) v, v .ranges .many)
+
+  pub parent-room : (parent + 16 ≤ length img) × (parent < 4194304)
+  parent-room =
+      let h = parent-here in
+      let o = h .on in
+      (omega (arith, h .room, o .inside), omega (arith, h .room, o .high))
+
+  seen : AggView img (lastPage (found .chain)) parent (found .head) (found .children) (found .rest)
+  seen = agg-view img (lastPage (found .chain)) parent (found .head) (found .children) (found .rest) parent-here
+
+  -- Its children,
+  pub kids : (len : ℕ) → len ≡ twoAt img (parent + 4) → Rowed img (parent + 6) (parent + len) 1024
+  kids len e = record {
+    page = lastPage (found .chain);
+    row = found .children;
+    here = seen .children;
+    ends = omega (arith, seen .long);
+    deep = omega (arith, deep);
+    few = omega (arith, few);
+  }
+
+  -- and the left sibling.
+  module _ (i : ℕ) (z : k ≡ suc i) where
+    left : Leads img (nthOf (parent + 6) (found .children) i .at) [] (placeAt (lastPage (found .chain)) (w .y .offset + 6) i [] (found .children))
+    left =
+        reach img (lastPage (found .chain)) (parent + 6) (w .y .offset + 6) i [] (found .children) (seen .children) (omega (arith, w .at, found .page)) (omega (arith, deep)) (omega (arith, few))
+        (nth-found (parent + 6) (found .children) i (parent-wide (w .st) (w .root) v k (λ j. placeOf (w .root) (w .path ++ j ∷ [])) (w .t) (w .y) found i z))
+
+    abbrev left-place : Place
+    left-place = record { page = left .page; offset = left .off }
+
+    left-named : placeOf (w .root) (w .path ++ i ∷ []) ≡ some left-place
+    left-named = found .finds i ∙ sym (left .to) ∙ no-entry (left .page) (left .off) (left .row) (left .node)
+
+    left-behind : Behind img (nthOf (parent + 6) (found .children) i .at) (goesAt (w .t))
+    left-behind =
+        beside img (w .st) (w .root) (w .reads) (w .path) k (w .t) (w .taken) left-place _ (left .at)
+        (taking-beside (w .st) (w .root) v (w .path) (w .t) left-place i (ap (taking (w .root) (w .path)) (sym z) ∙ w .taken) left-named)
+
+    pub sibling : (at : ℕ) → LeftAt img parent k at → Behind img at (goesAt (w .t))
+    unfolding kids
+    sibling at l =
+        let e : k - 1 ≡ i = omega arith in
+        subst (λ (x : ℕ). Behind img x (goesAt (w .t))) (sym (l (kids (twoAt img (parent + 4)) refl) (λ y. omega arith) ∙ ap (λ (i : ℕ). nthOf (parent + 6) (found .children) i .at) e)) left-behind
+
+  -- The first child goes behind the header.
+  pub goes-first : k ≡ 0 → parent + 6 ≡ goesAt (w .t)
+  goes-first z =
+      let f = taking-first (w .st) (w .root) v (w .path) (w .t) (w .y) (ap (taking (w .root) (w .path)) (sym z) ∙ w .taken) (w .names) in
+      omega (arith, w .at, f .page, f .offset)
+
+  -- ── the answer ──
+
+  module _ (pos : ℕ) (e : pos ≡ goesAt (w .t)) where
+    on-page : pos / 4096 ≡ lastPage (w .t .chain)
+    on-page = omega (arith, goes-room img (w .st) (w .root) (w .reads) (w .path) k (w .t) (w .taken))
+
+    at-byte : pos % 4096 ≡ offsetIn (w .t .spot) (w .t .rest)
+    at-byte = omega (arith, goes-room img (w .st) (w .root) (w .reads) (w .path) k (w .t) (w .taken))
+
+    par-byte : cond (eqb (parent / 4096) (pos / 4096)) (parent % 4096) 0 ≡ parentIn (w .t)
+    par-byte =
+        let h = parent-here in
+        let a : parent / 4096 ≡ w .y .page = omega (arith, w .at, found .page, h .start, h .room) in
+        let b : parent % 4096 ≡ w .y .offset = omega (arith, w .at, found .page, h .start, h .room) in
+        (λ i. cond (eqb (a i) (on-page i)) (b i) 0) ∙ sym (taking-parent (w .st) (w .root) v (w .path) k (w .t) (w .y) (w .taken) (w .names))
+
+    pub received : (par : ℕ) → par ≡ cond (eqb (parent / 4096) (pos / 4096)) (parent % 4096) 0
+        → record { page = pos / 4096; at = pos % 4096; par = par } ≡ receiverOf (w .t)
+    received par q = λ i. record { page = on-page i; at = at-byte i; par = (q ∙ par-byte) i }

@@ -1,0 +1,60 @@
+-- The record on the page that was found, or in a dry run none, and the proxy.
+use mathlib.Core.Path.{_≡_, ap, _∙_}
+use mathlib.Core.Bool.{cond}
+use mathlib.Core.Logic.{⊎-elim}
+use native.Mathlib.Omega.{arith}
+use lib.ListN.{length}
+use borrow.Author.Needs.{needs}
+use Rattle.grow_pages.specs.Write.{setPage, pageBytesOf}
+use Rattle.grow_split.specs.Group.{wet, still}
+use Rattle.grow_new_node.specs.Apart.{found-inside, own}
+use Rattle.grow_new_node.proofs.place_apart.Statement.{statement}
+use Rattle.grow_new_node.proofs.place_apart.Tie as tie
+
+first-free-requires : tie.Need-first-free-requires
+first-free-requires c κs = search needs
+
+element-write-used : tie.Need-element-write-used
+element-write-used c =
+    let s = c .before .before .before .before .before in
+    omega (arith, s .pre .0 .few, found-inside _ _ _ _ _ (s .pre .0) (c .first-free .ensures))
+
+put-record-requires : tie.Need-put-record-requires
+put-record-requires c κs =
+    let s = c .before .before .before .before .before .before .before in
+    let v = s .pre .0 in
+    omega (arith, v .few, v .image, v .start, s .pre .1 .0, found-inside _ _ _ _ _ v (c .before .before .first-free .ensures))
+
+put-proxy-requires : tie.Need-put-proxy-requires
+put-proxy-requires c κs =
+    let s = c .before .before .before .before .before .before .before in
+    omega (arith, s .pre .0 .few, s .pre .1 .1, found-inside _ _ _ _ _ (s .pre .0) (c .before .before .first-free .ensures))
+
+same-length : tie.Need-same-length
+same-length c = ⊎-elim (λ w. ap length (w .5) ∙ w .2 .kept .0) (λ w. ap length (w .1)) (c .before .before .before .before .if1 .came)
+
+same-length-2 : tie.Need-same-length-2
+same-length-2 c = search needs
+
+returns : tie.Need-returns
+returns c =
+    let f = c .before .before .before .before .before in
+    let s = f .before .before .before .before .before in
+    let q = f .first-free .result in
+    let old = s .args .image .now in
+    let new = setPage q (pageBytesOf (s .args .node .now) 1 (s .args .page)) old in
+    let i : c .before .before .before .before .if1 .image ≡ cond (s .args .dry) old new =
+    ⊎-elim (λ w. wet (s .args .dry) _ old new (w .0 .taken) (w .5 ∙ w .2 .ensures)) (λ w. still (s .args .dry) _ old new (w .0 .left) (w .1)) (c .before .before .before .before .if1 .came) in
+    λ st e row l b. own st _ q _ (s .args .dry) row (s .args .node .now) _ old _ _ _ e (f .first-free .ensures st e) l b i (c .before .before .put-proxy .ensures)
+
+pub place-apart-spec : {M : Type 1} → statement M
+place-apart-spec =
+    tie.close
+    (tie.spec
+    first-free-requires
+    element-write-used
+    put-record-requires
+    put-proxy-requires
+    same-length
+    same-length-2
+    returns)

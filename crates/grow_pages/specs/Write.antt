@@ -1,0 +1,133 @@
+-- Pages written, and pages looked for.
+use mathlib.Core.Path.{_≡_, refl, sym, ap, _∙_}
+use mathlib.Core.Bool.{Bool, true, false, cond, not}
+use mathlib.Core.List.{List, [], _∷_, _++_, append-assoc}
+use Prim.Native.Nat.{ℕ, zero, suc, _+_, _-_, _*_, _<_, _≤_}
+use native.Mathlib.Omega.{arith}
+use native.Mathlib.Numerals.{add-one, sub-one}
+use borrow.Author.Tests.{eq-eqb, ne-eqb, lt-ltb, le-ltb, ltb-true, eqb-true, eqb-false}
+use lib.Dec.{eqb, ltb}
+use lib.ListN.{length, getD, set, replicate, length-append, length-replicate}
+use lib.Seq.{getD-set-same, getD-set-other}
+use Rattle.model.specs.Row.{two, trailer, Config, Held, recordBytes, recordPage}
+use Rattle.model.specs.Growth.{freeFrom, mark}
+use Rattle.theory_rows.specs.Laws.{cond-case}
+use Rattle.theory_rows.specs.Image.{length-record}
+use Rattle.base_numbers.specs.Over.{over, over-then}
+
+-- The image with page p replaced.
+unfoldable pub setPage : (page : ℕ) → (bytes image : List ℕ) → List ℕ
+setPage p s l = over (4096 * p) s l
+
+-- A record's page: its bytes, zeros, and the trailer; settled is 0 or 1.
+unfoldable pub pageBytesOf : (content : List ℕ) → (settled holder : ℕ) → List ℕ
+pageBytesOf c s h = c ++ replicate (4080 - length c) 0 ++ trailer 1 s (length c) h
+
+pub recordPage-is : (h : Held) → recordPage h ≡ pageBytesOf (recordBytes (h .row)) (cond (h .settled) 1 0) (h .holder)
+unfolding pageBytesOf
+recordPage-is h = rw (length-record (h .row))
+
+pub length-pageBytesOf : (c : List ℕ) (s h : ℕ) → length c ≤ 4080 → length (pageBytesOf c s h) ≡ 4096
+unfolding pageBytesOf
+length-pageBytesOf c s h k = simp (length-append, length-replicate) (omega arith)
+
+state : (s : ℕ) → s ≤ 1 → two (1 + 256 * s) ≡ 1 ∷ s ∷ []
+state zero h = refl
+state (suc zero) h = refl
+state (suc (suc s)) h = absurd (omega arith)
+
+-- The six writes of a record's page.
+pub record-written : (p s h : ℕ) (c l a b d e f g : List ℕ) → 4096 * p + 4096 ≤ length l → length c ≤ 4080 → s ≤ 1
+    → a ≡ over (4096 * p) c l
+    → b ≡ over (4096 * p + length c) (replicate (4080 - length c) 0) a
+    → d ≡ over (4096 * p + 4080) (two (1 + 256 * s)) b
+    → e ≡ over (4096 * p + 4082) (two (length c)) d
+    → f ≡ over (4096 * p + 4084) (two h) e
+    → g ≡ over (4096 * p + 4086) (replicate 10 0) f
+    → g ≡ setPage p (pageBytesOf c s h) l
+unfolding setPage pageBytesOf
+record-written p s h c l a b d e f g room k t qa qb qd qe qf qg =
+    let at = 4096 * p in
+    let z : List ℕ = replicate (4080 - length c) 0 in
+    let nz : length z ≡ 4080 - length c = length-replicate _ _ in
+    let qd′ : d ≡ over (at + 4080) (1 ∷ s ∷ []) b = rw (state s t) at qd in
+    let w1 : b ≡ over at (c ++ z) l = over-then _ _ _ _ _ _ _ qa qb refl (omega arith) in
+    let w2 : d ≡ over at ((c ++ z) ++ (1 ∷ s ∷ [])) l = over-then _ _ _ _ _ _ _ w1 qd′ (simp length-append (omega arith)) (simp length-append (omega arith)) in
+    let w3 : e ≡ over at (((c ++ z) ++ (1 ∷ s ∷ [])) ++ two (length c)) l = over-then _ _ _ _ _ _ _ w2 qe (simp length-append (omega arith)) (simp length-append (omega arith)) in
+    let w4 : f ≡ over at ((((c ++ z) ++ (1 ∷ s ∷ [])) ++ two (length c)) ++ two h) l = over-then _ _ _ _ _ _ _ w3 qf (simp length-append (omega arith)) (simp length-append (omega arith)) in
+    over-then _ _ _ _ _ _ _ w4 qg (simp length-append (omega arith)) (simp length-append (omega arith)) ∙ simp append-assoc
+
+-- A page written whole.
+pub page-written : (p : ℕ) (s l m : List ℕ) → m ≡ over (4096 * p) s l → m ≡ setPage p s l
+unfolding setPage
+page-written p s l m e = e
+
+-- ── free pages ──
+
+-- A page is used where its byte is not 0.
+unfoldable pub usedBy : (used : List ℕ) → ℕ → Bool
+usedBy u q = not (eqb (getD u q 0) 0)
+
+-- The page after q.
+abbrev pub after : (pages q : ℕ) → ℕ
+after n q = cond (ltb (suc q) n) (suc q) 2
+
+module _ (st : Config) (u : List ℕ) (left q : ℕ) where
+  pub free-here : 0 < left → getD u q 0 ≡ 0 → q ≡ freeFrom st left (usedBy u) q
+  unfolding freeFrom usedBy
+  free-here h e = go left h
+    where
+      go : (k : ℕ) → 0 < k → q ≡ freeFrom st k (usedBy u) q
+      go zero h = absurd (omega arith)
+      go (suc k) h = sym (simp (eq-eqb _ _ e))
+
+  pub free-turn : (n k : ℕ) → st .pages ≡ n → 0 < left → (getD u q 0 ≡ 0 → ⊥) → k ≡ after n q → freeFrom st (left - 1) (usedBy u) k ≡ freeFrom st left (usedBy u) q
+  unfolding freeFrom usedBy
+  free-turn n k s h e f = go left h
+    where
+      go : (k′ : ℕ) → 0 < k′ → freeFrom st (k′ - 1) (usedBy u) k ≡ freeFrom st k′ (usedBy u) q
+      go zero h = absurd (omega arith)
+      go (suc k′) h = rw (f, ← s, sub-one) (sym (simp (ne-eqb _ _ e)))
+
+  pub free-none : left ≤ 0 → 0 ≡ freeFrom st left (usedBy u) q
+  unfolding freeFrom
+  free-none h = go left h
+    where
+      go : (k : ℕ) → k ≤ 0 → 0 ≡ freeFrom st k (usedBy u) q
+      go zero h = refl
+      go (suc k) h = absurd (omega arith)
+
+pub after-less : (n q : ℕ) → q + 1 < n → q + 1 ≡ after n q
+after-less n q h =
+    let e : ltb (suc q) n ≡ true = lt-ltb (suc q) n (omega arith) in
+    rw e (add-one q)
+
+pub after-last : (n q : ℕ) → n ≤ q + 1 → 2 ≡ after n q
+after-last n q h =
+    let e : ltb (suc q) n ≡ false = le-ltb (suc q) n (omega arith) in
+    rw e
+
+-- A page marked: its byte is set.
+pub used-set : (u : List ℕ) (q v x : ℕ) → q < length u → usedBy (set u q v) x ≡ mark (not (eqb v 0)) q (usedBy u) x
+unfolding usedBy
+used-set u q v x h = go (eqb x q) refl
+  where
+    go : (b : Bool) → eqb x q ≡ b → not (eqb (getD (set u q v) x 0) 0) ≡ cond b (not (eqb v 0)) (not (eqb (getD u x 0) 0))
+    go true e = ap (λ (i : ℕ). not (eqb (getD (set u q v) i 0) 0)) (eqb-true x q e) ∙ ap (λ (i : ℕ). not (eqb i 0)) (getD-set-same u q v 0 h)
+    go false e = ap (λ (i : ℕ). not (eqb i 0)) (getD-set-other u q x v 0 (eqb-false x q e))
+
+-- Only pages below 1,024 are looked at.
+module _ (st : Config) (many : st .pages ≤ 1024) where
+  after-below : (q : ℕ) → after (st .pages) q < 1024
+  after-below q =
+      cond-case (λ (i : ℕ). i < 1024) (ltb (suc q) (st .pages)) (λ f. omega (arith, ltb-true (suc q) (st .pages) f)) (λ f. omega arith)
+
+  pub free-same : (a b : ℕ → Bool) → ((x : ℕ) → x < 1024 → a x ≡ b x) → (k q : ℕ) → q < 1024 → freeFrom st k a q ≡ freeFrom st k b q
+  unfolding freeFrom
+  free-same a b e zero q g = refl
+  free-same a b e (suc k) q g = rw (e q g) (ap (λ (i : ℕ). cond (b q) i q) (free-same a b e k (after (st .pages) q) (after-below q)))
+
+  pub free-below : (used : ℕ → Bool) (k q : ℕ) → q < 1024 → freeFrom st k used q < 1024
+  unfolding freeFrom
+  free-below used zero q g = omega arith
+  free-below used (suc k) q g = cond-case (λ (i : ℕ). i < 1024) (used q) (λ _. free-below used k (after (st .pages) q) (after-below q)) (λ _. g)

@@ -1,0 +1,72 @@
+// The page writes of an insert: a free page, a record on its page, a page cleared, back links.
+use base_numbers::clear;
+use base_numbers::copy_in;
+use base_numbers::put16;
+use base_numbers::two;
+ghost use mathlib.Core.Path.{_≡_};
+ghost use Prim.Native.Nat.{_+_, _*_, _≤_, _<_};
+ghost use lib.ListN.{length, replicate};
+ghost use Rattle.model.specs.Row.{Config};
+ghost use Rattle.model.specs.Growth.{freeFrom};
+ghost use Rattle.grow_pages.specs.Write.{usedBy, setPage, pageBytesOf};
+ghost use Rattle.grow_pages.specs.Links.{Linked, links};
+
+// The first free page counting up from `from`, page 2 following the last; 0 if none is free. A page is used where its byte is not 0.
+pub fn first_free(used: &[u8; 1024], pages: usize, from: usize) -> usize
+    requires { ⌜ (1 ≤ from) × ((from < pages) × (pages ≤ 1024)) ⌝ }
+    ensures { λ r. ⌜ ((st : Config) → st .pages ≡ pages → r ≡ freeFrom st pages (usedBy (now (used .entry))) from) ⌝ }
+{
+    let mut q = from;
+    let mut left = pages;
+    while 0 < left {
+        if used[q] == 0 {
+            return q;
+        }
+        q = if q + 1 < pages { q + 1 } else { 2 };
+        left -= 1;
+    }
+    0
+}
+
+// Writes a record with its trailer to a page.
+pub fn put_record(image: &mut [u8], page: usize, content: &[u8], settled: usize, holder: usize)
+    requires { ⌜ (page < 1024) × ((4096 * page + 4096 ≤ length (now image)) × ((length (now content) ≤ 4080) × ((settled ≤ 1) × (holder < 1024)))) ⌝ }
+    ensures { λ _. ⌜ now (image .exit) ≡ setPage page (pageBytesOf (now (content .entry)) settled holder) (now (image .entry)) ⌝ }
+{
+    let base = 4096 * page;
+    let n = content.len();
+    copy_in(content, image, base);
+    clear(image, base + n, 4080 - n);
+    put16(image, base + 4080, 1 + 256 * settled);
+    put16(image, base + 4082, n);
+    put16(image, base + 4084, holder);
+    clear(image, base + 4086, 10);
+}
+
+// Makes a page free: all zero.
+pub fn clear_page(image: &mut [u8], page: usize)
+    requires { ⌜ (page < 1024) × (4096 * page + 4096 ≤ length (now image)) ⌝ }
+    ensures { λ _. ⌜ now (image .exit) ≡ setPage page (replicate 4096 0) (now (image .entry)) ⌝ }
+{
+    clear(image, 4096 * page, 4096);
+}
+
+// Sets the back link of each record whose proxy stands in the row to page q.
+pub fn relink(row: &[u8], image: &mut [u8], pages: usize, q: usize)
+    requires { ⌜ (pages ≤ 1024) × ((4096 * pages ≤ length (now image)) × ((q < pages) × Linked (now row) pages)) ⌝ }
+    ensures { λ _. ⌜ ((w : Linked (now (row .entry)) pages) → now (image .exit) ≡ links q (w .row) (now (image .entry))) ⌝ }
+{
+    let mut pos = 0;
+    while pos < row.len() {
+        let kind = row[pos];
+        if kind == 1 {
+            pos += 6;
+        } else if kind == 3 {
+            let p = two(row, pos + 6);
+            put16(image, 4096 * p + 4084, q);
+            pos += 8;
+        } else {
+            pos += two(row, pos + 4);
+        }
+    }
+}

@@ -1,0 +1,114 @@
+-- The walk down to the node that holds a byte of a record.
+use mathlib.Core.Path.{_≡_, sym, ap, _∙_}
+use mathlib.Core.Bool.{Bool}
+use mathlib.Core.List.{List}
+use Prim.Native.Nat.{ℕ, _+_, _<_, _≤_}
+use native.Mathlib.Omega.{arith}
+use lib.ListN.{length}
+use Rattle.model.specs.Row.{Head, Row, nil, agg, lit, rec, size, base, recordSize, recordBytes}
+use Rattle.model.specs.Reading.{twoAt}
+use Rattle.theory_insert_point.specs.Chain.{Spot, here, inside, fill}
+use Rattle.grow_splice.specs.Spot.{at, parent, push, size-around, parent-push, at-push, at-low, at-high}
+use Rattle.grow_replace_proxy.specs.Left.{spot-case, opened, Left, left-length, left-start, Reads, left-past, left-into, reads-inside, reads-agg, reads-lit, reads-rec}
+
+-- A record with a proxy at the byte target.
+pub record Filled (l : List ℕ) (target : ℕ) : Type 0 where
+  pub spot : Spot
+  pub page : ℕ
+  pub settled : Bool
+  pub old : Row
+  pub rest : Row
+  pub is : l ≡ recordBytes (fill spot (rec page settled old rest))
+  pub small : recordSize (fill spot (rec page settled old rest)) ≤ 4080
+  pub stands : target ≡ at (base (fill spot (rec page settled old rest))) spot
+
+-- Where the node starts that holds it.
+abbrev pub filledIn : (l : List ℕ) (target : ℕ) → Filled l target → ℕ
+filledIn l target w = parent 0 (base (fill (w .spot) (rec (w .page) (w .settled) (w .old) (w .rest)))) (w .spot)
+
+-- The row at pos stands in the node at par; the node at goal holds the target.
+pub record Inner (l : List ℕ) (target pos par goal : ℕ) : Type 0 where
+  pub spot : Spot
+  pub filling : Row
+  pub some : 1 ≤ size filling
+  pub left : Left l pos spot filling
+  pub target-is : target ≡ at pos spot
+  pub goal-is : goal ≡ parent par pos spot
+
+-- What stands at pos.
+pub record Step (l : List ℕ) (target pos par goal : ℕ) : Type 0 where
+  pub long : ℕ
+  pub is : twoAt l (pos + 4) ≡ long
+  pub more : 6 ≤ long
+  pub within : pos + long ≤ length l
+  pub enter : target < pos + long → Inner l target (pos + 6) pos goal
+  pub skip : pos + long ≤ target → Inner l target (pos + long) par goal
+
+module _ (l : List ℕ) (target pos par goal : ℕ) (x : Row) (some : 1 ≤ size x) (low : pos < target) where
+  abbrev Steps : Spot → Type 0
+  Steps s = Left l pos s x → target ≡ at pos s → goal ≡ parent par pos s → Step l target pos par goal
+
+  step-inside : (h : Head) (right : Row) (s : Spot) → Steps (inside nil h right s)
+  step-inside h right s v t g =
+      let d = reads-inside l pos x h right s v in
+      let z : pos + 0 ≡ pos = omega arith in
+      let t′ : target ≡ at (pos + 6) s = t ∙ ap (λ (m : ℕ). at (m + 6) s) z in
+      record {
+        long = 6 + size (fill s x);
+        is = d .long;
+        more = omega arith;
+        within = omega (arith, left-length l pos (inside nil h right s) x v);
+        enter = λ k. record {
+          spot = s;
+          filling = x;
+          some = some;
+          left = left-into l pos x h right s v;
+          target-is = t′;
+          goal-is = g ∙ ap (λ (m : ℕ). parent m (m + 6) s) z;
+        };
+        skip = λ k. absurd (omega (arith, at-high s (pos + 6), size-around s x));
+      }
+
+  step-past : (k : ℕ) (a : Row) (t : Spot) → Reads l pos k (size a) → 6 ≤ size a → Steps (push a t)
+  step-past k a t d more v e g =
+      let e′ : target ≡ at (pos + size a) t = e ∙ at-push a t pos in
+      let next = left-past l pos x a t v in
+      record {
+        long = size a;
+        is = d .long;
+        more = more;
+        within = omega (arith, left-length l (pos + size a) t x next);
+        enter = λ k. absurd (omega (arith, at-low t (pos + size a)));
+        skip = λ k. record { spot = t; filling = x; some = some; left = next; target-is = e′; goal-is = g ∙ parent-push a t par pos };
+      }
+
+  steps : (s : Spot) → Steps s
+  steps s =
+      spot-case Steps (λ v t g. absurd (omega arith)) step-inside
+      (λ h cs t v. step-past 1 (agg h cs nil) t (reads-agg l pos x h cs t v) (omega arith) v)
+      (λ h c t v. step-past 2 (lit h c nil) t (reads-lit l pos x h c t v) (omega arith) v)
+      (λ p b r t v. step-past 3 (rec p b r nil) t (reads-rec l pos x p b r t v) (omega arith) v)
+      s
+
+pub step : (l : List ℕ) (target pos par goal : ℕ) → Inner l target pos par goal → pos < target → Step l target pos par goal
+step l target pos par goal v h = steps l target pos par goal (v .filling) (v .some) h (v .spot) (v .left) (v .target-is) (v .goal-is)
+
+-- At the target the walk stands in the node that holds it.
+pub inner-end : (l : List ℕ) (target pos par goal : ℕ) → Inner l target pos par goal → target ≤ pos → par ≡ goal
+inner-end l target pos par goal v h = go (v .spot) (v .target-is) (v .goal-is)
+  where
+    go : (s : Spot) → target ≡ at pos s → goal ≡ parent par pos s → par ≡ goal
+    go (here left) t g = sym g
+    go (inside left k right s) t g = absurd (omega (arith, at-low s (pos + size left + 6)))
+
+pub inner-start : (l : List ℕ) (target : ℕ) (w : Filled l target) → Inner l target 6 0 (filledIn l target w)
+inner-start l target w =
+    let v = opened (w .spot) (w .page) (w .settled) (w .old) (w .rest) in
+    record {
+      spot = v .spot;
+      filling = rec (w .page) (w .settled) (w .old) (w .rest);
+      some = omega arith;
+      left = left-start l (w .spot) (w .page) (w .settled) (w .old) (w .rest) (w .is) (w .small);
+      target-is = w .stands ∙ v .at-is;
+      goal-is = v .par-is;
+    }

@@ -1,0 +1,110 @@
+-- A separator in the place of the proxy to the record that was split, in the record that holds the proxy.
+use mathlib.Core.Path.{_≡_, sym, ap, _∙_}
+use mathlib.Core.Bool.{Bool}
+use mathlib.Core.List.{List}
+use Prim.Native.Nat.{ℕ, _+_, _*_, _-_, _<_, _≤_}
+use native.Mathlib.Omega.{arith}
+use lib.ListN.{length, getD, take, drop}
+use lib.Seq.{take-take, getD-take, getD-drop}
+use Rattle.model.specs.Row.{Row, rec, _⊹_, size, base, bytes, recordSize, recordBytes, Held, recordPage, count}
+use Rattle.model.specs.Reading.{twoAt, pageOf}
+use Rattle.theory_rows.specs.Laws.{length-bytes}
+use Rattle.theory_rows.specs.Image.{length-record}
+use Rattle.theory_decoding.specs.Decode.{used-page, take-page}
+use Rattle.theory_layout.specs.Here.{PageIn}
+use Rattle.theory_insert_point.specs.Chain.{Spot, fill}
+use Rattle.grow_splice.specs.Spot.{at, parent}
+use Rattle.grow_splice.specs.Splice.{KeepsRoot, Place, put-for}
+use Rattle.grow_replace_proxy.specs.Seek.{Proxied}
+use Rattle.grow_replace_proxy.specs.Inner.{Filled}
+
+-- A record that stands on its page: its length, as the page says it,
+module _ (img : List ℕ) (h : Held) (is : pageOf img (h .page) ≡ recordPage h) (small : recordSize (h .row) ≤ 4080) where
+  pub page-used : twoAt img (4096 * h .page + 4082) ≡ recordSize (h .row)
+  unfolding twoAt
+  page-used =
+      let at-byte : (i : ℕ) → i < 4096 → getD img (4096 * h .page + i) 0 ≡ getD (recordPage h) i 0 = λ i k.
+      sym (getD-drop (4096 * h .page) img i 0) ∙ sym (getD-take 4096 (drop (4096 * h .page) img) i 0 k) ∙ ap (λ (z : List ℕ). getD z i 0) is in
+      let z : 4096 * h .page + 4082 + 1 ≡ 4096 * h .page + 4083 = omega arith in
+      rw (z, at-byte 4082 (omega arith), at-byte 4083 (omega arith)) (used-page h small)
+
+  -- and its bytes.
+  pub page-part : (n : ℕ) → n ≡ twoAt img (4096 * h .page + 4082) → take (4096 * h .page + n - 4096 * h .page) (drop (4096 * h .page) img) ≡ recordBytes (h .row)
+  page-part n e =
+      let z : 4096 * h .page + n - 4096 * h .page ≡ recordSize (h .row) = omega (arith, page-used) in
+      rw z (sym (take-take (recordSize (h .row)) 4096 (drop (4096 * h .page) img) (omega arith)) ∙ ap (take (recordSize (h .row))) is ∙ take-page h small)
+
+-- The record on page `holder` names `page` one time, by a proxy at the spot; the bytes of `put` are to take the proxy's place.
+pub record Lift (img : List ℕ) (holder page : ℕ) (sep : List ℕ) : Type 0 where
+  pub spot : Spot
+  pub settled : Bool
+  pub old : Row
+  pub rest : Row
+  pub put : Row
+  pub above : Bool
+  pub up : ℕ
+  pub on : PageIn img holder
+  pub is : pageOf img holder ≡ recordPage (record { page = holder; settled = above; holder = up; row = fill spot (rec page settled old rest) })
+  pub small : recordSize (fill spot (rec page settled old rest)) ≤ 4080
+  pub once : count page (fill spot (rec page settled old rest)) ≡ 1
+  pub names : (q : ℕ) → 1 ≤ count q (fill spot (rec page settled old rest)) → q < 65536
+  pub comes : sep ≡ bytes put
+  pub least : 8 ≤ size put
+  pub most : size put ≤ 512
+  pub root : KeepsRoot spot (rec page settled old rest) (put ⊹ rest)
+
+-- The record's row with `put` in the proxy's place.
+abbrev pub lifted : (img : List ℕ) (holder page : ℕ) (sep : List ℕ) → Lift img holder page sep → Row
+lifted img holder page sep w = fill (w .spot) (w .put ⊹ w .rest)
+
+module _ (img : List ℕ) (holder page : ℕ) (sep : List ℕ) (w : Lift img holder page sep) where
+  -- The record's row before.
+  abbrev pub before : Row
+  before = fill (w .spot) (rec page (w .settled) (w .old) (w .rest))
+
+  abbrev held : Held
+  held = record { page = holder; settled = w .above; holder = w .up; row = before }
+
+  pub used : twoAt img (4096 * holder + 4082) ≡ recordSize before
+  used = page-used img held (w .is) (w .small)
+
+  pub part : (n : ℕ) → n ≡ twoAt img (4096 * holder + 4082) → take (4096 * holder + n - 4096 * holder) (drop (4096 * holder) img) ≡ recordBytes before
+  part n e = page-part img held (w .is) (w .small) n e
+
+  pub sep-least : 8 ≤ length sep
+  sep-least = omega (arith, w .least, length-bytes (w .put), ap length (w .comes))
+
+  pub sep-most : length sep ≤ 512
+  sep-most = omega (arith, w .most, length-bytes (w .put), ap length (w .comes))
+
+  module _ (l : List ℕ) (e : l ≡ recordBytes before) where
+    pub long : length l ≡ recordSize before
+    long = ap length e ∙ length-record before
+
+    -- the witnesses of the three calls
+    abbrev pub proxied : Proxied l page
+    proxied = record {
+      spot = w .spot;
+      settled = w .settled;
+      old = w .old;
+      rest = w .rest;
+      is = e;
+      small = w .small;
+      once = w .once;
+      names = w .names;
+    }
+
+    abbrev pub filled : (pos : ℕ) → pos ≡ at (base before) (w .spot) → Filled l pos
+    filled pos k = record {
+      spot = w .spot;
+      page = page;
+      settled = w .settled;
+      old = w .old;
+      rest = w .rest;
+      is = e;
+      small = w .small;
+      stands = k;
+    }
+
+    abbrev pub place : (pos par : ℕ) → pos ≡ at (base before) (w .spot) → par ≡ parent 0 (base before) (w .spot) → Place l pos par 8 sep
+    place pos par p q = put-for (w .spot) page (w .settled) (w .old) (w .put) (w .rest) l pos par sep e p q (w .comes) (w .root)

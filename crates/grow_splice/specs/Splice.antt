@@ -1,0 +1,216 @@
+-- The bytes of a record with another filling at a place.
+use mathlib.Core.Path.{_≡_, refl, sym, ap, _∙_}
+use mathlib.Core.Bool.{Bool, false, true≢false}
+use mathlib.Core.List.{List, _++_, append-assoc, append-nil}
+use Prim.Native.Nat.{ℕ, _+_, _-_, _<_, _≤_}
+use native.Mathlib.Omega.{arith}
+use lib.ListN.{length, take, drop, length-append, length-take, length-drop}
+use lib.Seq.{take-at, drop-at, length-take-le, take-all}
+use Rattle.model.specs.Row.{Head, Row, nil, agg, lit, rec, _⊹_, size, nodeCount, lone, base, header, bytes, recordSize, recordBytes, count}
+use Rattle.base_numbers.specs.Over.{over, over-then, over-front, over-again, take-over}
+use Rattle.theory_rows.specs.Laws.{length-bytes, size-⊹, bytes-⊹}
+use Rattle.theory_rows.specs.Bound.{isNil-⊹}
+use Rattle.theory_insert_point.specs.Chain.{Spot, here, inside, fill}
+use Rattle.grow_splice.specs.Spot.{at, parent, isInside, around, before, beyond, lone-many, size-around, bytes-fill, length-before}
+use Rattle.grow_splice.specs.Bump.{Cut, grown}
+
+-- ── the root ──
+
+-- The record keeps its kind of root: a place at the top of its row is in a helper, before and after. A place among a node's children leaves the root as it is.
+abbrev pub KeepsRoot : Spot → (was is : Row) → Type 0
+KeepsRoot s a b = isInside s ≡ false → (lone (fill s a) ≡ false) × (lone (fill s b) ≡ false)
+
+pub inside-keeps : (left : Row) (h : Head) (rest : Row) (s : Spot) (a b : Row) → KeepsRoot (inside left h rest s) a b
+inside-keeps left h rest s a b e = absurd (true≢false e)
+
+pub many-keeps : (s : Spot) (a b : Row) → 2 ≤ nodeCount (fill s a) → 2 ≤ nodeCount (fill s b) → KeepsRoot s a b
+many-keeps s a b h k e = (lone-many (fill s a) h, lone-many (fill s b) k)
+
+-- A record's bytes with either filling are a header and a row, with a place in that row: the root's children, or a helper's.
+pub record Whole (s : Spot) (a b : Row) : Type 0 where
+  pub kind : ℕ
+  pub label : ℕ
+  pub spot : Spot
+  pub was : recordBytes (fill s a) ≡ header kind label (6 + size (fill spot a)) ++ bytes (fill spot a)
+  pub is : recordBytes (fill s b) ≡ header kind label (6 + size (fill spot b)) ++ bytes (fill spot b)
+  pub size-was : recordSize (fill s a) ≡ 6 + size (fill spot a)
+  pub size-is : recordSize (fill s b) ≡ 6 + size (fill spot b)
+  pub at-is : at (base (fill s a)) s ≡ at 6 spot
+  pub par-is : parent 0 (base (fill s a)) s ≡ parent 0 6 spot
+  pub names : (q : ℕ) → count q (fill spot a) ≡ count q (fill s a)
+
+whole-apart : (s : Spot) (a b : Row) → lone (fill s a) ≡ false → lone (fill s b) ≡ false → Whole s a b
+whole-apart s a b p q = record {
+  kind = 4;
+  label = 0;
+  spot = s;
+  was = rw p;
+  is = rw q;
+  size-was = rw p;
+  size-is = rw q;
+  at-is = rw p;
+  par-is = rw p;
+  names = λ q. refl;
+}
+
+whole-lone : (h : Head) (s : Spot) (a b : Row) → Whole (inside nil h nil s) a b
+whole-lone h s a b = record {
+  kind = 1;
+  label = h .label;
+  spot = s;
+  was = rw append-nil;
+  is = rw append-nil;
+  size-was = omega arith;
+  size-is = omega arith;
+  at-is = refl;
+  par-is = refl;
+  names = λ q. omega arith;
+}
+
+pub whole : (s : Spot) (a b : Row) → KeepsRoot s a b → Whole s a b
+whole (here left) a b k = whole-apart (here left) a b (k refl .0) (k refl .1)
+whole (inside nil h nil s) a b k = whole-lone h s a b
+whole (inside nil h (agg l cs rest) s) a b k = whole-apart (inside nil h (agg l cs rest) s) a b refl refl
+whole (inside nil h (lit l c rest) s) a b k = whole-apart (inside nil h (lit l c rest) s) a b refl refl
+whole (inside nil h (rec p t r rest) s) a b k = whole-apart (inside nil h (rec p t r rest) s) a b refl refl
+whole (inside (agg l cs left) h rest s) a b k =
+    whole-apart (inside (agg l cs left) h rest s) a b (isNil-⊹ left (agg h (fill s a) rest) refl) (isNil-⊹ left (agg h (fill s b) rest) refl)
+whole (inside (lit l c left) h rest s) a b k =
+    whole-apart (inside (lit l c left) h rest s) a b (isNil-⊹ left (agg h (fill s a) rest) refl) (isNil-⊹ left (agg h (fill s b) rest) refl)
+whole (inside (rec p t r left) h rest s) a b k = whole-apart (inside (rec p t r left) h rest s) a b refl refl
+
+-- ── the place ──
+
+-- A record l; the row `old`, of `gone` bytes, stands in it at the byte pos, in the node at par, and `tail` after it; the row `put`, whose bytes are new, is to take its place.
+pub record Place (l : List ℕ) (pos par gone : ℕ) (new : List ℕ) : Type 0 where
+  pub spot : Spot
+  pub old : Row
+  pub tail : Row
+  pub put : Row
+  pub is : l ≡ recordBytes (fill spot (old ⊹ tail))
+  pub goes : size old ≡ gone
+  pub comes : new ≡ bytes put
+  pub offset : pos ≡ at (base (fill spot (old ⊹ tail))) spot
+  pub holder : par ≡ parent 0 (base (fill spot (old ⊹ tail))) spot
+  pub root : KeepsRoot spot (old ⊹ tail) (put ⊹ tail)
+
+-- The record's row once `put` has taken the place of `old`.
+abbrev pub spliced : (l : List ℕ) (pos par gone : ℕ) (new : List ℕ) → Place l pos par gone new → Row
+spliced l pos par gone new w = fill (w .spot) (w .put ⊹ w .tail)
+
+-- the bytes of a record up to a filling of m bytes
+abbrev fore : (kind label : ℕ) (s : Spot) (m : ℕ) → List ℕ
+fore k n s m = header k n (6 + (around s + m)) ++ before s m
+
+apart : (k n : ℕ) (s : Spot) (x y : Row)
+    → header k n (6 + size (fill s (x ⊹ y))) ++ bytes (fill s (x ⊹ y)) ≡ fore k n s (size (x ⊹ y)) ++ (bytes x ++ (bytes y ++ beyond s))
+apart k n s x y =
+    (λ i. header k n (6 + size-around s (x ⊹ y) i) ++ bytes-fill s (x ⊹ y) i)
+    ∙ ap (λ (z : List ℕ). header k n (6 + (around s + size (x ⊹ y))) ++ (before s (size (x ⊹ y)) ++ z)) (ap (λ (z : List ℕ). z ++ beyond s) (bytes-⊹ x y) ∙ append-assoc (bytes x) (bytes y) (beyond s))
+
+module _ (l : List ℕ) (pos par gone : ℕ) (new : List ℕ) (w : Place l pos par gone new) where
+  seen : Whole (w .spot) (w .old ⊹ w .tail) (w .put ⊹ w .tail)
+  seen = whole (w .spot) (w .old ⊹ w .tail) (w .put ⊹ w .tail) (w .root)
+
+  -- what stands in the record before the place, and past what goes
+  front-bytes : List ℕ
+  front-bytes = fore (seen .kind) (seen .label) (seen .spot) (size (w .old ⊹ w .tail))
+
+  back-bytes : List ℕ
+  back-bytes = bytes (w .tail) ++ beyond (seen .spot)
+
+  parts : l ≡ front-bytes ++ (bytes (w .old) ++ back-bytes)
+  unfolding front-bytes back-bytes
+  parts = w .is ∙ seen .was ∙ apart (seen .kind) (seen .label) (seen .spot) (w .old) (w .tail)
+
+  front-length : length front-bytes ≡ pos
+  unfolding front-bytes
+  front-length = omega (arith, length-before 6 (size (w .old ⊹ w .tail)) (seen .spot), seen .at-is, w .offset)
+
+  front : take pos l ≡ front-bytes
+  front = ap (take pos) parts ∙ take-at front-bytes (bytes (w .old) ++ back-bytes) pos front-length
+
+  back : drop (pos + gone) l ≡ back-bytes
+  back =
+      ap (drop (pos + gone)) (parts ∙ sym (append-assoc front-bytes (bytes (w .old)) back-bytes))
+      ∙ drop-at (front-bytes ++ bytes (w .old)) back-bytes (pos + gone) (simp (length-append, length-bytes) (omega (arith, front-length, w .goes)))
+
+  pub within : pos + gone ≤ length l
+  within = omega (arith, front-length, w .goes, length-bytes (w .old), simp length-append at (ap length parts))
+
+  -- the record's length, and how it grows
+  long : length l ≡ 6 + around (seen .spot) + size (w .old ⊹ w .tail)
+  long = ap length (w .is ∙ seen .was) ∙ rw length-bytes (omega (arith, size-around (seen .spot) (w .old ⊹ w .tail)))
+
+  larger : gone ≤ length new → size (w .put ⊹ w .tail) ≡ size (w .old ⊹ w .tail) + (length new - gone)
+  larger h = omega (arith, size-⊹ (w .put) (w .tail), size-⊹ (w .old) (w .tail), w .goes, length-bytes (w .put), ap length (w .comes))
+
+  pub spliced-size : gone ≤ length new → recordSize (spliced l pos par gone new w) ≡ length l - gone + length new
+  spliced-size h = omega (arith, seen .size-is, size-around (seen .spot) (w .put ⊹ w .tail), larger h, long, within)
+
+  -- the witness of `grow`
+  pub cut : (m : List ℕ) (n : ℕ) → m ≡ take pos l → length l + n < 65536 → Cut m par n
+  unfolding front-bytes
+  cut m n e h = record {
+    kind = seen .kind;
+    label = seen .label;
+    spot = seen .spot;
+    filled = size (w .old ⊹ w .tail);
+    is = e ∙ front;
+    at = w .holder ∙ seen .par-is;
+    small = omega (arith, long);
+  }
+
+  -- the four writes of a splice
+  pub steps : (o a g b d : List ℕ) (n : ℕ) (e : take pos a ≡ take pos l) (h : length l + (n - gone) < 65536) → n ≡ length new → gone ≤ n → length l + n ≤ length o + gone
+      → a ≡ over 0 (take pos l) o → g ≡ grown (take pos a) par (n - gone) (cut (take pos a) (n - gone) e h) → length g ≡ pos → b ≡ over pos new (g ++ drop pos a)
+      → d ≡ over (pos + n) (drop (pos + gone) l) b → d ≡ over 0 (recordBytes (spliced l pos par gone new w)) o
+  unfolding cut back-bytes
+  steps o a g b d n e h k low room pa pg len pb pd =
+      let i : pos + gone ≤ length l = within in
+      let t = seen .spot in
+      let m : ℕ = size (w .old ⊹ w .tail) in
+      let f : g ++ drop pos a ≡ over 0 g o =
+      over-front pos g a len ∙ ap (over 0 g) pa ∙ over-again 0 (take pos l) g o (simp length-take (omega arith)) (simp length-take (omega arith)) in
+      let w1 : b ≡ over 0 (g ++ new) o = over-then _ _ _ _ _ _ _ f pb (omega arith) (omega arith) in
+      let w2 : d ≡ over 0 ((g ++ new) ++ drop (pos + gone) l) o =
+      over-then _ _ _ _ _ _ _ w1 pd (simp length-append (omega arith)) (simp (length-append, length-drop) (omega arith)) in
+      let z : m + (n - gone) ≡ size (w .put ⊹ w .tail) = omega (arith, larger (omega arith)) in
+      let x : (g ++ new) ++ drop (pos + gone) l ≡ (fore (seen .kind) (seen .label) t (m + (n - gone)) ++ bytes (w .put)) ++ (bytes (w .tail) ++ beyond t) =
+      λ j. (pg j ++ w .comes j) ++ back j in
+      let y : (fore (seen .kind) (seen .label) t (m + (n - gone)) ++ bytes (w .put)) ++ (bytes (w .tail) ++ beyond t) ≡ recordBytes (spliced l pos par gone new w) =
+      ap (λ (v : ℕ). (fore (seen .kind) (seen .label) t v ++ bytes (w .put)) ++ (bytes (w .tail) ++ beyond t)) z
+      ∙ append-assoc (fore (seen .kind) (seen .label) t (size (w .put ⊹ w .tail))) (bytes (w .put)) (bytes (w .tail) ++ beyond t)
+      ∙ sym (seen .is ∙ apart (seen .kind) (seen .label) t (w .put) (w .tail)) in
+      w2 ∙ ap (λ (v : List ℕ). over 0 v o) (x ∙ y)
+
+-- the front, once copied, is the record's
+pub copied-front : (l o a : List ℕ) (pos : ℕ) → pos ≤ length l → a ≡ over 0 (take pos l) o → take pos a ≡ take pos l
+copied-front l o a pos h e = ap (take pos) e ∙ take-over pos (take pos l) o (length-take-le pos l h)
+
+pub part-end : (l : List ℕ) (pos : ℕ) → take (length l - pos) (drop pos l) ≡ drop pos l
+part-end l pos = take-all (length l - pos) (drop pos l) (simp length-drop (omega arith))
+
+-- ── the two uses ──
+
+-- A row put in, in front of `tail`.
+abbrev pub put-in : (s : Spot) (put tail : Row) (l : List ℕ) (pos par : ℕ) (new : List ℕ) → l ≡ recordBytes (fill s tail) → pos ≡ at (base (fill s tail)) s
+    → par ≡ parent 0 (base (fill s tail)) s → new ≡ bytes put → KeepsRoot s tail (put ⊹ tail) → Place l pos par 0 new
+put-in s put tail l pos par new e a p n k = record { spot = s; old = nil; tail = tail; put = put; is = e; goes = refl; comes = n; offset = a; holder = p; root = k }
+
+-- A row in the place of a proxy.
+abbrev pub put-for : (s : Spot) (page : ℕ) (settled : Bool) (row put tail : Row) (l : List ℕ) (pos par : ℕ) (new : List ℕ)
+    → let r = fill s (rec page settled row tail) in l ≡ recordBytes r → pos ≡ at (base r) s → par ≡ parent 0 (base r) s → new ≡ bytes put
+    → KeepsRoot s (rec page settled row tail) (put ⊹ tail) → Place l pos par 8 new
+put-for s q t r put tail l pos par new e a p n k = record {
+  spot = s;
+  old = rec q t r nil;
+  tail = tail;
+  put = put;
+  is = e;
+  goes = refl;
+  comes = n;
+  offset = a;
+  holder = p;
+  root = k;
+}

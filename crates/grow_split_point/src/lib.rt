@@ -1,0 +1,100 @@
+// Where a record splits: the split point, the node d, the child of a level at which the split goes on.
+use base_node_kinds::may_stand;
+use base_numbers::two;
+use base_numbers::wide;
+ghost use mathlib.Core.Path.{_≡_};
+ghost use mathlib.Core.Bool.{_||_};
+ghost use Prim.Native.Nat.{ℕ, _+_, _≤_, _<_};
+ghost use lib.ListN.{length, getD};
+ghost use lib.IntN.{subℕ};
+ghost use Rattle.model.specs.Row.{Row, size, bytes, isNil, loneRec, Config};
+ghost use Rattle.model.specs.Growth.{splitPoint, startOf};
+ghost use Rattle.model.specs.Claims.{InLean};
+ghost use Rattle.grow_split_point.specs.Stands.{Kids};
+ghost use Rattle.grow_split_point.specs.Chosen.{passed, goesInto};
+
+// p: target × size / 256, rounded down.
+pub fn split_point(target: usize, size: usize) -> usize
+    requires { ⌜ (target ≤ 192) × (size ≤ 4608) ⌝ }
+    ensures { λ r. ⌜ ((st : Config) → st .target ≡ target → r ≡ splitPoint st size) ⌝ }
+{
+    target * size / 256
+}
+
+// The start of d, the node at which the row from start to end is split, near the offset p.
+pub fn start_of(buf: &[u8], start: usize, end: usize, p: usize, tolerance: usize) -> usize
+    requires { ⌜ Kids (now buf) start end ⌝ }
+    ensures { λ r. ⌜ ((w : Kids (now (buf .entry)) start end) (st : Config) → st .tolerance ≡ tolerance → r ≡ startOf st p start (w .row)) ⌝ }
+{
+    let mut pos = start;
+    let mut stop = end;
+    loop {
+        let size = two(buf, pos + 4);
+        let next = pos + size;
+        if next < stop && next <= p {
+            pos = next;
+        } else if may_stand(wide(buf[pos]), 1) && 6 < size && tolerance <= size {
+            pos += 6;
+            stop = next;
+        } else {
+            return pos;
+        }
+    }
+}
+
+// The last child that starts at or before p, or the first, in the row from start to end.
+pub fn child(buf: &[u8], start: usize, end: usize, p: usize) -> usize
+    requires { ⌜ Kids (now buf) start end ⌝ }
+    ensures { λ r. ⌜ ((w : Kids (now (buf .entry)) start end) → r ≡ start + size (passed p start (w .row))) ⌝ }
+{
+    let mut pos = start;
+    loop {
+        let next = pos + two(buf, pos + 4);
+        if next < end && next <= p {
+            pos = next;
+        } else {
+            return pos;
+        }
+    }
+}
+
+// Whether the split goes on inside the node at x: only where an aggregate may stand in it.
+pub fn enters(buf: &[u8], x: usize, tolerance: usize) -> bool
+    requires { ⌜ (x + 6 ≤ length (now buf)) × (getD (now buf) x 0 < 5) ⌝ }
+    ensures { λ r. ⌜ ((end : ℕ) (w : Kids (now (buf .entry)) x end) (st : Config) → st .tolerance ≡ tolerance → r ≡ goesInto st (w .row)) ⌝ }
+{
+    let size = two(buf, x + 4);
+    if !may_stand(wide(buf[x]), 1) {
+        return false;
+    }
+    if size <= 6 {
+        return false;
+    }
+    tolerance <= size
+}
+
+// Whether a group is left alone: no node, or one proxy, the node that may not be a record's root.
+pub fn stays(part: &[u8]) -> bool
+    ensures { λ r. ⌜ ((g : Row) → now (part .entry) ≡ bytes g → r ≡ (isNil g || loneRec g)) ⌝ }
+{
+    let n = part.len();
+    if n == 0 {
+        return true;
+    }
+    if n != 8 {
+        return false;
+    }
+    let kind = wide(part[0]);
+    if 4 < kind {
+        return false;
+    }
+    !may_stand(0, kind)
+}
+
+// The lean: the start of d minus p.
+pub fn lean(d: usize, p: usize) -> i32
+    requires { ⌜ (p ≤ d + 525) × ((d ≤ p + 132) × (p ≤ 8192)) ⌝ }
+    ensures { λ r. ⌜ (r ≡ subℕ d p) × InLean r ⌝ }
+{
+    (d as i32) - (p as i32)
+}

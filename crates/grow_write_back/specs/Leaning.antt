@@ -1,0 +1,67 @@
+-- The lean of a split: what its code requires, from the laws of the model.
+use mathlib.Core.Path.{_≡_, sym, ap, _∙_}
+use mathlib.Core.List.{List, [], append-nil}
+use Prim.Native.Nat.{ℕ, _+_, _<_, _≤_}
+use native.Mathlib.Omega.{arith}
+use native.Mathlib.Nat.{mul-le-mul-right}
+use lib.IntN.{subℕ}
+use lib.ListN.{length}
+use Rattle.model.specs.Row.{Row, lone, recordSize, recordBytes, Config}
+use Rattle.model.specs.Growth.{noWork, splitPoint, startOf, startOfD, rootRow}
+use Rattle.theory_rows.specs.Fits.{Ranges, Fits}
+use Rattle.theory_rows.specs.Image.{length-record}
+use Rattle.theory_rows.specs.Bound.{depth, split-good}
+use Rattle.grow_split_point.specs.Stands.{Kids}
+use Rattle.grow_split_point.specs.Lean.{lean-bounds}
+use Rattle.grow_split_point.specs.Level.{root-kids, root-some}
+
+-- The bytes l are a record that is too large, and no deeper than a store's records are.
+pub record Leaning (l : List ℕ) (target tolerance : ℕ) : Type 0 where
+  pub st : Config
+  pub ranges : Ranges st
+  pub targ : st .target ≡ target
+  pub tol : st .tolerance ≡ tolerance
+  pub row : Row
+  pub is : l ≡ recordBytes row
+  pub fits : Fits row
+  pub big : 4080 < recordSize row
+  pub most : recordSize row ≤ 4606
+  pub deep : depth (rootRow st (lone row) row) ≤ 23
+
+module _ {l : List ℕ} {target tol : ℕ} (w : Leaning l target tol) where
+  pub leaning-length : length l ≡ recordSize (w .row)
+  leaning-length = ap length (w .is) ∙ length-record (w .row)
+
+  pub leaning-sizes : (target ≤ 192) × (length l ≤ 4608)
+  leaning-sizes = omega (arith, leaning-length, w .most, w .targ, w .ranges .high)
+
+  pub level : (k : Kids l 6 (recordSize (w .row))) × (k .row ≡ rootRow (w .st) (lone (w .row)) (w .row))
+  level =
+      root-kids (w .st) l [] (w .row) (w .is ∙ sym (append-nil (recordBytes (w .row)))) (root-some (w .st) (w .row) (w .fits) (w .big)) (omega (arith, w .most))
+
+  -- The children of its root, up to the end of the bytes.
+  abbrev pub leaning-kids : Kids l 6 (length l)
+  leaning-kids = record {
+    row = level .0 .row;
+    stands = level .0 .stands;
+    some = level .0 .some;
+    ends = leaning-length ∙ level .0 .ends;
+    small = omega (arith, leaning-sizes);
+  }
+
+  module _ {p d : ℕ} (pe : p ≡ splitPoint (w .st) (length l)) (de : d ≡ startOf (w .st) p 6 (leaning-kids .row)) where
+    point-is : p ≡ splitPoint (w .st) (recordSize (w .row))
+    point-is = pe ∙ ap (splitPoint (w .st)) leaning-length
+
+    start-is : d ≡ startOfD (w .st) (w .row)
+    start-is = de ∙ (λ i. startOf (w .st) (point-is i) 6 (level .1 i))
+
+    pub lean-is : subℕ d p ≡ subℕ (startOfD (w .st) (w .row)) (splitPoint (w .st) (recordSize (w .row)))
+    lean-is = λ i. subℕ (start-is i) (point-is i)
+
+    pub lean-inside : (p ≤ d + 525) × ((d ≤ p + 132) × (p ≤ 8192))
+    lean-inside =
+        let good = split-good (w .st) (w .ranges) 0 (w .row) noWork (w .fits) (w .big) (w .most) (w .deep) in
+        let b = lean-bounds (startOfD (w .st) (w .row)) (splitPoint (w .st) (recordSize (w .row))) (good .lean) in
+        let high = mul-le-mul-right (recordSize (w .row)) (w .ranges .high) in
+        (omega (arith, b, start-is, point-is), (omega (arith, b, start-is, point-is), omega (arith, point-is, high, w .most)))

@@ -1,1 +1,0 @@
-// What is claimed of splits and of growth, proved, in specs/.

@@ -1,0 +1,300 @@
+-- The lines of a row that stands in an image: a node's own line, the row that it holds, and the row behind it.
+use mathlib.Core.Path.{_≡_, refl, sym, ap, subst, _∙_}
+use mathlib.Core.Bool.{cond}
+use mathlib.Core.List.{List, [], _∷_, _++_, append-assoc, append-nil, map}
+use Prim.Native.Nat.{ℕ, suc, _+_, _*_, _-_, _≤_, _<_, max}
+use native.Mathlib.Omega.{arith}
+use lib.ListN.{length, getD, take, drop, length-append}
+use lib.Dec.{eqb}
+use borrow.Author.Tests.{eq-eqb, ne-eqb}
+use Rattle.model.specs.Row.{Head, Row, nil, agg, lit, rec, size, base}
+use Rattle.model.specs.Tree.{Tree, end, branch, leaf, _⊞_, shown, Node, nodes, below, further}
+use Rattle.model.specs.Reading.{twoAt}
+use Rattle.theory_layout.specs.Here.{PageIn, Here, agg-view, lit-view, rec-view}
+use Rattle.read_find.specs.Rowed.{startOn, endOn}
+use Rattle.listing_text.specs.Text.{lineOf, letterOf, linesOf}
+use Rattle.listing_text.specs.Wrote.{Room, Wrote, nothing, then, same-text}
+use Rattle.listing_text.specs.declared.RowAt.{RowAt}
+
+-- ── the lines of a row ──
+
+-- The lines of what a row shows; its nodes have this level.
+unfoldable pub rowText : (level : ℕ) → Row → List ℕ
+rowText l nil = []
+rowText l (agg h cs rest) = lineOf l 65 (h .label) [] ++ rowText (l + 1) cs ++ rowText l rest
+rowText l (lit h c rest) = lineOf l 76 (h .label) c ++ rowText l rest
+rowText l (rec p s r rest) = rowText l r ++ rowText l rest
+
+lines-append : (l : ℕ) (a b : List Node) → linesOf l (a ++ b) ≡ linesOf l a ++ linesOf l b
+unfolding linesOf
+lines-append l [] b = refl
+lines-append l (n ∷ a) b = rw (lines-append l a b) (sym (append-assoc (lineOf (l + length (n .path)) (letterOf (n .kind)) (n .head .label) (n .content)) (linesOf l a) (linesOf l b)))
+
+-- A node's level does not depend on its number in its row, and is one more from the row above.
+lines-further : (l k : ℕ) (a : List Node) → linesOf l (map (further k) a) ≡ linesOf l a
+unfolding linesOf
+lines-further l k [] = refl
+lines-further l k (n ∷ a) = rw (lines-further l k a)
+
+lines-below : (l : ℕ) (a : List Node) → linesOf l (map below a) ≡ linesOf (l + 1) a
+unfolding linesOf
+lines-below l [] = refl
+lines-below l (n ∷ a) =
+    let e : l + suc (length (n .path)) ≡ l + 1 + length (n .path) = omega arith in
+    rw (e, lines-below l a)
+
+-- The lines of a branch: its own, those of its children, those of the nodes after it.
+lines-branch : (l : ℕ) (h : Head) (cs rest : Tree) → linesOf l (nodes (branch h cs rest)) ≡ lineOf l 65 (h .label) [] ++ linesOf (l + 1) (nodes cs) ++ linesOf l (nodes rest)
+unfolding linesOf
+lines-branch l h cs rest =
+    let e : l + 0 ≡ l = omega arith in
+    rw (e, lines-append l (map below (nodes cs)) (map (further 1) (nodes rest)), lines-below l (nodes cs), lines-further l 1 (nodes rest))
+    (sym (append-assoc (lineOf l 65 (h .label) []) (linesOf (l + 1) (nodes cs)) (linesOf l (nodes rest))))
+
+lines-leaf : (l : ℕ) (h : Head) (c : List ℕ) (rest : Tree) → linesOf l (nodes (leaf h c rest)) ≡ lineOf l 76 (h .label) c ++ linesOf l (nodes rest)
+unfolding linesOf
+lines-leaf l h c rest =
+    let e : l + 0 ≡ l = omega arith in
+    rw (e, lines-further l 1 (nodes rest))
+
+lines-join : (l : ℕ) (a b : Tree) → linesOf l (nodes (a ⊞ b)) ≡ linesOf l (nodes a) ++ linesOf l (nodes b)
+unfolding linesOf
+lines-join l end b = refl
+lines-join l (branch h cs rest) b =
+    lines-branch l h cs (rest ⊞ b) ∙ ap (λ (t : List ℕ). lineOf l 65 (h .label) [] ++ linesOf (l + 1) (nodes cs) ++ t) (lines-join l rest b)
+    ∙ sym (ap (λ (t : List ℕ). t ++ linesOf l (nodes b)) (lines-branch l h cs rest) ∙ simp append-assoc)
+lines-join l (leaf h c rest) b =
+    lines-leaf l h c (rest ⊞ b) ∙ ap (λ (t : List ℕ). lineOf l 76 (h .label) c ++ t) (lines-join l rest b)
+    ∙ sym (ap (λ (t : List ℕ). t ++ linesOf l (nodes b)) (lines-leaf l h c rest) ∙ simp append-assoc)
+
+-- They are the lines of the tree shown, in document order.
+pub row-text : (l : ℕ) (r : Row) → rowText l r ≡ linesOf l (nodes (shown r))
+unfolding rowText linesOf
+row-text l nil = refl
+row-text l (agg h cs rest) = rw (row-text (l + 1) cs, row-text l rest) (sym (lines-branch l h (shown cs) (shown rest)))
+row-text l (lit h c rest) = rw (row-text l rest) (sym (lines-leaf l h c (shown rest)))
+row-text l (rec p s r rest) = rw (row-text l r, row-text l rest) (sym (lines-join l (shown r) (shown rest)))
+
+-- ── a row in an image ──
+
+-- How far nodes and records are nested in a row.
+abbrev pub span : Row → ℕ
+span nil = 0
+span (agg h cs rest) = max (suc (span cs)) (span rest)
+span (lit h c rest) = max 1 (span rest)
+span (rec p s r rest) = max (suc (span r)) (span rest)
+
+-- A row stands from pos to end, its nodes nested at most `depth` deep.
+pub record Lined (img : List ℕ) (pos end level depth : ℕ) : Type 0 where
+  pub page : ℕ
+  pub row : Row
+  pub here : Here img page pos row
+  pub ends : end ≡ pos + size row
+  pub deep : span row ≤ depth
+  pub low : level + depth ≤ 4294967296
+
+-- A node of such a row stands from i to next.
+pub record At (img : List ℕ) (i next end level depth : ℕ) : Type 0 where
+  pub lined : Lined img i end level depth
+  pub some : i < end
+  pub long : next ≡ i + twoAt img (i + 4)
+
+-- What a node at i that ends at next prints by itself, and the row that it holds.
+abbrev pub ownOf : (img : List ℕ) → (i next level : ℕ) → List ℕ
+ownOf img i next level =
+    let aggregate = lineOf level 65 (twoAt img (i + 2)) [] in
+    let literal = lineOf level 76 (twoAt img (i + 2)) (take (next - (i + 6)) (drop (i + 6) img)) in
+    cond (eqb (getD img i 0) 1) aggregate (cond (eqb (getD img i 0) 2) literal [])
+
+abbrev pub insideOf : (img : List ℕ) → (i next level : ℕ) → RowAt
+insideOf img i next level =
+    let p = twoAt img (i + 6) in
+    let children : RowAt = record { start = i + 6; stop = next; level = level + 1 } in
+    let under : RowAt = record { start = startOn img p; stop = endOn img p; level = level } in
+    let none : RowAt = record { start = next; stop = next; level = level } in
+    cond (eqb (getD img i 0) 1) children (cond (eqb (getD img i 0) 3) under none)
+
+-- The node's line, the row inside it and the row behind it are the whole.
+pub record Step (img : List ℕ) (i next end level depth : ℕ) (x : RowAt) (own : List ℕ) (row : Row) : Type 0 where
+  pub more : i + 6 ≤ next
+  pub within : next ≤ end
+  pub room : end + 16 ≤ length img
+  pub small : end < 4194304
+  pub below : 1 ≤ depth
+  pub sum : level + depth ≤ 4294967296
+  pub names : getD img i 0 ≡ 3 → PageIn img (twoAt img (i + 6)) × (i + 8 ≤ next)
+  pub inside : Lined img (x .start) (x .stop) (x .level) (depth - 1)
+  pub after : Lined img next end level depth
+  pub text : rowText level row ≡ own ++ rowText (x .level) (inside .row) ++ rowText level (after .row)
+
+module _ (img : List ℕ) (i next end level depth : ℕ) (some : i < end) (long : next ≡ i + twoAt img (i + 4)) where
+  step-row : (page : ℕ) (row : Row) → Here img page i row → end ≡ i + size row → span row ≤ depth → level + depth ≤ 4294967296
+      → Step img i next end level depth (insideOf img i next level) (ownOf img i next level) row
+  unfolding rowText
+  step-row page nil h e d l = absurd (omega arith)
+  step-row page (agg k cs rest) h e d l =
+      let v = agg-view img page i k cs rest h in
+      let z : i + (6 + size cs) ≡ next = omega (arith, v .long) in
+      rw (v .kind) record {
+        more = omega (arith, v .long);
+        within = omega (arith, v .long);
+        room = omega (arith, h .room, h .on .inside);
+        small = omega (arith, h .room, h .on .high);
+        below = omega arith;
+        sum = l;
+        names = λ y. absurd (omega (arith, v .kind));
+        inside = record { page = page; row = cs; here = v .children; ends = omega arith; deep = omega arith; low = omega arith };
+        after = record { page = page; row = rest; here = subst (λ (n : ℕ). Here img page n rest) z (v .after); ends = omega arith; deep = omega arith; low = l };
+        text = rw (v .label);
+      }
+  step-row page (lit k c rest) h e d l =
+      let v = lit-view img page i k c rest h in
+      let z : i + (6 + length c) ≡ next = omega (arith, v .long) in
+      let n : next - (i + 6) ≡ length c = omega arith in
+      rw (v .kind) record {
+        more = omega (arith, v .long);
+        within = omega (arith, v .long);
+        room = omega (arith, h .room, h .on .inside);
+        small = omega (arith, h .room, h .on .high);
+        below = omega arith;
+        sum = l;
+        names = λ y. absurd (omega (arith, v .kind));
+        inside = record {
+          page = page;
+          row = nil;
+          here = nil-here;
+          ends = omega arith;
+          deep = omega arith;
+          low = omega arith;
+        };
+        after = record { page = page; row = rest; here = subst (λ (n : ℕ). Here img page n rest) z (v .after); ends = omega arith; deep = omega arith; low = l };
+        text = rw (v .label, n, v .content, append-nil);
+      }
+    where
+      nil-here : Here img page next nil
+      nil-here =
+          let v = lit-view img page i k c rest h in
+          let z : i + (6 + length c) ≡ next = omega (arith, v .long) in
+          record {
+            post = drop next img;
+            is = refl;
+            on = h .on;
+            start = omega (arith, h .start);
+            room = omega (arith, h .room);
+            fits = tt;
+            stored = tt;
+            names = λ q y. absurd (omega arith);
+          }
+  step-row page (rec p s r rest) h e d l =
+      let v = rec-view img page i p s r rest h in
+      let u = v .under in
+      let z : i + 8 ≡ next = omega (arith, v .long) in
+      let a : startOn img (twoAt img (i + 6)) ≡ 4096 * p + base r = ap (startOn img) (v .name) ∙ ap (λ (n : ℕ). 4096 * p + n) (u .first) in
+      let b : endOn img (twoAt img (i + 6)) ≡ 4096 * p + (base r + size r) = ap (endOn img) (v .name) ∙ ap (λ (n : ℕ). 4096 * p + n) (u .used) in
+      rw (v .kind) record {
+        more = omega (arith, v .long);
+        within = omega (arith, v .long);
+        room = omega (arith, h .room, h .on .inside);
+        small = omega (arith, h .room, h .on .high);
+        below = omega arith;
+        sum = l;
+        names = λ y. (subst (PageIn img) (sym (v .name)) (u .here .on), omega arith);
+        inside = record { page = p; row = r; here = subst (λ (n : ℕ). Here img p n r) (sym a) (u .here); ends = omega (arith, a, b); deep = omega arith; low = omega arith };
+        after = record { page = page; row = rest; here = subst (λ (n : ℕ). Here img page n rest) z (v .after); ends = omega arith; deep = omega arith; low = l };
+        text = refl;
+      }
+
+pub step : {img : List ℕ} {i next end level depth : ℕ} → (a : At img i next end level depth)
+    → Step img i next end level depth (insideOf img i next level) (ownOf img i next level) (a .lined .row)
+step {img} {i} {next} {end} {level} {depth} a =
+    let w = a .lined in
+    step-row img i next end level depth (a .some) (a .long) (w .page) (w .row) (w .here) (w .ends) (w .deep) (w .low)
+
+-- ── a walk ──
+
+-- The row's lines fit the buffer.
+pub record Fitting (img : List ℕ) (pos end level depth at : ℕ) (out : List ℕ) : Type 0 where
+  pub lined : Lined img pos end level depth
+  pub room : Room (rowText level (lined .row)) at out
+
+-- They are written.
+pub record Texted {img : List ℕ} {pos end level depth at : ℕ} {out : List ℕ} (w : Fitting img pos end level depth at out) (after : List ℕ) (n : ℕ) : Type 0 where
+  pub wrote : Wrote (rowText level (w .lined .row)) at out after n
+
+-- Of the whole text t, what stands before node i is written, and the row from i on is left.
+pub record Going (img : List ℕ) (i end level depth at n : ℕ) (before now : List ℕ) (t : List ℕ) : Type 0 where
+  pub done : List ℕ
+  pub rest : Lined img i end level depth
+  pub wrote : Wrote done at before now n
+  pub whole : t ≡ done ++ rowText level (rest .row)
+  pub room : Room t at before
+
+pub going-start : {img : List ℕ} {pos end level depth at : ℕ} {out : List ℕ} → (w : Fitting img pos end level depth at out)
+    → Going img pos end level depth at at out out (rowText level (w .lined .row))
+going-start {img} {pos} {end} {level} {depth} {at} {out} w =
+    record { done = []; rest = w .lined; wrote = nothing at out (omega (arith, w .room .fits)); whole = refl; room = w .room }
+
+abbrev pub at-node : {img : List ℕ} {i end level depth : ℕ} (len : ℕ) → Lined img i end level depth → i < end → len ≡ twoAt img (i + 4) → At img i (i + len) end level depth
+at-node {img} {i} len w h e = record { lined = w; some = h; long = ap (λ (n : ℕ). i + n) e }
+
+pub step-at : {img : List ℕ} {i next end level depth : ℕ} → (a : At img i next end level depth) → (x : RowAt) → x ≡ insideOf img i next level
+    → Step img i next end level depth x (ownOf img i next level) (a .lined .row)
+step-at {img} {i} {next} {end} {level} {depth} a x e =
+    subst (λ (y : RowAt). Step img i next end level depth y (ownOf img i next level) (a .lined .row)) (sym e) (step a)
+
+module _ {img : List ℕ} {i next end level depth at n : ℕ} {before now t own : List ℕ} {x : RowAt} (g : Going img i end level depth at n before now t)
+    (s : Step img i next end level depth x own (g .rest .row)) where
+  total : length t ≡ length (g .done) + (length own + length (rowText (x .level) (s .inside .row)) + length (rowText level (s .after .row)))
+  total = ap length (g .whole ∙ ap (λ (l : List ℕ). g .done ++ l) (s .text)) ∙ simp length-append
+
+  pub own-room : Room own n now
+  own-room = record { fits = omega (arith, total, g .room .fits, g .wrote .ends, g .wrote .same) }
+
+  pub inside-fitting : {m : ℕ} {mid : List ℕ} → Wrote own n now mid m → Fitting img (x .start) (x .stop) (x .level) (depth - 1) m mid
+  inside-fitting w = record { lined = s .inside; room = record { fits = omega (arith, total, g .room .fits, g .wrote .ends, g .wrote .same, w .ends, w .same) } }
+
+  pub going-on : {m k : ℕ} {mid after : List ℕ} → (w : Wrote own n now mid m) → Texted (inside-fitting w) after k → Going img next end level depth at k before after t
+  unfolding inside-fitting
+  going-on w v = record {
+    done = g .done ++ own ++ rowText (x .level) (s .inside .row);
+    rest = s .after;
+    wrote = then (then (g .wrote) w) (v .wrote);
+    whole = g .whole ∙ ap (λ (l : List ℕ). g .done ++ l) (s .text) ∙ simp append-assoc;
+    room = g .room;
+  }
+
+pub going-end : {img : List ℕ} {i end level depth at n : ℕ} {before now t : List ℕ} → Going img i end level depth at n before now t → end ≤ i → Wrote t at before now n
+unfolding rowText
+going-end {img} {i} {end} {level} {depth} {at} {n} {before} {now} {t} g h = go (g .rest .row) (g .rest .ends) (g .whole)
+  where
+    go : (row : Row) → end ≡ i + size row → t ≡ g .done ++ rowText level row → Wrote t at before now n
+    go nil e w = same-text (sym (w ∙ append-nil (g .done))) (g .wrote)
+    go (agg l cs rest) e w = absurd (omega arith)
+    go (lit l c rest) e w = absurd (omega arith)
+    go (rec p b r rest) e w = absurd (omega arith)
+
+-- ── a node by its kind ──
+
+module _ (img : List ℕ) (i next level : ℕ) where
+  pub inside-aggregate : getD img i 0 ≡ 1 → record { start = i + 6; stop = next; level = level + 1 } ≡ insideOf img i next level
+  inside-aggregate k = rw (eq-eqb (getD img i 0) 1 k)
+
+  pub inside-proxy : (p a b : ℕ) → (getD img i 0 ≡ 1 → ⊥) → getD img i 0 ≡ 3 → p ≡ twoAt img (i + 6) → a ≡ startOn img p → b ≡ endOn img p
+      → record { start = a; stop = b; level = level } ≡ insideOf img i next level
+  inside-proxy p a b k m e f g = rw (ne-eqb (getD img i 0) 1 k, eq-eqb (getD img i 0) 3 m, f, g, e)
+
+  pub inside-none : (getD img i 0 ≡ 1 → ⊥) → (getD img i 0 ≡ 3 → ⊥) → record { start = next; stop = next; level = level } ≡ insideOf img i next level
+  inside-none k m = rw (ne-eqb (getD img i 0) 1 k, ne-eqb (getD img i 0) 3 m)
+
+  pub own-aggregate : (label : ℕ) → getD img i 0 ≡ 1 → label ≡ twoAt img (i + 2) → ownOf img i next level ≡ lineOf level 65 label []
+  own-aggregate label k e = rw (eq-eqb (getD img i 0) 1 k, e)
+
+  pub own-literal : (label : ℕ) → (getD img i 0 ≡ 1 → ⊥) → getD img i 0 ≡ 2 → label ≡ twoAt img (i + 2)
+      → ownOf img i next level ≡ lineOf level 76 label (take (next - (i + 6)) (drop (i + 6) img))
+  own-literal label k m e = rw (ne-eqb (getD img i 0) 1 k, eq-eqb (getD img i 0) 2 m, e)
+
+  pub own-none : (getD img i 0 ≡ 1 → ⊥) → (getD img i 0 ≡ 2 → ⊥) → ownOf img i next level ≡ []
+  own-none k m = rw (ne-eqb (getD img i 0) 1 k, ne-eqb (getD img i 0) 2 m)
+
+pub named-page : {img : List ℕ} {i next end level depth : ℕ} (p : ℕ) → At img i next end level depth → getD img i 0 ≡ 3 → p ≡ twoAt img (i + 6) → PageIn img p
+named-page {img} p a k e = subst (PageIn img) (sym e) (step a .names k .0)

@@ -1,0 +1,254 @@
+// The text that the listing program prints for an input, written to a lent buffer.
+use read_find::row_end;
+use read_find::row_start;
+use base_numbers::copy_in;
+use base_numbers::two;
+use base_numbers::wide;
+use read_records::count_pages;
+ghost use mathlib.Core.Path.{_≡_};
+ghost use mathlib.Core.List.{[], _∷_};
+ghost use Prim.Native.Nat.{_≤_, _<_};
+ghost use lib.ListN.{length};
+ghost use Rattle.model.specs.Calls.{checkOf};
+ghost use Rattle.listing_text.specs.Text.{digit, decimalOf, hexOf, contentOf, lineOf, headLine, refusedLine, listingOn, printed};
+ghost use Rattle.listing_text.specs.Wrote.{Room, Wrote};
+ghost use Rattle.listing_text.specs.Lined.{ownOf, insideOf, At, Fitting, Texted};
+
+// ── numbers, bytes, words ──
+
+// The digit of a number below 16.
+fn glyph(d: usize) -> u8
+    requires { ⌜ d < 16 ⌝ }
+    ensures { λ r. ⌜ r ≡ digit d ⌝ }
+{
+    if d < 10 {
+        return (48 + d) as u8;
+    }
+    (87 + d) as u8
+}
+
+// Each function below writes its text from `at` and gives where the text ends.
+fn put(b: u8, out: &mut [u8], at: usize) -> usize
+    requires { ⌜ Room (b ∷ []) at (now out) ⌝ }
+    ensures { λ r. ⌜ Wrote (b ∷ []) at (now (out .entry)) (now (out .exit)) r ⌝ }
+{
+    out[at] = b;
+    at + 1
+}
+
+fn words(text: &[u8], out: &mut [u8], at: usize) -> usize
+    requires { ⌜ Room (now text) at (now out) ⌝ }
+    ensures { λ r. ⌜ Wrote (now (text .entry)) at (now (out .entry)) (now (out .exit)) r ⌝ }
+{
+    copy_in(text, out, at);
+    at + text.len()
+}
+
+pub fn decimal(n: usize, out: &mut [u8], at: usize) -> usize
+    requires { ⌜ Room (decimalOf n) at (now out) ⌝ }
+    ensures { λ r. ⌜ Wrote (decimalOf n) at (now (out .entry)) (now (out .exit)) r ⌝ }
+{
+    if n < 10 {
+        return put(glyph(n), out, at);
+    }
+    let last = decimal(n / 10, out, at);
+    put(glyph(n % 10), out, last)
+}
+
+pub fn hexadecimal(bytes: &[u8], out: &mut [u8], at: usize) -> usize
+    requires { ⌜ Room (hexOf (now bytes)) at (now out) ⌝ }
+    ensures { λ r. ⌜ Wrote (hexOf (now (bytes .entry))) at (now (out .entry)) (now (out .exit)) r ⌝ }
+{
+    let mut i = 0;
+    let mut n = at;
+    while i < bytes.len() {
+        let b = wide(bytes[i]);
+        let half = put(glyph(b / 16), out, n);
+        n = put(glyph(b % 16), out, half);
+        i += 1;
+    }
+    n
+}
+
+// Content, or `-` when it is empty.
+fn content(bytes: &[u8], out: &mut [u8], at: usize) -> usize
+    requires { ⌜ Room (contentOf (now bytes)) at (now out) ⌝ }
+    ensures { λ r. ⌜ Wrote (contentOf (now (bytes .entry))) at (now (out .entry)) (now (out .exit)) r ⌝ }
+{
+    if bytes.len() == 0 {
+        return put(b'-', out, at);
+    }
+    hexadecimal(bytes, out, at)
+}
+
+// ── lines ──
+
+// One line of a node.
+pub fn line(
+    level: usize,
+    letter: u8,
+    label: usize,
+    bytes: &[u8],
+    out: &mut [u8],
+    at: usize,
+) -> usize
+    requires { ⌜ Room (lineOf level letter label (now bytes)) at (now out) ⌝ }
+    ensures { λ r. ⌜ Wrote (lineOf level letter label (now (bytes .entry))) at (now (out .entry)) (now (out .exit)) r ⌝ }
+{
+    let a = decimal(level, out, at);
+    let b = put(b' ', out, a);
+    let c = put(letter, out, b);
+    let d = put(b' ', out, c);
+    let e = decimal(label, out, d);
+    let f = put(b' ', out, e);
+    let g = content(bytes, out, f);
+    put(b'\n', out, g)
+}
+
+// The head line.
+pub fn head(pages: usize, free: usize, records: usize, out: &mut [u8], at: usize) -> usize
+    requires { ⌜ Room (headLine pages free records) at (now out) ⌝ }
+    ensures { λ r. ⌜ Wrote (headLine pages free records) at (now (out .entry)) (now (out .exit)) r ⌝ }
+{
+    let a = words(b"pages ", out, at);
+    let b = decimal(pages, out, a);
+    let c = words(b" free ", out, b);
+    let d = decimal(free, out, c);
+    let e = words(b" records ", out, d);
+    let f = decimal(records, out, e);
+    put(b'\n', out, f)
+}
+
+// The line of a refused image.
+pub fn refused(number: usize, out: &mut [u8], at: usize) -> usize
+    requires { ⌜ Room (refusedLine number) at (now out) ⌝ }
+    ensures { λ r. ⌜ Wrote (refusedLine number) at (now (out .entry)) (now (out .exit)) r ⌝ }
+{
+    let a = words(b"refused ", out, at);
+    let b = decimal(number, out, a);
+    put(b'\n', out, b)
+}
+
+// ── the walk ──
+
+// The row that a node holds: where it starts and ends, and the level of its nodes.
+pub struct RowAt {
+    pub start: usize,
+    pub stop: usize,
+    pub level: usize,
+}
+
+// An aggregate holds its children, one level down; a proxy stands for its record's row; a literal holds none.
+fn inside(image: &[u8], i: usize, next: usize, end: usize, level: usize, depth: usize) -> RowAt
+    requires { ⌜ At (now image) i next end level depth ⌝ }
+    ensures { λ r. ⌜ r ≡ insideOf (now (image .entry)) i next level ⌝ }
+{
+    if image[i] == 1 {
+        return RowAt {
+            start: i + 6,
+            stop: next,
+            level: level + 1,
+        };
+    }
+    if image[i] == 3 {
+        let p = two(image, i + 6);
+        return RowAt {
+            start: row_start(image, p),
+            stop: row_end(image, p),
+            level: level,
+        };
+    }
+    RowAt {
+        start: next,
+        stop: next,
+        level: level,
+    }
+}
+
+// The line of the node at i, which ends at next; a proxy has none.
+fn own(
+    image: &[u8],
+    i: usize,
+    next: usize,
+    end: usize,
+    level: usize,
+    depth: usize,
+    out: &mut [u8],
+    at: usize,
+) -> usize
+    requires { ⌜ At (now image) i next end level depth ⌝ }
+    requires { ⌜ Room (ownOf (now image) i next level) at (now out) ⌝ }
+    ensures { λ r. ⌜ Wrote (ownOf (now (image .entry)) i next level) at (now (out .entry)) (now (out .exit)) r ⌝ }
+{
+    let label = two(image, i + 2);
+    if image[i] == 1 {
+        return line(level, b'A', label, &image[0..0], out, at);
+    }
+    if image[i] == 2 {
+        let a = i + 6;
+        return line(level, b'L', label, &image[a..next], out, at);
+    }
+    at
+}
+
+// The lines of the row from pos to end, each node's followed by those of the row that it holds. Nodes are nested at most `depth` deep in it.
+fn walk(
+    image: &[u8],
+    pos: usize,
+    end: usize,
+    level: usize,
+    depth: usize,
+    out: &mut [u8],
+    at: usize,
+) -> usize
+    requires { ⌜ Fitting (now image) pos end level depth at (now out) ⌝ }
+    ensures { λ r. ⌜ ((w : Fitting (now (image .entry)) pos end level depth at (now (out .entry))) → Texted w (now (out .exit)) r) ⌝ }
+{
+    let mut i = pos;
+    let mut n = at;
+    while i < end {
+        let next = i + two(image, i + 4);
+        let x = inside(image, i, next, end, level, depth);
+        let m = own(image, i, next, end, level, depth, out, n);
+        n = walk(image, x.start, x.stop, x.level, depth - 1, out, m);
+        i = next;
+    }
+    n
+}
+
+// ── the whole ──
+
+// The listing of an image that passes the check.
+pub fn listing(image: &[u8], out: &mut [u8]) -> usize
+    requires { ⌜ (checkOf (now image) ≡ 0) × (length (now image) ≤ 61440) × (135168 ≤ length (now out)) ⌝ }
+    ensures { λ r. ⌜ Wrote (listingOn (now (image .entry))) 0 (now (out .entry)) (now (out .exit)) r ⌝ }
+{
+    let pages = image.len() / 4096;
+    let n = count_pages(image, pages);
+    let at = head(pages, pages - 1 - n, n, out, 0);
+    let start = row_start(image, 1);
+    let stop = row_end(image, 1);
+    walk(image, start, stop, 1, 4194304, out, at)
+}
+
+// The check's number.
+fn number(image: &[u8]) -> u32
+    ensures { λ r. ⌜ r ≡ checkOf (now (image .entry)) ⌝ }
+{
+    read_check::check(image)
+}
+
+// What is printed for an input, from the buffer's front on.
+pub fn print(input: &[u8], out: &mut [u8]) -> usize
+    requires { ⌜ 135168 ≤ length (now out) ⌝ }
+    ensures { λ r. ⌜ Wrote (printed (now (input .entry))) 0 (now (out .entry)) (now (out .exit)) r ⌝ }
+{
+    if 61440 < input.len() {
+        return words(b"over 15 pages\n", out, 0);
+    }
+    let n = number(input);
+    if n != 0 {
+        return refused(n as usize, out, 0);
+    }
+    listing(input, out)
+}

@@ -1,0 +1,144 @@
+// The entry points for C, as include/nichelarder.h declares them: numbers and byte buffers, over the proved calls.
+use model::Next;
+use model::Place;
+use model::Settings;
+ghost use mathlib.Core.Path.{_≡_};
+ghost use Rattle.model.specs.Answers.{nextNumbers};
+ghost use Rattle.model.specs.Calls.{formatOf, checkOf, insertOf, findOf, climbOf, readOf, nextOf, recordsOf};
+ghost use Rattle.read_records.specs.Up.{upPages};
+ghost use Rattle.nichelarder.specs.Numbers.{settings, insertNumbers, placeNumbers, readNumbers};
+ghost use Rattle.nichelarder.specs.Small.{SmallNext};
+
+#[no_mangle]
+pub extern "C" fn nl_format(
+    image: &mut [u8],
+    pages: u32,
+    target: u32,
+    tolerance: u32,
+    form: u32,
+    matrix: &[u8],
+    label: u16,
+) -> u32
+    ensures number { λ r. ⌜ r ≡ formatOf (now (image .entry)) (settings pages target tolerance form) (now (matrix .entry)) label .0 ⌝ }
+    ensures image { λ _. ⌜ now (image .exit) ≡ formatOf (now (image .entry)) (settings pages target tolerance form) (now (matrix .entry)) label .1 ⌝ }
+{
+    let s = Settings {
+        pages: pages as usize,
+        target: target as usize,
+        tolerance: tolerance as usize,
+        form: form as usize,
+    };
+    store::format(image, s, matrix, label)
+}
+
+#[no_mangle]
+pub extern "C" fn nl_check(image: &[u8]) -> u32
+    ensures { λ r. ⌜ r ≡ checkOf (now (image .entry)) ⌝ }
+{
+    store::check(image)
+}
+
+#[no_mangle]
+pub extern "C" fn nl_insert(
+    image: &mut [u8],
+    parent: &[u8],
+    child: u32,
+    kind: u32,
+    label: u16,
+    content: &[u8],
+    answer: &mut [u32; 3],
+    lean: &mut i32,
+) -> u32
+    ensures number { λ r. ⌜ r ≡ insertOf (now (image .entry)) (now (parent .entry)) child kind label (now (content .entry)) .0 .number ⌝ }
+    ensures answer { λ _. ⌜ now (answer .exit) ≡ insertNumbers (insertOf (now (image .entry)) (now (parent .entry)) child kind label (now (content .entry)) .0) ⌝ }
+    ensures lean { λ _. ⌜ now (lean .exit) ≡ insertOf (now (image .entry)) (now (parent .entry)) child kind label (now (content .entry)) .0 .lean ⌝ }
+    ensures image { λ _. ⌜ now (image .exit) ≡ insertOf (now (image .entry)) (now (parent .entry)) child kind label (now (content .entry)) .1 ⌝ }
+{
+    let a = store::insert(image, parent, child, kind as usize, label, content);
+    *answer = [a.place.page as u32, a.place.offset as u32, a.splits];
+    let l = a.lean;
+    *lean = l;
+    a.number
+}
+
+#[no_mangle]
+pub extern "C" fn nl_find(image: &[u8], path: &[u8], place: &mut [u32; 2]) -> u32
+    ensures number { λ r. ⌜ r ≡ findOf (now (image .entry)) (now (path .entry)) .number ⌝ }
+    ensures place { λ _. ⌜ now (place .exit) ≡ placeNumbers (findOf (now (image .entry)) (now (path .entry)) .place) ⌝ }
+{
+    let a = store::find(image, path);
+    *place = [a.place.page as u32, a.place.offset as u32];
+    a.number
+}
+
+#[no_mangle]
+pub extern "C" fn nl_climb(
+    image: &[u8],
+    page: u32,
+    offset: u32,
+    path: &mut [u8],
+    written: &mut u32,
+) -> u32
+    ensures number { λ r. ⌜ r ≡ climbOf (now (image .entry)) (record { page = page; offset = offset }) (now (path .entry)) .0 .number ⌝ }
+    ensures written { λ _. ⌜ now (written .exit) ≡ climbOf (now (image .entry)) (record { page = page; offset = offset }) (now (path .entry)) .0 .written ⌝ }
+    ensures path { λ _. ⌜ now (path .exit) ≡ climbOf (now (image .entry)) (record { page = page; offset = offset }) (now (path .entry)) .1 ⌝ }
+{
+    let x = Place {
+        page: page as usize,
+        offset: offset as usize,
+    };
+    let a = store::climb(image, x, path);
+    *written = a.written as u32;
+    a.number
+}
+
+#[no_mangle]
+pub extern "C" fn nl_read(image: &[u8], page: u32, offset: u32, answer: &mut [u32; 5]) -> u32
+    ensures number { λ r. ⌜ r ≡ readOf (now (image .entry)) (record { page = page; offset = offset }) .number ⌝ }
+    ensures answer { λ _. ⌜ now (answer .exit) ≡ readNumbers (readOf (now (image .entry)) (record { page = page; offset = offset })) ⌝ }
+{
+    let a = store::read_at(image, page as usize, offset as usize);
+    *answer = [a.kind, a.label, a.children, a.start as u32, a.len as u32];
+    a.number
+}
+
+// The numbers of each case of Next.
+fn next_numbers(next: Next) -> [u32; 4]
+    requires { ⌜ SmallNext next ⌝ }
+    ensures { λ r. ⌜ r ≡ nextNumbers next ⌝ }
+{
+    match next {
+        Next::Node(n) => {
+            let k = n.kind;
+            [1, n.place.page as u32, n.place.offset as u32, k.number()]
+        }
+        Next::End => [0, 0, 0, 0],
+    }
+}
+
+#[no_mangle]
+pub extern "C" fn nl_next(image: &[u8], page: u32, offset: u32, answer: &mut [u32; 4]) -> u32
+    ensures number { λ r. ⌜ r ≡ nextOf (now (image .entry)) (record { page = page; offset = offset }) .number ⌝ }
+    ensures answer { λ _. ⌜ now (answer .exit) ≡ nextNumbers (nextOf (now (image .entry)) (record { page = page; offset = offset }) .next) ⌝ }
+{
+    let x = Place {
+        page: page as usize,
+        offset: offset as usize,
+    };
+    let a = store::next(image, x);
+    let next = a.next;
+    let n = next_numbers(next);
+    *answer = n;
+    a.number
+}
+
+#[no_mangle]
+pub extern "C" fn nl_records(image: &[u8], pages: &mut [u8], written: &mut u32) -> u32
+    ensures number { λ r. ⌜ r ≡ recordsOf (upPages (now (image .entry))) (now (image .entry)) (now (pages .entry)) .0 .number ⌝ }
+    ensures written { λ _. ⌜ now (written .exit) ≡ recordsOf (upPages (now (image .entry))) (now (image .entry)) (now (pages .entry)) .0 .written ⌝ }
+    ensures pages { λ _. ⌜ now (pages .exit) ≡ recordsOf (upPages (now (image .entry))) (now (image .entry)) (now (pages .entry)) .1 ⌝ }
+{
+    let a = store::records(image, pages);
+    *written = a.written as u32;
+    a.number
+}

@@ -1,0 +1,65 @@
+use mathlib.Core.Path.{sym, _∙_}
+use native.Mathlib.Omega.{arith}
+use denote.Ref.{now}
+use borrow.Author.Needs.{needs}
+use borrow.Author.Tests.{eq-eqb, ne-eqb}
+use Rattle.theory_check.specs.Check.{checkBy}
+use Rattle.theory_check.specs.Bounds.{trailers-most}
+use Rattle.read_check.proofs.Calls.{passes, fails}
+use Rattle.read_check.proofs.check_widths.Statement.{statement}
+use Rattle.read_check.proofs.check_widths.Tie as tie
+
+length-ok-requires : tie.Need-length-ok-requires
+length-ok-requires c κs = search needs
+
+returns : tie.Need-returns
+unfolding checkBy
+returns c = (simp (fails (c .before .length-ok .ensures) (c .if1 .taken)), λ e. absurd (omega arith))
+
+trailers-requires : tie.Need-trailers-requires
+trailers-requires c κs = passes (c .before .length-ok .ensures) (c .if1 .left)
+
+returns-2 : tie.Need-returns-2
+unfolding checkBy
+returns-2 c =
+    let k = c .before .before in
+    (simp (passes (k .before .length-ok .ensures) (k .if1 .left), ← c .before .trailers .ensures, eq-eqb _ _ (c .if2 .taken)), λ e. absurd (omega arith))
+
+walk-ok-requires : tie.Need-walk-ok-requires
+walk-ok-requires c κs =
+    let j = c .before in
+    let k = j .before .before in
+    let long = passes (k .before .length-ok .ensures) (k .if1 .left) in
+    let n = j .before .trailers .ensures in
+    (long, λ q. j .if2 .left (n ∙ q), omega (arith, n, trailers-most (now (k .before .before .before .args .image)) long))
+
+returns-3 : tie.Need-returns-3
+unfolding checkBy
+returns-3 c =
+    let j = c .before .before .before in
+    let k = j .before .before in
+    let n = j .before .trailers .ensures in (
+      simp (passes (k .before .length-ok .ensures) (k .if1 .left), ← n, ne-eqb _ _ (j .if2 .left), ← c .before .walk-ok .ensures .0, c .if3 .taken),
+      λ e. rw (sym n) (c .before .walk-ok .ensures .1 (c .if3 .taken)),
+    )
+
+returns-4 : tie.Need-returns-4
+unfolding checkBy
+returns-4 c =
+    let j = c .before .before .before in
+    let k = j .before .before in (
+      simp (passes (k .before .length-ok .ensures) (k .if1 .left), ← j .before .trailers .ensures, ne-eqb _ _ (j .if2 .left), ← c .before .walk-ok .ensures .0, c .if3 .left),
+      λ e. absurd (omega arith),
+    )
+
+pub check-widths-spec : {M : Type 1} → statement M
+check-widths-spec =
+    tie.close
+    (tie.spec
+    length-ok-requires
+    returns
+    trailers-requires
+    returns-2
+    walk-ok-requires
+    returns-3
+    returns-4)

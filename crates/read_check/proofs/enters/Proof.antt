@@ -1,0 +1,53 @@
+use borrow.Author.Tests.{le-ltb, lt-ltb}
+use borrow.Author.Needs.{needs}
+use Rattle.theory_check.specs.Walk.{entersOf}
+use Rattle.read_check.proofs.Calls.{passes, fails}
+use Rattle.read_check.proofs.Walks.{named}
+use Rattle.read_check.proofs.enters.Statement.{statement}
+use Rattle.read_check.proofs.enters.Tie as tie
+
+names-requires : tie.Need-names-requires
+names-requires c κs = search needs
+
+returns : tie.Need-returns
+unfolding entersOf
+returns c = simp (fails (c .before .names .ensures) (c .if1 .taken))
+
+root-fits-requires : tie.Need-root-fits-requires
+root-fits-requires c κs = named _ _ _ (passes (c .before .names .ensures) (c .if1 .left))
+
+returns-2 : tie.Need-returns-2
+unfolding entersOf
+returns-2 c =
+    let p1 = c .before .before in
+    simp (passes (p1 .before .names .ensures) (p1 .if1 .left), fails (c .before .root-fits .ensures) (c .if2 .taken))
+
+returns-3 : tie.Need-returns-3
+unfolding entersOf
+returns-3 c =
+    let p2 = c .before in
+    let p1 = p2 .before .before in
+    simp (passes (p1 .before .names .ensures) (p1 .if1 .left), passes (p2 .before .root-fits .ensures) (p2 .if2 .left), lt-ltb _ _ (c .if3 .taken))
+
+is-marked-requires : tie.Need-is-marked-requires
+is-marked-requires c κs = named _ _ _ (passes (c .before .before .before .before .names .ensures) (c .before .before .before .if1 .left)) .0
+
+returns-4 : tie.Need-returns-4
+unfolding entersOf
+returns-4 c =
+    let p3 = c .before in
+    let p2 = p3 .before in
+    let p1 = p2 .before .before in
+    simp (← c .is-marked .ensures, passes (p1 .before .names .ensures) (p1 .if1 .left), passes (p2 .before .root-fits .ensures) (p2 .if2 .left), le-ltb _ _ (p3 .if3 .left))
+
+pub enters-spec : {M : Type 1} → statement M
+enters-spec =
+    tie.close
+    (tie.spec
+    names-requires
+    returns
+    root-fits-requires
+    returns-2
+    returns-3
+    is-marked-requires
+    returns-4)

@@ -1,0 +1,19 @@
+use borrow.Author.Tests.{lt-leb, le-leb, eq-eqb, ne-eqb}
+use Rattle.model.specs.Reading.{lengthOk}
+use Rattle.read_check.proofs.length_ok.Statement.{statement}
+use Rattle.read_check.proofs.length_ok.Tie as tie
+
+returns : tie.Need-returns
+unfolding lengthOk
+returns c = simp (ne-eqb _ _ (c .if1 .taken))
+
+returns-2 : tie.Need-returns-2
+unfolding lengthOk
+returns-2 c = simp (eq-eqb _ _ (c .before .if1 .left), lt-leb _ _ (c .if2 .taken))
+
+returns-3 : tie.Need-returns-3
+unfolding lengthOk
+returns-3 c = rw (eq-eqb _ _ (c .before .if1 .left), le-leb _ _ (c .if2 .left))
+
+pub length-ok-spec : {M : Type 1} → statement M
+length-ok-spec = tie.close (tie.spec returns returns-2 returns-3)

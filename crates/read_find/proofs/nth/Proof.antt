@@ -1,0 +1,161 @@
+-- `descend::nth`: the loop goes along the row, past records that the table lets it pass, and into the one that holds the node; in what is left the node sought stays
+-- the same. Into a record the depth falls.
+use mathlib.Core.Path.{_≡_, refl}
+use Prim.Native.Nat.{ℕ, _+_, _*_, _-_, _≤_, _<_}
+use native.Mathlib.Omega.{arith}
+use lib.ListN.{length}
+use Rattle.read_find.specs.declared.NthNode.{NthNode}
+use Rattle.read_find.specs.Rowed.{Rowed, Passed, Entered, Sought, Proxied, width-steps, startOn, endOn, short, room, pass, proxied, enter, seeking, sought, seek-here, seek-node, seek-inside, seek-past}
+use Rattle.read_find.proofs.nth.Statement.{statement}
+use Rattle.read_find.proofs.nth.Tie as tie
+
+abbrev Inv-loop : tie.InvT-loop
+Inv-loop image widths pos end k depth left₀ i₀ stop₀ deep₀ left i stop deep = (t : NthNode) → Sought image pos end depth k t → Sought image i stop deep left t
+
+abbrev μ-loop : tie.MeasureT-loop
+μ-loop image widths pos end k depth left₀ i₀ stop₀ deep₀ left i stop deep = 4096 * deep + (stop - i)
+
+-- The row that is left at the loop's head, and its room.
+here : (c : tie.At-loop Inv-loop μ-loop) → Rowed (c .before .before .args .image .now) (c .loop .i) (c .loop .stop) (c .loop .deep)
+here c = c .loop .inv _ (seeking _ _ _ _ _ (c .before .before .pre .0)) .rest
+
+in-room : (c : tie.At-loop Inv-loop μ-loop) → (c .loop .stop + 16 ≤ length (c .before .before .args .image .now)) × (c .loop .stop < 4194304)
+in-room c = room _ _ _ _ (here c)
+
+-- Past a node, and at a proxy.
+passed : (c : tie.After-two2 Inv-loop μ-loop) → let l = c .before .before .before .before .before in let s = l .before .before in
+    (w : Rowed (s .args .image .now) (l .loop .i) (l .loop .stop) (l .loop .deep)) → Passed (s .args .image .now) (l .loop .i) (l .loop .stop) (l .loop .deep) (c .two2 .result) (w .row)
+passed c w = pass _ _ _ _ _ (c .before .before .before .before .loop-test .taken) (c .two2 .ensures .0) (c .before .before .if1 .left) w
+
+proxy : (c : tie.After-two Inv-loop μ-loop) → let l = c .before .before .before .before in Proxied (l .before .before .args .image .now) (l .loop .i) (l .loop .deep) (c .two .result)
+proxy c = proxied _ _ _ _ (c .before .before .before .loop-test .taken) (c .before .if1 .taken) _ (c .two .ensures .0) (here (c .before .before .before .before))
+
+entered : (c : tie.After-two Inv-loop μ-loop) → let l = c .before .before .before .before in let s = l .before .before in
+    (start stop : ℕ) → start ≡ startOn (s .args .image .now) (c .two .result) → stop ≡ endOn (s .args .image .now) (c .two .result)
+    → (w : Rowed (s .args .image .now) (l .loop .i) (l .loop .stop) (l .loop .deep))
+    → Entered (s .args .image .now) (l .loop .i) (l .loop .stop) (l .loop .deep) 8 (c .two .result) start stop (w .row)
+entered c start stop e f w = enter _ _ _ _ (c .before .before .before .loop-test .taken) (c .before .if1 .taken) 8 _ _ _ (proxy c .long) (c .two .ensures .0) e f w
+
+loop-holds : tie.Need-loop-holds Inv-loop μ-loop
+loop-holds c = λ t s. s
+
+shared-slice-read-if1 : tie.Need-shared-slice-read-if1 Inv-loop μ-loop
+shared-slice-read-if1 c = omega (arith, in-room (c .before .before), c .before .loop-test .taken)
+
+add-two : tie.Need-add-two Inv-loop μ-loop
+add-two c = omega (arith, in-room (c .before .before .before), c .before .before .loop-test .taken)
+
+two-requires : tie.Need-two-requires Inv-loop μ-loop
+two-requires c κs = omega (arith, in-room (c .before .before .before), c .before .before .loop-test .taken)
+
+mul-n : tie.Need-mul-n Inv-loop μ-loop
+mul-n c = omega (arith, proxy c .on .high)
+
+element-copy-out-n : tie.Need-element-copy-out-n Inv-loop μ-loop
+element-copy-out-n c = proxy c .on .high
+
+cast-n : tie.Need-cast-n Inv-loop μ-loop
+cast-n c =
+    let l = c .before .before .before .before .before in
+    let e = entered (c .before) _ _ refl refl (here l) in
+    omega (arith, e .told _ (l .before .before .pre .1), width-steps (e .inside .row), e .inside .few)
+
+add-i : tie.Need-add-i Inv-loop μ-loop
+add-i c = omega (arith, in-room (c .before .before .before .before .before .before), c .before .before .before .before .before .loop-test .taken)
+
+loop-less : tie.Need-loop-less Inv-loop μ-loop
+loop-less c = omega (arith, c .before .before .before .before .before .loop-test .taken)
+
+loop-again : tie.Need-loop-again Inv-loop μ-loop
+loop-again c =
+    let l = c .before .before .before .before .before .before in
+    λ t s.
+    let w = l .loop .inv t s in
+    seek-past _ _ _ _ _ _ _ _ _ _ w (entered (c .before .before) _ _ refl refl (w .rest)) _ (l .before .before .pre .1) (omega (arith, c .if2 .taken))
+
+row-start-requires : tie.Need-row-start-requires Inv-loop μ-loop
+row-start-requires c κs = proxy (c .before .before) .on
+
+row-end-requires : tie.Need-row-end-requires Inv-loop μ-loop
+row-end-requires c κs = proxy (c .before .before .before) .on
+
+sub-deep : tie.Need-sub-deep Inv-loop μ-loop
+sub-deep c = proxy (c .before .before .before .before) .below
+
+loop-less-2 : tie.Need-loop-less-2 Inv-loop μ-loop
+loop-less-2 c =
+    let p = c .before .before .before .before in
+    let e = entered p _ _ (c .before .row-start .ensures) (c .row-end .ensures) (here (p .before .before .before .before)) in
+    omega (arith, short _ _ _ _ (e .inside), proxy p .below)
+
+loop-again-2 : tie.Need-loop-again-2 Inv-loop μ-loop
+loop-again-2 c =
+    let p = c .before .before .before .before in
+    let l = p .before .before .before .before in
+    λ t s.
+    let w = l .loop .inv t s in
+    seek-inside _ _ _ _ _ _ _ _ _ _ w (entered p _ _ (c .before .row-start .ensures) (c .row-end .ensures) (w .rest)) _ (l .before .before .pre .1) (omega (arith, c .before .before .if2 .left))
+
+returns : tie.Need-returns Inv-loop μ-loop
+returns c =
+    let l = c .before .before .before .before in
+    λ w.
+    let s = l .loop .inv _ (seeking _ _ _ _ _ w) in
+    seek-here _ _ _ _ _ _ _ s (pass _ _ _ _ _ (c .before .before .before .loop-test .taken) refl (c .before .if1 .left) (s .rest)) (c .if3 .taken)
+
+sub-left : tie.Need-sub-left Inv-loop μ-loop
+sub-left c = omega arith
+
+add-two-2 : tie.Need-add-two-2 Inv-loop μ-loop
+add-two-2 c = omega (arith, in-room (c .before .before .before .before), c .before .before .before .loop-test .taken)
+
+two-requires-2 : tie.Need-two-requires-2 Inv-loop μ-loop
+two-requires-2 c κs = omega (arith, in-room (c .before .before .before .before), c .before .before .before .loop-test .taken)
+
+add-i-2 : tie.Need-add-i-2 Inv-loop μ-loop
+add-i-2 c = omega (arith, in-room (c .before .before .before .before .before), c .before .before .before .before .loop-test .taken, c .two2 .ensures .1)
+
+loop-less-3 : tie.Need-loop-less-3 Inv-loop μ-loop
+loop-less-3 c =
+    let l = c .before .before .before .before .before in
+    omega (arith, passed c (here l) .more, c .before .before .before .before .loop-test .taken)
+
+loop-again-3 : tie.Need-loop-again-3 Inv-loop μ-loop
+loop-again-3 c =
+    let l = c .before .before .before .before .before in
+    λ t s.
+    let w = l .loop .inv t s in
+    seek-node _ _ _ _ _ _ _ w (passed c (w .rest)) (c .before .if3 .left)
+
+returns-2 : tie.Need-returns-2 Inv-loop μ-loop
+returns-2 c = λ w. sought _ _ _ _ _ _ (c .before .loop .inv _ (seeking _ _ _ _ _ w)) (c .loop-test .left)
+
+pub nth-spec : {M : Type 1} → statement M
+nth-spec =
+    tie.close
+    (tie.spec
+    Inv-loop
+    μ-loop
+    loop-holds
+    shared-slice-read-if1
+    add-two
+    two-requires
+    mul-n
+    element-copy-out-n
+    cast-n
+    add-i
+    loop-less
+    loop-again
+    row-start-requires
+    row-end-requires
+    sub-deep
+    loop-less-2
+    loop-again-2
+    returns
+    sub-left
+    add-two-2
+    two-requires-2
+    add-i-2
+    loop-less-3
+    loop-again-3
+    returns-2)

@@ -1,0 +1,136 @@
+-- `descend::width`: the loop goes along the row; what is left of it brings the count to the whole. A record counts as many nodes as the table has for it.
+use mathlib.Core.Path.{refl}
+use Prim.Native.Nat.{ℕ, _+_, _-_, _≤_, _<_}
+use native.Mathlib.Omega.{arith}
+use lib.ListN.{length}
+use Rattle.model.specs.Tree as tree
+use Rattle.read_find.specs.Rowed.{Rowed, Passed, Entered, Counted, Proxied, startOn, endOn, width-steps, room, pass, proxied, enter, counting, counted, count-node, count-proxy}
+use Rattle.read_find.proofs.width.Statement.{statement}
+use Rattle.read_find.proofs.width.Tie as tie
+
+abbrev Inv-loop : tie.InvT-loop
+Inv-loop image widths pos end n₀ i₀ n i = (t : ℕ) → Counted image pos end 1024 0 t → Counted image i end 1024 n t
+
+abbrev μ-loop : tie.MeasureT-loop
+μ-loop image widths pos end n₀ i₀ n i = end - i
+
+-- The count as it stands at the loop's head, its room, and its bound.
+here : (c : tie.At-loop Inv-loop μ-loop) → let s = c .before .before in
+    Counted (s .args .image .now) (c .loop .i) (s .args .end) 1024 (c .loop .n) (tree.width (s .pre .0 .row))
+here c = c .loop .inv _ (counting _ _ _ _ (c .before .before .pre .0))
+
+in-room : (c : tie.At-loop Inv-loop μ-loop) → let s = c .before .before in (s .args .end + 16 ≤ length (s .args .image .now)) × (s .args .end < 4194304)
+in-room c = room _ _ _ _ (here c .rest)
+
+within : (c : tie.At-loop Inv-loop μ-loop) → c .loop .n + tree.width (here c .rest .row) ≤ 4194304
+within c =
+    let w = c .before .before .pre .0 in
+    omega (arith, here c .sum, width-steps (w .row), w .few)
+
+-- Past a node, and at a proxy.
+passed : (c : tie.Else1 Inv-loop μ-loop) → let l = c .before .before .before .before in let s = l .before .before in
+    (w : Rowed (s .args .image .now) (l .loop .i) (s .args .end) 1024) → Passed (s .args .image .now) (l .loop .i) (s .args .end) 1024 (c .before .before .two .result) (w .row)
+passed c w = pass _ _ _ _ _ (c .before .before .before .loop-test .taken) (c .before .before .two .ensures .0) (c .if1 .left) w
+
+proxy : (c : tie.After-two2 Inv-loop μ-loop) → let l = c .before .before .before .before .before in let s = l .before .before in
+    Proxied (s .args .image .now) (l .loop .i) 1024 (c .two2 .result)
+proxy c = proxied _ _ _ _ (c .before .before .before .before .loop-test .taken) (c .before .if1 .taken) _ (c .two2 .ensures .0) (here (c .before .before .before .before .before) .rest)
+
+entered : (c : tie.After-two2 Inv-loop μ-loop) → let l = c .before .before .before .before .before in let s = l .before .before in
+    (w : Rowed (s .args .image .now) (l .loop .i) (s .args .end) 1024)
+    → Entered (s .args .image .now) (l .loop .i) (s .args .end) 1024 (c .before .before .before .two .result) (c .two2 .result)
+    (startOn (s .args .image .now) (c .two2 .result)) (endOn (s .args .image .now) (c .two2 .result)) (w .row)
+entered c w = enter _ _ _ _ (c .before .before .before .before .loop-test .taken) (c .before .if1 .taken) _ _ _ _ (c .before .before .before .two .ensures .0) (c .two2 .ensures .0) refl refl w
+
+loop-holds : tie.Need-loop-holds Inv-loop μ-loop
+loop-holds c = λ t s. s
+
+add-two : tie.Need-add-two Inv-loop μ-loop
+add-two c = omega (arith, in-room (c .before))
+
+two-requires : tie.Need-two-requires Inv-loop μ-loop
+two-requires c κs = omega (arith, in-room (c .before), c .loop-test .taken)
+
+add-next : tie.Need-add-next Inv-loop μ-loop
+add-next c = omega (arith, in-room (c .before .before), c .before .loop-test .taken, c .two .ensures .1)
+
+shared-slice-read-if1 : tie.Need-shared-slice-read-if1 Inv-loop μ-loop
+shared-slice-read-if1 c = omega (arith, in-room (c .before .before .before), c .before .before .loop-test .taken)
+
+add-two-2 : tie.Need-add-two-2 Inv-loop μ-loop
+add-two-2 c = omega (arith, in-room (c .before .before .before .before), c .before .before .before .loop-test .taken)
+
+two-requires-2 : tie.Need-two-requires-2 Inv-loop μ-loop
+two-requires-2 c κs = omega (arith, in-room (c .before .before .before .before), c .before .before .before .loop-test .taken)
+
+mul-n : tie.Need-mul-n Inv-loop μ-loop
+mul-n c = omega (arith, proxy c .on .high)
+
+element-copy-out-n : tie.Need-element-copy-out-n Inv-loop μ-loop
+element-copy-out-n c = proxy c .on .high
+
+cast-n : tie.Need-cast-n Inv-loop μ-loop
+cast-n c =
+    let l = c .before .before .before .before .before .before in
+    let e = entered (c .before) (here l .rest) in
+    omega (arith, within l, e .wide, e .told _ (l .before .before .pre .1))
+
+add-n : tie.Need-add-n Inv-loop μ-loop
+add-n c =
+    let l = c .before .before .before .before .before .before in
+    let e = entered (c .before) (here l .rest) in
+    omega (arith, within l, e .wide, e .told _ (l .before .before .pre .1))
+
+add-n-2 : tie.Need-add-n-2 Inv-loop μ-loop
+add-n-2 c = omega (arith, within (c .before .before .before .before))
+
+loop-less : tie.Need-loop-less Inv-loop μ-loop
+loop-less c =
+    let l = c .before .before .before .before .before .before in
+    omega (arith, entered (c .before) (here l .rest) .more, c .before .before .before .before .before .loop-test .taken)
+
+loop-again : tie.Need-loop-again Inv-loop μ-loop
+loop-again c =
+    let l = c .before .before .before .before .before .before in
+    λ t s.
+    let w = l .loop .inv t s in
+    count-proxy _ _ _ _ _ _ _ _ _ _ w (entered (c .before) (w .rest)) _ (l .before .before .pre .1)
+
+loop-less-2 : tie.Need-loop-less-2 Inv-loop μ-loop
+loop-less-2 c =
+    let l = c .before .before .before .before in
+    omega (arith, passed c (here l .rest) .more, c .before .before .before .loop-test .taken)
+
+loop-again-2 : tie.Need-loop-again-2 Inv-loop μ-loop
+loop-again-2 c =
+    let l = c .before .before .before .before in
+    λ t s.
+    let w = l .loop .inv t s in
+    count-node _ _ _ _ _ _ _ w (passed c (w .rest))
+
+returns : tie.Need-returns Inv-loop μ-loop
+returns c = λ w. counted _ _ _ _ _ _ (c .before .loop .inv _ (counting _ _ _ _ w)) (c .loop-test .left)
+
+pub width-spec : {M : Type 1} → statement M
+width-spec =
+    tie.close
+    (tie.spec
+    Inv-loop
+    μ-loop
+    loop-holds
+    add-two
+    two-requires
+    add-next
+    shared-slice-read-if1
+    add-two-2
+    two-requires-2
+    mul-n
+    element-copy-out-n
+    cast-n
+    add-n
+    add-n-2
+    loop-less
+    loop-again
+    loop-less-2
+    loop-again-2
+    returns)

@@ -1,0 +1,367 @@
+-- The next node in document order: past the end of a record the nodes go on behind its proxy, and a proxy's nodes are its record's.
+use mathlib.Core.Path.{_≡_, refl, sym, ap, subst, _∙_}
+use mathlib.Core.Bool.{cond}
+use mathlib.Core.List.{List, [], _∷_, _++_, append-assoc}
+use mathlib.Core.Logic.{_⊎_, inl, inr}
+use mathlib.Core.Option.{some}
+use Prim.Native.Nat.{ℕ, suc, _+_, _*_, _-_, _/_, _%_, _≤_, _<_}
+use native.Mathlib.Omega.{arith}
+use lib.ListN.{length, getD}
+use lib.Dec.{eqb}
+use Rattle.model.specs.Row.{Row, nil, agg, lit, rec, size, base, Config}
+use Rattle.model.specs.Reading.{Reads, twoAt}
+use Rattle.model.specs.Tree.{Node, shown, nodes, placeOf}
+use Rattle.model.specs.Answers.{nextRefused}
+use Rattle.model.specs.Calls.{checkOf, nextOf, kindOf}
+use Rattle.model.specs.declared.Place.{Place}
+use Rattle.model.specs.declared.Kind.{Kind}
+use Rattle.model.specs.declared.Next.the-variants as next-is
+use Rattle.theory_calls.specs.Navigate.{next-stray, next-follows, next-last}
+use Rattle.theory_layout.specs.Here.{PageIn}
+use Rattle.theory_layout.specs.Items.{Item, node, proxy, items, spots, expand, In, top, sub}
+use Rattle.theory_layout.specs.Order.{at, Stood, step, Flat, node-kind, proxy-of, which, flat-end, item-at, in-page, in-deep, last-page, expand-items, spot-header, spot-split, spot-of, split-mem}
+use Rattle.theory_layout.specs.Nodes.{All, read-kind, PlacedAt, Both, nodes-split, place-at}
+use Rattle.read_next.specs.Scan.{OnRecord, view, known, all, close, flat-all, Head, head-of, HeldBy, NodeAt, NodeOf, Located, store-of}
+
+-- ── where the nodes after a node begin ──
+
+-- After the node at pos come, in the record of `page`, the items from n on, then what is behind that record.
+pub record Going (img : List ℕ) (pos page n : ℕ) : Type 0 where
+  pub on : OnRecord img page
+  pub left : List Item
+  pub right : List Item
+  pub split : all on ≡ left ++ right
+  pub flat : Flat img page n (close on) right
+  pub seen : List ℕ
+  pub order : spots (4096 + base (on .root)) (on .root) ≡ seen ++ pos ∷ (expand right ++ on .after)
+
+-- No node comes after the one at pos.
+pub record Last (img : List ℕ) (pos : ℕ) : Type 0 where
+  pub settings : Config
+  pub root : Row
+  pub reads : Reads img settings root
+  pub seen : List ℕ
+  pub order : spots (4096 + base root) root ≡ seen ++ pos ∷ []
+
+-- The node at n comes after the one at pos.
+pub record Follows (img : List ℕ) (pos n : ℕ) : Type 0 where
+  pub settings : Config
+  pub root : Row
+  pub reads : Reads img settings root
+  pub seen : List ℕ
+  pub later : List ℕ
+  pub order : spots (4096 + base root) root ≡ seen ++ pos ∷ n ∷ later
+
+-- The item at n comes after the node at pos: a node, or a proxy for those in its record.
+pub record Ahead (img : List ℕ) (pos n : ℕ) : Type 0 where
+  pub page : ℕ
+  pub on : OnRecord img page
+  pub first : Item
+  pub left : List Item
+  pub right : List Item
+  pub split : all on ≡ left ++ first ∷ right
+  pub flat : Flat img page n (close on) (first ∷ right)
+  pub seen : List ℕ
+  pub order : spots (4096 + base (on .root)) (on .root) ≡ seen ++ pos ∷ (expand (first ∷ right) ++ on .after)
+
+-- ── up ──
+
+-- The state of the climb: `left` bounds the record's depth.
+pub record Climb (img : List ℕ) (pos page n left : ℕ) : Type 0 where
+  pub going : Going img pos page n
+  pub deep : going .on .depth ≤ left
+
+pub record Climbed (img : List ℕ) (pos r : ℕ) : Type 0 where
+  pub stop : r ≡ 0 → Last img pos
+  pub more : 1 ≤ r → Ahead img pos r
+
+-- Where a node stands.
+pub node-head : {img : List ℕ} {pos : ℕ} (a : NodeAt img pos) → Head img (a .spot .page) pos
+node-head {img} {pos} a =
+    let s = a .spot in
+    head-of img (s .page) pos (node pos)
+    (item-at img (s .page) (4096 * s .page + base (s .row)) (s .row) (in-page img (a .settings) (a .root) (a .reads) (s .within) .here) (s .left) (s .right) (node pos) (s .split) .0)
+
+pub climb-start : {img : List ℕ} {pos : ℕ} (a : NodeAt img pos) (page n : ℕ) → page ≡ pos / 4096 → n ≡ step img pos → Climb img pos page n 1024
+climb-start {img} {pos} a page n p e =
+    let s = a .spot in
+    let st = a .settings in
+    let root = a .root in
+    let r = a .reads in
+    let h = spot-header img st root r pos s in
+    let same : s .page ≡ page = omega (arith, h .low, h .room) in
+    let on : OnRecord img (s .page) = record { settings = st; root = root; reads = r; holder = s .holder; row = s .row; before = s .before; after = s .after; depth = s .depth; within = s .within } in
+    let f = item-at img (s .page) (4096 * s .page + base (s .row)) (s .row) (in-page img st root r (s .within) .here) (s .left) (s .right) (node pos) (s .split) .1 in
+    let g : Going img pos (s .page) n = record {
+      on = on;
+      left = s .left ++ node pos ∷ [];
+      right = s .right;
+      split = s .split ∙ sym (append-assoc (s .left) (node pos ∷ []) (s .right));
+      flat = subst (λ (k : ℕ). Flat img (s .page) k (close on) (s .right)) (sym e) f;
+      seen = s .before ++ expand (s .left);
+      order = spot-split s;
+    } in
+    subst (λ (q : ℕ). Climb img pos q n 1024) same (record { going = g; deep = in-deep img st root r (s .within) })
+
+module _ {img : List ℕ} {pos page n left : ℕ} (c : Climb img pos page n left) where
+  -- Where the record's end is not reached, an item comes next,
+  pub climb-ahead : (n ≡ 4096 * page + twoAt img (4096 * page + 4082) → ⊥) → Ahead img pos n
+  climb-ahead f = go (c .going .right) (c .going .split) (c .going .flat) (c .going .order)
+    where
+      on : OnRecord img page
+      on = c .going .on
+
+      go : (right : List Item) → all on ≡ c .going .left ++ right → Flat img page n (close on) right → spots (4096 + base (on .root)) (on .root) ≡ c .going .seen ++ pos ∷ (expand right ++ on .after) → Ahead img pos n
+      go [] q g o = absurd (f (g ∙ sym (known on .end)))
+      go (i ∷ right) q g o = record { page = page; on = on; first = i; left = c .going .left; right = right; split = q; flat = g; seen = c .going .seen; order = o }
+
+  none-right : n ≡ 4096 * page + twoAt img (4096 * page + 4082) → c .going .right ≡ []
+  none-right e =
+      let on = c .going .on in
+      flat-end img page (c .going .right) n (close on) (c .going .flat) (omega (arith, known on .end))
+
+  -- at the end of page 1's record nothing does,
+  pub climb-last : n ≡ 4096 * page + twoAt img (4096 * page + 4082) → page ≡ 1 → Last img pos
+  climb-last e p =
+      let on = c .going .on in
+      let a = last-page img (on .settings) (on .root) (on .reads) (on .within) p in
+      record { settings = on .settings; root = on .root; reads = on .reads; seen = c .going .seen; order = c .going .order ∙ rw (none-right e, a) }
+
+-- and at the end of another's it goes on behind its proxy.
+pub record Above (img : List ℕ) (pos page n left : ℕ) : Type 0 where
+  pub holder : ℕ
+  pub back : twoAt img (4096 * page + 4084) ≡ holder
+  pub held : HeldBy img holder page
+  pub small : held .pos < 4194304
+  pub some : 1 ≤ left
+  pub up : (m : ℕ) → m ≡ held .pos + 8 → (l : ℕ) → l ≡ left - 1 → Climb img pos holder m l
+
+pub climb-above : {img : List ℕ} {pos page n left : ℕ} (c : Climb img pos page n left) → n ≡ 4096 * page + twoAt img (4096 * page + 4082) → (page ≡ 1 → ⊥) → Above img pos page n left
+climb-above {img} {pos} {page} {n} {left} c e f =
+    let on = c .going .on in
+    go (on .settings) (on .root) (on .reads) (on .within) (view on .back) (c .deep) (c .going .seen)
+    (c .going .order ∙ ap (λ (l : List Item). c .going .seen ++ pos ∷ (expand l ++ on .after)) (none-right c e)) f
+  where
+    go : (st : Config) (root : Row) (r : Reads img st root) {q holder : ℕ} {row : Row} {before after : List ℕ} {d : ℕ} → In root q holder row before after d
+        → twoAt img (4096 * q + 4084) ≡ holder → d ≤ left → (seen : List ℕ) → spots (4096 + base root) root ≡ seen ++ pos ∷ after → (q ≡ 1 → ⊥) → Above img pos q n left
+    go st root r top b k seen o f = absurd (f refl)
+    go st root r (sub {page = page} {holder = over} {row = row} {before = before} {after = after} {depth = d} w xs ys at p x e) b k seen o f =
+        let on : OnRecord img page = record { settings = st; root = root; reads = r; holder = over; row = row; before = before; after = after; depth = d; within = w } in
+        let i = item-at img page (4096 * page + base row) row (view on .here) xs ys (proxy at p x) e in
+        let y = proxy-of img page at at p x (i .0) in
+        let h = head-of img page at (proxy at p x) (i .0) in
+        record {
+          holder = page;
+          back = b;
+          held = record { above = on; left = xs; right = ys; pos = at; row = x; split = e };
+          small = h .small;
+          some = omega arith;
+          up = λ m q l z. record {
+            going = record {
+              on = on;
+              left = xs ++ proxy at p x ∷ [];
+              right = ys;
+              split = e ∙ sym (append-assoc xs (proxy at p x ∷ []) ys);
+              flat = subst (λ (k : ℕ). Flat img page k (close on) ys) (y .next ∙ sym q) (i .1);
+              seen = seen;
+              order = o;
+            };
+            deep = omega arith;
+          };
+        }
+
+-- The same, as the code finds it: h is the page in the back link, and p where the proxy is found.
+module _ {img : List ℕ} {pos page n left : ℕ} (c : Climb img pos page n left) (e : n ≡ 4096 * page + twoAt img (4096 * page + 4082)) (f : page ≡ 1 → ⊥) (h : ℕ) (b : h ≡ twoAt img (4096 * page + 4084)) where
+  above : Above img pos page n left
+  above = climb-above c e f
+
+  its-holder : above .holder ≡ h
+  its-holder = sym (b ∙ above .back)
+
+  pub climb-held : HeldBy img h page
+  climb-held = subst (λ (q : ℕ). HeldBy img q page) its-holder (above .held)
+
+  pub climb-some : 1 ≤ left
+  climb-some = above .some
+
+  module _ (p : ℕ) (at : (w : HeldBy img h page) → p ≡ w .pos) where
+    its-proxy : p ≡ above .held .pos
+    its-proxy = subst (λ (q : ℕ). ((w : HeldBy img q page) → p ≡ w .pos) → p ≡ above .held .pos) its-holder (λ g. g (above .held)) at
+
+    pub climb-small : p < 4194304
+    climb-small = rw its-proxy (above .small)
+
+    pub climb-up : (m l : ℕ) → m ≡ p + 8 → l ≡ left - 1 → Climb img pos h m l
+    climb-up m l u v = subst (λ (q : ℕ). Climb img pos q m l) its-holder (above .up m (u ∙ ap (λ (k : ℕ). k + 8) its-proxy) l v)
+
+-- ── down ──
+
+pub record Enter (img : List ℕ) (pos n left : ℕ) : Type 0 where
+  pub ahead : Ahead img pos n
+  pub deep : 1024 ≤ ahead .on .depth + left
+
+pub ahead-head : {img : List ℕ} {pos n : ℕ} (a : Ahead img pos n) → Head img (a .page) n
+ahead-head {img} {pos} {n} a = head-of img (a .page) n (a .first) (a .flat .0)
+
+-- Another kind than 3 is a node.
+pub ahead-node : {img : List ℕ} {pos n : ℕ} (a : Ahead img pos n) → (getD img n 0 ≡ 3 → ⊥) → Follows img pos n
+ahead-node {img} {pos} {n} a f = go (which img (a .page) n (a .first) (a .flat .0))
+  where
+    go : (a .first ≡ node n) ⊎ ((p : ℕ) × (r : Row) × (a .first ≡ proxy n p r)) → Follows img pos n
+    go (inl q) = record {
+      settings = a .on .settings;
+      root = a .on .root;
+      reads = a .on .reads;
+      seen = a .seen;
+      later = expand (a .right) ++ a .on .after;
+      order = a .order ∙ ap (λ (i : Item). a .seen ++ pos ∷ (expand (i ∷ a .right) ++ a .on .after)) q;
+    }
+    go (inr q) = absurd (f (proxy-of img (a .page) n n (q .0) (q .1) (subst (Stood img (a .page) n) (q .2) (a .flat .0)) .kind))
+
+-- A proxy's nodes are those of its record.
+pub record Under (img : List ℕ) (pos n left : ℕ) : Type 0 where
+  pub page : ℕ
+  pub name : twoAt img (n + 6) ≡ page
+  pub on : PageIn img page
+  pub some : 1 ≤ left
+  pub down : (m : ℕ) → m ≡ 4096 * page + cond (eqb (getD img (4096 * page) 0) 4) 6 0 → (l : ℕ) → l ≡ left - 1 → Enter img pos m l
+
+-- a row that is not empty has a first item
+first-of : (pos : ℕ) (row : Row) → 1 ≤ size row → (i : Item) × (is : List Item) × (items pos row ≡ i ∷ is)
+first-of pos nil h = absurd (omega arith)
+first-of pos (agg h cs rest) k = (_, _, refl)
+first-of pos (lit h c rest) k = (_, _, refl)
+first-of pos (rec p s r rest) k = (_, _, refl)
+
+pub enter-under : {img : List ℕ} {pos n left : ℕ} (c : Enter img pos n left) → getD img n 0 ≡ 3 → Under img pos n left
+enter-under {img} {pos} {n} {left} c k = go (which img (a .page) n (a .first) (a .flat .0))
+  where
+    a : Ahead img pos n
+    a = c .ahead
+
+    on : OnRecord img (a .page)
+    on = a .on
+
+    kinds : (getD img n 0 ≡ 1) ⊎ (getD img n 0 ≡ 2) → ⊥
+    kinds (inl e) = omega arith
+    kinds (inr e) = omega arith
+
+    go : (a .first ≡ node n) ⊎ ((p : ℕ) × (r : Row) × (a .first ≡ proxy n p r)) → Under img pos n left
+    go (inl q) = absurd (kinds (node-kind img (a .page) n n (subst (Stood img (a .page) n) q (a .flat .0))))
+    go (inr q) =
+        let p = q .0 in
+        let r = q .1 in
+        let y = proxy-of img (a .page) n n p r (subst (Stood img (a .page) n) (q .2) (a .flat .0)) in
+        let w = sub (on .within) (a .left) (a .right) n p r (a .split ∙ ap (λ (i : Item). a .left ++ i ∷ a .right) (q .2)) in
+        let new : OnRecord img p = record {
+          settings = on .settings;
+          root = on .root;
+          reads = on .reads;
+          holder = a .page;
+          row = r;
+          before = on .before ++ expand (a .left);
+          after = expand (a .right) ++ on .after;
+          depth = suc (on .depth);
+          within = w;
+        } in
+        let f = first-of (4096 * p + base r) r (y .some) in
+        let shown-all : spots (4096 * p + base r) r ≡ expand (f .0 ∷ f .1) = sym (expand-items (4096 * p + base r) r) ∙ ap expand (f .2) in
+        let deep = in-deep img (on .settings) (on .root) (on .reads) w in
+        record {
+          page = p;
+          name = y .name;
+          on = known new .on;
+          some = omega (arith, c .deep);
+          down = λ m e l z. record {
+            ahead = record {
+              page = p;
+              on = new;
+              first = f .0;
+              left = [];
+              right = f .1;
+              split = f .2;
+              flat = subst (λ (k : ℕ). Flat img p k (close new) (f .0 ∷ f .1)) (sym (e ∙ known new .start)) (subst (Flat img p (4096 * p + base r) (close new)) (f .2) (flat-all new));
+              seen = a .seen;
+              order = a .order ∙ ap (λ (i : Item). a .seen ++ pos ∷ (expand (i ∷ a .right) ++ on .after)) (q .2)
+                  ∙ ap (λ (k : List ℕ). a .seen ++ pos ∷ k) (append-assoc (spots (4096 * p + base r) r) (expand (a .right)) (on .after) ∙ ap (λ (k : List ℕ). k ++ (expand (a .right) ++ on .after)) shown-all);
+            };
+            deep = omega (arith, c .deep);
+          };
+        }
+
+pub ahead-low : {img : List ℕ} {pos n : ℕ} → Ahead img pos n → 1 ≤ n
+ahead-low a = omega (arith, ahead-head a .low, known (a .on) .on .low)
+
+-- The same, as the code finds it: q is the page that the proxy names.
+module _ {img : List ℕ} {pos n left : ℕ} (c : Enter img pos n left) (k : getD img n 0 ≡ 3) (q : ℕ) (e : q ≡ twoAt img (n + 6)) where
+  under : Under img pos n left
+  under = enter-under c k
+
+  its-page : under .page ≡ q
+  its-page = sym (e ∙ under .name)
+
+  pub enter-page : PageIn img q
+  enter-page = subst (PageIn img) its-page (under .on)
+
+  pub enter-some : 1 ≤ left
+  enter-some = under .some
+
+  pub enter-down : (m l : ℕ) → m ≡ 4096 * q + cond (eqb (getD img (4096 * q) 0) 4) 6 0 → l ≡ left - 1 → Enter img pos m l
+  enter-down m l = subst (λ (q : ℕ). m ≡ 4096 * q + cond (eqb (getD img (4096 * q) 0) 4) 6 0 → l ≡ left - 1 → Enter img pos m l) its-page (λ u v. under .down m u l v)
+
+-- ── the answers ──
+
+-- The next node, or 0 at the end.
+pub record Nexted (img : List ℕ) (pos r : ℕ) : Type 0 where
+  pub stop : r ≡ 0 → Last img pos
+  pub more : 1 ≤ r → Follows img pos r
+
+module _ (img : List ℕ) (x : Place) (pos : ℕ) (a : NodeOf img (x .page) (x .offset) pos) where
+  -- A node at the position has the place.
+  pub its-place : (st : Config) (root : Row) → Reads img st root → (n : Node) → PlacedAt root n pos → placeOf root (n .path) ≡ some x
+  its-place st root r n p =
+      let b : pos / 4096 ≡ x .page = omega (arith, a .is, a .short) in
+      let c : pos % 4096 ≡ x .offset = omega (arith, a .is, a .short) in
+      place-at img st root r n pos p ∙ (λ j. some (record { page = b j; offset = c j }))
+
+  pub answer-end : Last img pos → nextOf img x ≡ record { number = 0; next = next-is.End }
+  answer-end l =
+      let s = nodes-split img (l .settings) (l .root) (l .reads) (l .seen) (pos ∷ []) (l .order) in
+      go (s .0) (s .1) (s .2) (s .3)
+    where
+      go : (xs ys : List Node) → nodes (shown (l .root)) ≡ xs ++ ys → All (Both img (l .root)) ys (pos ∷ []) → nextOf img x ≡ record { number = 0; next = next-is.End }
+      go xs [] e b = absurd b
+      go xs (n ∷ []) e b = next-last img (l .settings) (l .root) (l .reads) xs n x e (its-place (l .settings) (l .root) (l .reads) n (b .0 .1))
+      go xs (n ∷ m ∷ ys) e b = absurd (b .1)
+
+  pub answer-node : (n : ℕ) → Follows img pos n
+      → nextOf img x ≡ record { number = 0; next = next-is.Node (record { place = record { page = n / 4096; offset = n % 4096 }; kind = kindOf (getD img n 0) }) }
+  answer-node n l =
+      let s = nodes-split img (l .settings) (l .root) (l .reads) (l .seen) (pos ∷ n ∷ l .later) (l .order) in
+      go (s .0) (s .1) (s .2) (s .3)
+    where
+      go : (xs ys : List Node) → nodes (shown (l .root)) ≡ xs ++ ys → All (Both img (l .root)) ys (pos ∷ n ∷ l .later)
+          → nextOf img x ≡ record { number = 0; next = next-is.Node (record { place = record { page = n / 4096; offset = n % 4096 }; kind = kindOf (getD img n 0) }) }
+      go xs [] e b = absurd b
+      go xs (k ∷ []) e b = absurd (b .1)
+      go xs (k ∷ m ∷ ys) e b =
+          let f = next-follows img (l .settings) (l .root) (l .reads) xs ys k m x e (its-place (l .settings) (l .root) (l .reads) k (b .0 .1)) in
+          rw (read-kind img m n (b .1 .0 .0)) (rw (place-at img (l .settings) (l .root) (l .reads) m n (b .1 .0 .1)) at (f .2))
+
+-- A place where no node is.
+pub answer-stray : (img : List ℕ) (x : Place) (r : ℕ) → checkOf img ≡ 0 → Located img (x .page) (x .offset) r → r ≡ 0 → nextOf img x ≡ nextRefused 10
+answer-stray img x r z l e =
+    let s = store-of img z in
+    next-stray img (s .settings) (s .root) (s .reads) x (l .stray e (s .settings) (s .root) (s .reads))
+
+-- A node that follows is in the image.
+pub follows-inside : {img : List ℕ} {pos n : ℕ} → Follows img pos n → n < length img
+follows-inside {img} {pos} {n} l =
+    let m = split-mem n (spots (4096 + base (l .root)) (l .root)) (l .seen ++ pos ∷ []) (l .later) (l .order ∙ sym (append-assoc (l .seen) (pos ∷ []) (n ∷ l .later))) in
+    let h = spot-header img (l .settings) (l .root) (l .reads) n (spot-of (l .root) n m) in
+    omega (arith, h .room, h .on .inside)
+
+-- The answer with the kind that is read.
+pub answer-kind : (img : List ℕ) (x : Place) (pos n : ℕ) (k : Kind) → NodeOf img (x .page) (x .offset) pos → Follows img pos n → k ≡ kindOf (getD img n 0)
+    → record { number = 0; next = next-is.Node (record { place = record { page = n / 4096; offset = n % 4096 }; kind = k }) } ≡ nextOf img x
+answer-kind img x pos n k a f e = rw e (sym (answer-node img x pos a n f))

@@ -1,0 +1,140 @@
+-- What Read tells of the node at a byte.
+use mathlib.Core.Path.{_≡_, sym, subst, _∙_}
+use mathlib.Core.Bool.{cond}
+use mathlib.Core.List.{List, [], _∷_, _++_}
+use mathlib.Core.Option.{some}
+use Prim.Native.Nat.{ℕ, _+_, _-_, _≤_}
+use native.Mathlib.Omega.{arith}
+use lib.ListN.{length, getD}
+use lib.Dec.{eqb}
+use Rattle.model.specs.Row.{Row, nil, agg, lit, rec, size, Config}
+use Rattle.model.specs.Reading.{Reads, twoAt}
+use Rattle.model.specs.Tree.{Node, shown, nodes, placeOf, fromPlace, width}
+use Rattle.model.specs.Answers.{readRefused}
+use Rattle.model.specs.Calls.{checkOf, readOf, readIn, asRead}
+use Rattle.model.specs.declared.Place.{Place}
+use Rattle.model.specs.declared.ReadNode.{ReadNode}
+use Rattle.theory_decoding.specs.Reading.{reads-valid, unique}
+use Rattle.theory_decoding.specs.Steps.{steps}
+use Rattle.theory_places.specs.From.{from-split}
+use Rattle.theory_calls.specs.Open.{opens}
+use Rattle.theory_calls.specs.Navigate.{read-stray}
+use Rattle.theory_layout.specs.Here.{nesting, Here, agg-view, lit-view}
+use Rattle.theory_layout.specs.Items.{expand}
+use Rattle.theory_layout.specs.Order.{Spot, spot-split}
+use Rattle.theory_layout.specs.Nodes.{All, Leads, ReadAt, Both, nodes-split}
+use Rattle.read_find.specs.Rowed.{Rowed, width-steps}
+use Rattle.read_next.specs.Scan.{NodeAt, NodeOf, Located, store-of}
+use Rattle.read_next.specs.Follow.{its-place}
+
+-- ── what a place finds ──
+
+-- The node at a byte is one of whatever store the image is read as.
+spot-any : (img : List ℕ) (pos : ℕ) → NodeAt img pos → (st : Config) (root : Row) → Reads img st root → Spot root pos
+spot-any img pos a st root r =
+    subst (λ (s : Config × Row). Spot (s .1) pos) (unique img (a .settings, a .root) (st, root) (a .reads) r) (a .spot)
+
+-- and else the place finds the node that is read there.
+pub some-from : (img : List ℕ) (x : Place) (pos : ℕ) → NodeOf img (x .page) (x .offset) pos → (st : Config) (root : Row) → Reads img st root
+    → (n : Node) × (ms : List Node) × (fromPlace (placeOf root) x (nodes (shown root)) ≡ n ∷ ms) × ReadAt img n pos × (placeOf root (n .path) ≡ some x)
+some-from img x pos a st root r =
+    let s = spot-any img pos (a .node) st root r in
+    let k = nodes-split img st root r (s .before ++ expand (s .left)) (pos ∷ (expand (s .right) ++ s .after)) (spot-split s) in
+    go (k .0) (k .1) (expand (s .right) ++ s .after) (k .2) (k .3)
+  where
+    go : (xs ys : List Node) (later : List ℕ) → nodes (shown root) ≡ xs ++ ys → All (Both img root) ys (pos ∷ later)
+        → (n : Node) × (ms : List Node) × (fromPlace (placeOf root) x (nodes (shown root)) ≡ n ∷ ms) × ReadAt img n pos × (placeOf root (n .path) ≡ some x)
+    go xs [] later e b = absurd b
+    go xs (n ∷ ys) later e b =
+        let p = its-place img x pos a st root r n (b .0 .1) in
+        (n, ys, from-split st root (reads-valid img st root r) x xs ys n e p, b .0 .0, p)
+
+-- ── the answer for it ──
+
+abbrev pub told : Place → Node → ReadNode
+told x n = asRead x (record { number = 0; kind = n .kind; label = n .head .label; children = n .children; content = n .content })
+
+record Told (img : List ℕ) (x : Place) (pos : ℕ) : Type 0 where
+  node : Node
+  read : ReadAt img node pos
+  is : readOf img x ≡ told x node
+
+node-told : (img : List ℕ) (x : Place) (pos : ℕ) → NodeOf img (x .page) (x .offset) pos → Told img x pos
+unfolding readOf readIn
+node-told img x pos a =
+    let (n, ms, e, r, p) = some-from img x pos a (a .node .settings) (a .node .root) (a .node .reads) in
+    record { node = n; read = r; is = rw (opens img (a .node .settings) (a .node .root) (a .node .reads), e) }
+
+pub told-stray : (img : List ℕ) (x : Place) (r : ℕ) → checkOf img ≡ 0 → Located img (x .page) (x .offset) r → r ≡ 0 → readOf img x ≡ readRefused 10
+told-stray img x r z l e =
+    let s = store-of img z in
+    read-stray img (s .settings) (s .root) (s .reads) x (l .stray e (s .settings) (s .root) (s .reads))
+
+-- ── an aggregate, a literal ──
+
+abbrev pub aggRead : (img : List ℕ) (pos : ℕ) → Row → ReadNode
+aggRead img pos row = record { number = 0; kind = 1; label = twoAt img (pos + 2); children = width row; start = 0; len = 0 }
+
+abbrev pub litRead : (img : List ℕ) (pos : ℕ) → ReadNode
+litRead img pos = record { number = 0; kind = 2; label = twoAt img (pos + 2); children = 0; start = cond (eqb (twoAt img (pos + 4) - 6) 0) 0 (pos + 6); len = twoAt img (pos + 4) - 6 }
+
+-- The row of an aggregate's children.
+abbrev pub Inner : (img : List ℕ) (pos : ℕ) → Type 0
+Inner img pos = Rowed img (pos + 6) (pos + twoAt img (pos + 4)) 1024
+
+pub record AggTold (img : List ℕ) (x : Place) (pos : ℕ) : Type 0 where
+  pub inner : Inner img pos
+  pub is : aggRead img pos (inner .row) ≡ readOf img x
+
+pub record LitTold (img : List ℕ) (x : Place) (pos : ℕ) : Type 0 where
+  pub long : 6 ≤ twoAt img (pos + 4)
+  pub is : litRead img pos ≡ readOf img x
+
+module _ (img : List ℕ) (x : Place) (pos : ℕ) (a : NodeOf img (x .page) (x .offset) pos) where
+  t : Told img x pos
+  t = node-told img x pos a
+
+  pub agg-told : getD img pos 0 ≡ 1 → AggTold img x pos
+  agg-told k = go (t .read .row) (t .read .here) (t .read .leads) (t .read .deep) (t .read .few)
+    where
+      go : (row : Row) → Here img (t .read .page) pos row → Leads row (t .node) → nesting row ≤ 1024 → steps row ≤ 4194304 → AggTold img x pos
+      go nil v l d f = absurd l
+      go (agg h cs rest) v l d f =
+          let w = agg-view img (t .read .page) pos h cs rest v in
+          record {
+            inner = record { page = t .read .page; row = cs; here = w .children; ends = omega (arith, w .long); deep = omega arith; few = omega arith };
+            is = sym (t .is ∙ rw (l .0, l .1, l .2, l .3, w .label));
+          }
+      go (lit h c rest) v l d f = absurd (omega (arith, lit-view img (t .read .page) pos h c rest v .kind))
+      go (rec p s r rest) v l d f = absurd l
+
+  pub lit-told : (getD img pos 0 ≡ 1 → ⊥) → LitTold img x pos
+  lit-told k = go (t .read .row) (t .read .here) (t .read .leads)
+    where
+      go : (row : Row) → Here img (t .read .page) pos row → Leads row (t .node) → LitTold img x pos
+      go nil v l = absurd l
+      go (agg h cs rest) v l = absurd (k (agg-view img (t .read .page) pos h cs rest v .kind))
+      go (lit h c rest) v l =
+          let w = lit-view img (t .read .page) pos h c rest v in
+          let z : 6 + length c - 6 ≡ length c = omega arith in
+          record {
+            long = omega (arith, w .long);
+            is = sym (t .is ∙ rw (l .0, l .1, l .2, l .3, w .label, w .long, z, ← a .is));
+          }
+      go (rec p s r rest) v l = absurd l
+
+-- The children's row, with an end that is read.
+abbrev pub inner-to : (img : List ℕ) (pos end : ℕ) → end ≡ pos + twoAt img (pos + 4) → Inner img pos → Rowed img (pos + 6) end 1024
+inner-to img pos end e w = record { page = w .page; row = w .row; here = w .here; ends = e ∙ w .ends; deep = w .deep; few = w .few }
+
+pub inner-few : (img : List ℕ) (pos : ℕ) (w : Inner img pos) → width (w .row) ≤ 4194304
+inner-few img pos w = omega (arith, width-steps (w .row), w .few)
+
+-- The answers with the numbers that are read.
+pub agg-is : (img : List ℕ) (pos label n : ℕ) (row : Row) → label ≡ twoAt img (pos + 2) → n ≡ width row
+    → record { number = 0; kind = 1; label = label; children = n; start = 0; len = 0 } ≡ aggRead img pos row
+agg-is img pos label n row e f = rw (e, f)
+
+pub lit-is : (img : List ℕ) (pos label size start : ℕ) → label ≡ twoAt img (pos + 2) → size ≡ twoAt img (pos + 4) → start ≡ cond (eqb (size - 6) 0) 0 (pos + 6)
+    → record { number = 0; kind = 2; label = label; children = 0; start = start; len = size - 6 } ≡ litRead img pos
+lit-is img pos label size start e f g = rw (e, g, f)

@@ -1,0 +1,405 @@
+-- Looking for a header in a record: for a node at a byte, and for the proxy that names a page.
+use mathlib.Core.Path.{_≡_, refl, sym, ap, subst, _∙_}
+use mathlib.Core.Bool.{Bool, true, false, cond, true≢false}
+use mathlib.Core.List.{List, [], _∷_, _++_, List·Memᴰ, List·Memᴰ·head, List·Memᴰ·tail}
+use mathlib.Core.Logic.{_⊎_, inl, inr}
+use mathlib.Core.Option.{some}
+use Prim.Native.Nat.{ℕ, _+_, _*_, _/_, _≤_, _<_}
+use native.Mathlib.Omega.{arith}
+use borrow.Author.Tests.{eqb-true, eq-eqb, ne-eqb}
+use lib.ListN.{length, getD}
+use lib.Dec.{eqb}
+use Rattle.model.specs.Row.{Row, size, base, recordSize, Config}
+use Rattle.model.specs.Reading.{Reads, twoAt}
+use Rattle.model.specs.Calls.{checkOf}
+use Rattle.model.specs.Tree.{Node, shown, nodes, placeOf}
+use Rattle.model.specs.declared.Place.{Place}
+use Rattle.theory_decoding.specs.Reading.{reads-valid, reads-length}
+use Rattle.theory_places.specs.Member.{Mem}
+use Rattle.theory_calls.specs.Open.{passing}
+use Rattle.theory_calls.specs.Navigate.{NoNode}
+use Rattle.theory_layout.specs.Here.{PageIn, OnPage}
+use Rattle.theory_layout.specs.Items.{Item, node, proxy, items, In}
+use Rattle.theory_layout.specs.Order.{at, Stood, step, Flat, flat-row, header-of, node-kind, proxy-of, which, flat-le, flat-low, item-at, named, named-++, named-items, in-page, in-once, page-in, Spot, spot-of, spot-header, item-spot, spot-item}
+use Rattle.theory_layout.specs.Nodes.{node-spot}
+
+-- ── a record of the image ──
+
+pub record OnRecord (img : List ℕ) (page : ℕ) : Type 0 where
+  pub settings : Config
+  pub root : Row
+  pub reads : Reads img settings root
+  pub holder : ℕ
+  pub row : Row
+  pub before : List ℕ
+  pub after : List ℕ
+  pub depth : ℕ
+  pub within : In root page holder row before after depth
+
+module _ {img : List ℕ} {page : ℕ} (w : OnRecord img page) where
+  pub view : OnPage img page (w .holder) (w .row)
+  view = in-page img (w .settings) (w .root) (w .reads) (w .within)
+
+  -- What is known of the page's numbers.
+  pub record Known : Type 0 where
+    pub on : PageIn img page
+    pub start : 4096 * page + cond (eqb (getD img (4096 * page) 0) 4) 6 0 ≡ 4096 * page + base (w .row)
+    pub end : 4096 * page + twoAt img (4096 * page + 4082) ≡ 4096 * page + base (w .row) + size (w .row)
+
+  pub known : Known
+  known = record {
+    on = view .here .on;
+    start = ap (λ (n : ℕ). 4096 * page + n) (view .first);
+    end = omega (arith, view .used);
+  }
+
+  -- The record's items, and where they end.
+  abbrev pub all : List Item
+  all = items (4096 * page + base (w .row)) (w .row)
+
+  abbrev pub close : ℕ
+  close = 4096 * page + base (w .row) + size (w .row)
+
+  pub flat-all : Flat img page (4096 * page + base (w .row)) close all
+  flat-all = flat-row img page (4096 * page + base (w .row)) (w .row) (view .here)
+
+-- What is read where a header stands.
+pub record Head (img : List ℕ) (page pos : ℕ) : Type 0 where
+  pub low : 4096 * page ≤ pos
+  pub inside : pos + 16 < length img
+  pub small : pos < 4194304
+  pub further : pos + 6 ≤ step img pos
+  pub within : step img pos ≤ 4096 * page + 4080
+
+pub head-of : (img : List ℕ) (page pos : ℕ) (i : Item) → Stood img page pos i → Head img page pos
+head-of img page pos i s =
+    let h = header-of img page pos i s in
+    record {
+      low = h .low;
+      inside = omega (arith, h .room, h .on .inside);
+      small = omega (arith, h .room, h .on .high);
+      further = h .further;
+      within = h .within;
+    }
+
+-- ── a node at a byte ──
+
+-- What is left from pos on still has the node at the target, if the record has it.
+pub record Scan (img : List ℕ) (page : ℕ) (w : OnRecord img page) (target pos : ℕ) : Type 0 where
+  pub ahead : List Item
+  pub flat : Flat img page pos (close w) ahead
+  pub keeps : List·Memᴰ (node target) (all w) → List·Memᴰ (node target) ahead
+  pub from : List·Memᴰ (node target) ahead → List·Memᴰ (node target) (all w)
+
+module _ {img : List ℕ} {page : ℕ} (w : OnRecord img page) (target : ℕ) where
+  pub scan-start : (pos : ℕ) → pos ≡ 4096 * page + cond (eqb (getD img (4096 * page) 0) 4) 6 0 → Scan img page w target pos
+  scan-start pos e =
+      let z : 4096 * page + base (w .row) ≡ pos = sym (e ∙ known w .start) in
+      record { ahead = all w; flat = subst (λ (n : ℕ). Flat img page n (close w) (all w)) z (flat-all w); keeps = λ m. m; from = λ m. m }
+
+  -- Before the record's end a header stands.
+  pub scan-head : (pos : ℕ) → Scan img page w target pos → pos < close w → Head img page pos
+  scan-head pos s h = go (s .ahead) (s .flat)
+    where
+      go : (is : List Item) → Flat img page pos (close w) is → Head img page pos
+      go [] f = absurd (omega arith)
+      go (i ∷ is) f = head-of img page pos i (f .0)
+
+  pub scan-next : (pos n : ℕ) → n ≡ step img pos → Scan img page w target pos → pos < target → pos < close w → Scan img page w target n
+  scan-next pos n e s h k = subst (Scan img page w target) (sym e) (go (s .ahead) (s .flat) (s .keeps) (s .from))
+    where
+      go : (is : List Item) → Flat img page pos (close w) is → (List·Memᴰ (node target) (all w) → List·Memᴰ (node target) is)
+          → (List·Memᴰ (node target) is → List·Memᴰ (node target) (all w)) → Scan img page w target (step img pos)
+      go [] f t u = absurd (omega arith)
+      go (i ∷ is) f t u = record { ahead = is; flat = f .1; keeps = λ m. tail (t m); from = λ m. u (List·Memᴰ·tail m) }
+        where
+          tail : List·Memᴰ (node target) (i ∷ is) → List·Memᴰ (node target) is
+          tail (List·Memᴰ·head q) = absurd (omega (arith, ap at q, header-of img page pos i (f .0) .is-at))
+          tail (List·Memᴰ·tail m) = m
+
+  -- Past the target there is none,
+  pub scan-past : (pos : ℕ) → Scan img page w target pos → target < pos → List·Memᴰ (node target) (all w) → ⊥
+  scan-past pos s h m = omega (arith, flat-low img page (s .ahead) pos (close w) (s .flat) (node target) (s .keeps m))
+
+  -- and at the target there is one unless a proxy stands there.
+  pub scan-proxy : (pos : ℕ) → Scan img page w target pos → pos ≡ target → getD img pos 0 ≡ 3 → List·Memᴰ (node target) (all w) → ⊥
+  scan-proxy pos s e k m = go (s .ahead) (s .flat) (s .keeps m)
+    where
+      kinds : (getD img pos 0 ≡ 1) ⊎ (getD img pos 0 ≡ 2) → ⊥
+      kinds (inl a) = omega arith
+      kinds (inr a) = omega arith
+
+      go : (is : List Item) → Flat img page pos (close w) is → List·Memᴰ (node target) is → ⊥
+      go (i ∷ is) f (List·Memᴰ·head q) = kinds (node-kind img page pos target (subst (Stood img page pos) (sym q) (f .0)))
+      go (i ∷ is) f (List·Memᴰ·tail n) =
+          omega (arith, header-of img page pos i (f .0) .further, flat-low img page is (step img pos) (close w) (f .1) (node target) n)
+
+  pub scan-node : (pos : ℕ) → Scan img page w target pos → pos ≡ target → pos < close w → (getD img pos 0 ≡ 3 → ⊥) → List·Memᴰ (node target) (all w)
+  scan-node pos s e h k = s .from (go (s .ahead) (s .flat))
+    where
+      go : (is : List Item) → Flat img page pos (close w) is → List·Memᴰ (node target) is
+      go [] f = absurd (omega arith)
+      go (i ∷ is) f = kinds (which img page pos i (f .0))
+        where
+          kinds : (i ≡ node pos) ⊎ ((p : ℕ) × (r : Row) × (i ≡ proxy pos p r)) → List·Memᴰ (node target) (i ∷ is)
+          kinds (inl q) = List·Memᴰ·head (ap node (sym e) ∙ sym q)
+          kinds (inr q) = absurd (k (proxy-of img page pos pos (q .0) (q .1) (subst (Stood img page pos) (q .2) (f .0)) .kind))
+
+-- The first header from the target on.
+pub record Reached (img : List ℕ) (page target r : ℕ) : Type 0 where
+  pub past : target ≤ r
+  pub scan : (w : OnRecord img page) → Scan img page w target r
+
+-- The target if a node stands there, else 0.
+pub record Standing (img : List ℕ) (page target r : ℕ) : Type 0 where
+  pub stray : r ≡ 0 → (w : OnRecord img page) → List·Memᴰ (node target) (all w) → ⊥
+  pub found : 1 ≤ r → (r ≡ target) × ((w : OnRecord img page) → List·Memᴰ (node target) (all w))
+
+-- ── a place ──
+
+-- A node of the image's store stands at this byte.
+pub record NodeAt (img : List ℕ) (pos : ℕ) : Type 0 where
+  pub settings : Config
+  pub root : Row
+  pub reads : Reads img settings root
+  pub spot : Spot root pos
+
+-- The node of a place.
+pub record NodeOf (img : List ℕ) (page offset pos : ℕ) : Type 0 where
+  pub is : pos ≡ 4096 * page + offset
+  pub short : offset < 4096
+  pub node : NodeAt img pos
+
+-- Where the node of a place stands, or 0.
+pub record Located (img : List ℕ) (page offset r : ℕ) : Type 0 where
+  pub stray : r ≡ 0 → (st : Config) (root : Row) → Reads img st root → NoNode root (record { page = page; offset = offset })
+  pub found : 1 ≤ r → NodeOf img page offset r
+
+-- The store of an image that passes the check.
+pub record Store (img : List ℕ) : Type 0 where
+  pub settings : Config
+  pub root : Row
+  pub reads : Reads img settings root
+  pub long : length img ≡ 4096 * settings .pages
+  pub many : settings .pages ≤ 1024
+
+pub store-of : (img : List ℕ) → checkOf img ≡ 0 → Store img
+store-of img z =
+    let s = passing img z in
+    record {
+      settings = s .0 .0;
+      root = s .0 .1;
+      reads = s .1;
+      long = reads-length img (s .0 .0) (s .0 .1) (s .1);
+      many = reads-valid img (s .0 .0) (s .0 .1) (s .1) .ranges .many;
+    }
+
+module _ (img : List ℕ) (page offset : ℕ) where
+  abbrev x : Place
+  x = record { page = page; offset = offset }
+
+  -- nothing is found
+  none : ((st : Config) (root : Row) → Reads img st root → NoNode root x) → Located img page offset 0
+  none f = record { stray = λ _. f; found = λ h. absurd (omega arith) }
+
+  pub no-page : page ≡ 0 → Located img page offset 0
+  no-page e = none (λ st root r n m p. omega (arith, node-spot img st root r n m x p .1 .low))
+
+  pub past-pages : length img / 4096 ≤ page → Located img page offset 0
+  past-pages h = none (λ st root r n m p. omega (arith, reads-length img st root r, node-spot img st root r n m x p .1 .high))
+
+  -- The record that a place's node is in is its page's.
+  module _ (st : Config) (root : Row) (r : Reads img st root) (n : Node) (m : Mem n (nodes (shown root))) (p : placeOf root (n .path) ≡ some x) where
+    the-spot : Spot root (4096 * page + offset)
+    the-spot = spot-of root (4096 * page + offset) (node-spot img st root r n m x p .0)
+
+    its-page : the-spot .page ≡ page
+    its-page =
+        let h = spot-header img st root r (4096 * page + offset) the-spot in
+        omega (arith, h .low, h .room, node-spot img st root r n m x p .1 .fits)
+
+    its-record : OnRecord img page
+    its-record =
+        subst (OnRecord img) its-page
+        (record { settings = st; root = root; reads = r; holder = the-spot .holder; row = the-spot .row; before = the-spot .before; after = the-spot .after; depth = the-spot .depth; within = the-spot .within })
+
+    its-state : getD img (4096 * page + 4080) 0 ≡ 1
+    its-state = view its-record .state
+
+    its-item : (w : OnRecord img page) → w .root ≡ root → List·Memᴰ (node (4096 * page + offset)) (all w)
+    its-item w b =
+        let i = node-spot img st root r n m x p in
+        let v : Reads img (w .settings) (w .root) = w .reads in
+        spot-item img (w .settings) (w .root) v (w .within) (4096 * page + offset) (omega arith) (omega (arith, i .1 .fits)) (rw b (i .0))
+
+    its-end : 4096 * page + offset < 4096 * page + twoAt img (4096 * page + 4082)
+    its-end =
+        let s = the-spot in
+        let v = in-page img st root r (s .within) in
+        let i = item-at img (s .page) (4096 * s .page + base (s .row)) (s .row) (v .here) (s .left) (s .right) (node (4096 * page + offset)) (s .split) in
+        let h = header-of img (s .page) (4096 * page + offset) (node (4096 * page + offset)) (i .0) in
+        let e = flat-le img (s .page) (s .right) (step img (4096 * page + offset)) (4096 * s .page + base (s .row) + size (s .row)) (i .1) in
+        let u : twoAt img (4096 * page + 4082) ≡ recordSize (s .row) = subst (λ (q : ℕ). twoAt img (4096 * q + 4082) ≡ recordSize (s .row)) its-page (v .used) in
+        omega (arith, h .further, e, its-page, u)
+
+  pub no-record : (getD img (4096 * page + 4080) 0 ≡ 1 → ⊥) → Located img page offset 0
+  no-record f = none (λ st root r n m p. f (its-state st root r n m p))
+
+  pub past-end : twoAt img (4096 * page + 4082) ≤ offset → Located img page offset 0
+  past-end h = none (λ st root r n m p. omega (arith, its-end st root r n m p))
+
+  record-in : (st : Config) (root : Row) → Reads img st root → 1 ≤ page → page < length img / 4096 → getD img (4096 * page + 4080) 0 ≡ 1 → OnRecord img page
+  record-in st root r low high e =
+      let (holder, row, before, after, d, w) = page-in img st root r page (omega (arith, reads-length img st root r)) low e in
+      record { settings = st; root = root; reads = r; holder = holder; row = row; before = before; after = after; depth = d; within = w }
+
+  pub its-page-in : checkOf img ≡ 0 → 1 ≤ page → page < length img / 4096 → getD img (4096 * page + 4080) 0 ≡ 1 → OnRecord img page
+  its-page-in z low high e = let s = store-of img z in record-in (s .settings) (s .root) (s .reads) low high e
+
+  pub located : (r : ℕ) → checkOf img ≡ 0 → 1 ≤ page → page < length img / 4096 → getD img (4096 * page + 4080) 0 ≡ 1 → Standing img page (4096 * page + offset) r → Located img page offset r
+  unfolding record-in item-spot its-page-in
+  located r z low high e s = record {
+    stray = λ q st root reads n m p.
+        let w = record-in st root reads low high e in
+        s .stray q w (its-item st root reads n m p w refl);
+    found = λ q.
+        let w = its-page-in z low high e in
+        let i = s .found q in
+        let here : Spot (w .root) (4096 * page + offset) = item-spot img (w .settings) (w .root) (w .reads) (w .within) (4096 * page + offset) (i .1 w) in
+        record {
+          is = i .0;
+          short = omega (arith, spot-header img (w .settings) (w .root) (w .reads) (4096 * page + offset) here .room);
+          node = record { settings = w .settings; root = w .root; reads = w .reads; spot = subst (Spot (w .root)) (sym (i .0)) here };
+        };
+  }
+
+-- ── the proxy that names a page ──
+
+-- The record of `page` is held by that of `holder`, which has the proxy to it at `pos`.
+pub record HeldBy (img : List ℕ) (holder page : ℕ) : Type 0 where
+  pub above : OnRecord img holder
+  pub left : List Item
+  pub right : List Item
+  pub pos : ℕ
+  pub row : Row
+  pub split : all above ≡ left ++ proxy pos page row ∷ right
+
+-- What is left from pos on has the proxy that is looked for, and names the page once.
+pub record Sought (img : List ℕ) (holder page target pos : ℕ) : Type 0 where
+  pub end : ℕ
+  pub left : List Item
+  pub right : List Item
+  pub row : Row
+  pub flat : Flat img holder pos end (left ++ proxy target page row ∷ right)
+  pub once : named page (left ++ proxy target page row ∷ right) ≤ 1
+
+-- A proxy to the page stands at pos.
+abbrev pub names : (img : List ℕ) (pos page : ℕ) → Bool
+names img pos page = cond (eqb (getD img pos 0) 3) (eqb (twoAt img (pos + 6)) page) false
+
+names-true : (img : List ℕ) (pos page : ℕ) → names img pos page ≡ true → (getD img pos 0 ≡ 3) × (twoAt img (pos + 6) ≡ page)
+names-true img pos page e = go (eqb (getD img pos 0) 3) refl e
+  where
+    go : (b : Bool) → eqb (getD img pos 0) 3 ≡ b → cond b (eqb (twoAt img (pos + 6)) page) false ≡ true → (getD img pos 0 ≡ 3) × (twoAt img (pos + 6) ≡ page)
+    go true k e = (eqb-true (getD img pos 0) 3 k, eqb-true (twoAt img (pos + 6)) page e)
+    go false k e = absurd (true≢false (sym e))
+
+true-names : (img : List ℕ) (pos page : ℕ) → getD img pos 0 ≡ 3 → twoAt img (pos + 6) ≡ page → names img pos page ≡ true
+true-names img pos page k n = rw (eq-eqb (getD img pos 0) 3 k) (eq-eqb (twoAt img (pos + 6)) page n)
+
+module _ {img : List ℕ} {holder page : ℕ} where
+  pub sought-start : (w : HeldBy img holder page) (pos : ℕ) → pos ≡ 4096 * holder + cond (eqb (getD img (4096 * holder) 0) 4) 6 0 → Sought img holder page (w .pos) pos
+  sought-start w pos e =
+      let a = w .above in
+      let z : 4096 * holder + base (a .row) ≡ pos = sym (e ∙ known a .start) in
+      record {
+        end = close a;
+        left = w .left;
+        right = w .right;
+        row = w .row;
+        flat = subst (λ (n : ℕ). Flat img holder n (close a) (w .left ++ proxy (w .pos) page (w .row) ∷ w .right)) z (subst (Flat img holder (4096 * holder + base (a .row)) (close a)) (w .split) (flat-all a));
+        once = rw (← w .split) (omega (arith, named-items page (4096 * holder + base (a .row)) (a .row), in-once img (a .settings) (a .root) (a .reads) (a .within) page));
+      }
+
+  module _ {target pos : ℕ} (s : Sought img holder page target pos) where
+    pub sought-head : Head img holder pos
+    sought-head = go (s .left) (s .flat)
+      where
+        go : (left : List Item) → Flat img holder pos (s .end) (left ++ proxy target page (s .row) ∷ s .right) → Head img holder pos
+        go [] f = head-of img holder pos (proxy target page (s .row)) (f .0)
+        go (i ∷ left) f = head-of img holder pos i (f .0)
+
+    -- The first proxy that names the page is the one looked for,
+    pub sought-hit : names img pos page ≡ true → pos ≡ target
+    sought-hit t = go (s .left) (s .flat) (s .once)
+      where
+        go : (left : List Item) → Flat img holder pos (s .end) (left ++ proxy target page (s .row) ∷ s .right) → named page (left ++ proxy target page (s .row) ∷ s .right) ≤ 1 → pos ≡ target
+        go [] f o = sym (header-of img holder pos (proxy target page (s .row)) (f .0) .is-at)
+        go (i ∷ left) f o = kinds (which img holder pos i (f .0))
+          where
+            k : (getD img pos 0 ≡ 3) × (twoAt img (pos + 6) ≡ page)
+            k = names-true img pos page t
+
+            no-node : (getD img pos 0 ≡ 1) ⊎ (getD img pos 0 ≡ 2) → ⊥
+            no-node (inl a) = omega (arith, k .0)
+            no-node (inr a) = omega (arith, k .0)
+
+            kinds : (i ≡ node pos) ⊎ ((p : ℕ) × (r : Row) × (i ≡ proxy pos p r)) → pos ≡ target
+            kinds (inl q) = absurd (no-node (node-kind img holder pos pos (subst (Stood img holder pos) q (f .0))))
+            kinds (inr q) =
+                let p = proxy-of img holder pos pos (q .0) (q .1) (subst (Stood img holder pos) (q .2) (f .0)) in
+                let one : eqb page (q .0) ≡ true = eq-eqb page (q .0) (sym (k .1) ∙ p .name) in
+                let two : eqb page page ≡ true = eq-eqb page page refl in
+                let o₁ : named page (proxy pos (q .0) (q .1) ∷ left ++ proxy target page (s .row) ∷ s .right) ≤ 1 = subst (λ (i : Item). named page (i ∷ left ++ proxy target page (s .row) ∷ s .right) ≤ 1) (q .2) o in
+                let o₂ : 1 + named page (left ++ proxy target page (s .row) ∷ s .right) ≤ 1 = rw one at o₁ in
+                let n : named page (left ++ proxy target page (s .row) ∷ s .right) ≡ named page left + (1 + named page (s .right)) = rw two at (named-++ page left (proxy target page (s .row) ∷ s .right)) in
+                absurd (omega arith)
+
+    -- and until then it is further on.
+    pub sought-next : (n : ℕ) → n ≡ step img pos → names img pos page ≡ false → Sought img holder page target n
+    sought-next n e t = subst (Sought img holder page target) (sym e) (go (s .left) (s .flat) (s .once))
+      where
+        go : (left : List Item) → Flat img holder pos (s .end) (left ++ proxy target page (s .row) ∷ s .right) → named page (left ++ proxy target page (s .row) ∷ s .right) ≤ 1 → Sought img holder page target (step img pos)
+        go [] f o =
+            let p = proxy-of img holder pos target page (s .row) (f .0) in
+            absurd (true≢false (sym (true-names img pos page (p .kind) (p .name)) ∙ t))
+        go (node q ∷ left) f o = record { end = s .end; left = left; right = s .right; row = s .row; flat = f .1; once = o }
+        go (proxy q p r ∷ left) f o = record { end = s .end; left = left; right = s .right; row = s .row; flat = f .1; once = omega arith }
+
+-- ── what the leaves compute ──
+
+pub step-one : (img : List ℕ) (pos : ℕ) → getD img pos 0 ≡ 1 → pos + 6 ≡ step img pos
+unfolding step
+step-one img pos k = rw k
+
+pub step-more : (img : List ℕ) (pos n : ℕ) → (getD img pos 0 ≡ 1 → ⊥) → n ≡ twoAt img (pos + 4) → pos + n ≡ step img pos
+unfolding step
+step-more img pos n k e = rw (ne-eqb (getD img pos 0) 1 k, e)
+
+pub names-some : (img : List ℕ) (pos page n : ℕ) → getD img pos 0 ≡ 3 → n ≡ twoAt img (pos + 6) → eqb n page ≡ names img pos page
+names-some img pos page n k e = rw (k, e)
+
+pub names-none : (img : List ℕ) (pos page : ℕ) → (getD img pos 0 ≡ 3 → ⊥) → false ≡ names img pos page
+names-none img pos page k = rw (ne-eqb (getD img pos 0) 3 k)
+
+-- ── the scan's end ──
+
+module _ (img : List ℕ) (page target r : ℕ) (s : Reached img page target r) where
+  pub standing-past : (r ≡ target → ⊥) → Standing img page target 0
+  standing-past f = record { stray = λ _ w m. scan-past w target r (s .scan w) (omega (arith, s .past)) m; found = λ h. absurd (omega arith) }
+
+  pub standing-proxy : r ≡ target → getD img r 0 ≡ 3 → Standing img page target 0
+  standing-proxy e k = record { stray = λ _ w m. scan-proxy w target r (s .scan w) e k m; found = λ h. absurd (omega arith) }
+
+  module _ (w : OnRecord img page) (e : r ≡ target) (h : target < 4096 * page + twoAt img (4096 * page + 4082)) where
+    reached-head : Head img page r
+    reached-head = scan-head w target r (s .scan w) (omega (arith, known w .end))
+
+    pub reached-inside : r < length img
+    reached-inside = omega (arith, reached-head .inside)
+
+    pub standing-node : (getD img r 0 ≡ 3 → ⊥) → Standing img page target r
+    standing-node k = record {
+      stray = λ z. absurd (omega (arith, reached-head .low, known w .on .low));
+      found = λ _. (e, λ w. scan-node w target r (s .scan w) e (omega (arith, known w .end)) k);
+    }

@@ -1,0 +1,268 @@
+// Moving about in an image that passes the check: the node of a place, and the next one in document order.
+use read_find::row_end;
+use read_find::row_start;
+use read_find::width;
+use model::Kind;
+use model::Next;
+use model::NextAnswer;
+use model::NextNode;
+use model::Place;
+use model::ReadNode;
+use base_numbers::two;
+ghost use mathlib.Core.Path.{_≡_};
+ghost use mathlib.Core.Bool.{false, cond};
+ghost use Prim.Native.Nat.{ℕ, _+_, _*_, _≤_, _<_};
+ghost use lib.ListN.{length, getD};
+ghost use lib.Dec.{eqb};
+ghost use Rattle.model.specs.Reading.{twoAt};
+ghost use Rattle.model.specs.Calls.{checkOf, kindOf, nextOf, readOf};
+ghost use Rattle.theory_layout.specs.Order.{step};
+ghost use Rattle.theory_layout.specs.Widths.{Widths};
+ghost use Rattle.read_next.specs.Scan.{OnRecord, Reached, Standing, Located, HeldBy, NodeAt, names as namesPage};
+ghost use Rattle.read_next.specs.Read.{Inner, aggRead, litRead};
+ghost use Rattle.read_next.specs.Follow.{Climbed, Ahead, Follows, Nexted};
+
+// Where the header after the one at pos stands.
+fn flat(image: &[u8], pos: usize) -> usize
+    requires { ⌜ (pos + 5 < length (now image)) × (pos < 4194304) ⌝ }
+    ensures { λ r. ⌜ r ≡ step (now (image .entry)) pos ⌝ }
+{
+    if image[pos] == 1 {
+        return pos + 6;
+    }
+    pos + two(image, pos + 4)
+}
+
+// ── a place ──
+
+// The first header of a record from the target on, which is before the record's end.
+fn reach(image: &[u8], page: usize, target: usize) -> usize
+    requires { ⌜ OnRecord (now image) page × (target < 4096 * page + twoAt (now image) (4096 * page + 4082)) ⌝ }
+    ensures { λ r. ⌜ Reached (now (image .entry)) page target r ⌝ }
+{
+    let mut pos = row_start(image, page);
+    while pos < target {
+        pos = flat(image, pos);
+    }
+    pos
+}
+
+// The target if a node stands there, else 0.
+fn standing(image: &[u8], page: usize, target: usize) -> usize
+    requires { ⌜ OnRecord (now image) page × (target < 4096 * page + twoAt (now image) (4096 * page + 4082)) ⌝ }
+    ensures { λ r. ⌜ Standing (now (image .entry)) page target r ⌝ }
+{
+    let pos = reach(image, page, target);
+    if pos != target {
+        return 0;
+    }
+    if image[pos] == 3 {
+        return 0;
+    }
+    pos
+}
+
+// Where the node of a place stands in the image, 0 if there is none.
+pub fn node_at(image: &[u8], page: usize, offset: usize) -> usize
+    requires { ⌜ checkOf (now image) ≡ 0 ⌝ }
+    ensures { λ r. ⌜ Located (now (image .entry)) page offset r ⌝ }
+{
+    if page == 0 {
+        return 0;
+    }
+    if image.len() / 4096 <= page {
+        return 0;
+    }
+    let a = 4096 * page;
+    if image[a + 4080] != 1 {
+        return 0;
+    }
+    if two(image, a + 4082) <= offset {
+        return 0;
+    }
+    standing(image, page, a + offset)
+}
+
+// ── the next node ──
+
+// Whether a proxy to the page stands at pos.
+fn names(image: &[u8], pos: usize, page: usize) -> bool
+    requires { ⌜ (pos + 7 < length (now image)) × (pos < 4194304) ⌝ }
+    ensures { λ r. ⌜ r ≡ namesPage (now (image .entry)) pos page ⌝ }
+{
+    if image[pos] == 3 {
+        return two(image, pos + 6) == page;
+    }
+    false
+}
+
+// Where the holder's record has the proxy to the page.
+pub fn find_proxy(image: &[u8], holder: usize, page: usize) -> usize
+    requires { ⌜ HeldBy (now image) holder page ⌝ }
+    ensures { λ r. ⌜ ((w : HeldBy (now (image .entry)) holder page) → r ≡ w .pos) ⌝ }
+{
+    let mut pos = row_start(image, holder);
+    while !names(image, pos, page) {
+        pos = flat(image, pos);
+    }
+    pos
+}
+
+// The next item after a node, which past the end of a record stands behind the record's proxy; 0 at the end.
+fn climb(image: &[u8], pos: usize) -> usize
+    requires { ⌜ NodeAt (now image) pos ⌝ }
+    ensures { λ r. ⌜ Climbed (now (image .entry)) pos r ⌝ }
+{
+    let mut page = pos / 4096;
+    let mut at = flat(image, pos);
+    let mut left: usize = 1024;
+    while at == row_end(image, page) {
+        if page == 1 {
+            return 0;
+        }
+        let holder = two(image, 4096 * page + 4084);
+        at = find_proxy(image, holder, page) + 8;
+        page = holder;
+        left = left - 1;
+    }
+    at
+}
+
+// The first node of an item: a proxy's is the first of its record.
+fn enter(image: &[u8], item: usize) -> usize
+    requires { ⌜ ((pos : ℕ) × Ahead (now image) pos item) ⌝ }
+    ensures { λ r. ⌜ ((pos : ℕ) → Ahead (now (image .entry)) pos item → Follows (now (image .entry)) pos r × (1 ≤ r)) ⌝ }
+{
+    let mut at = item;
+    let mut left: usize = 1024;
+    while image[at] == 3 {
+        at = row_start(image, two(image, at + 6));
+        left = left - 1;
+    }
+    at
+}
+
+// The node after the one at pos, 0 at the end.
+pub fn next_in(image: &[u8], pos: usize) -> usize
+    requires { ⌜ NodeAt (now image) pos ⌝ }
+    ensures { λ r. ⌜ Nexted (now (image .entry)) pos r ⌝ }
+{
+    let item = climb(image, pos);
+    if item == 0 {
+        return 0;
+    }
+    enter(image, item)
+}
+
+fn kind_at(image: &[u8], pos: usize) -> Kind
+    requires { ⌜ pos < length (now image) ⌝ }
+    ensures { λ r. ⌜ r ≡ kindOf (getD (now (image .entry)) pos 0) ⌝ }
+{
+    if image[pos] == 1 {
+        return Kind::Aggregate;
+    }
+    Kind::Literal
+}
+
+// Next: 0, or 10 where the place is no node's.
+pub fn next_of(image: &[u8], x: Place) -> NextAnswer
+    requires { ⌜ checkOf (now image) ≡ 0 ⌝ }
+    ensures { λ r. ⌜ r ≡ nextOf (now (image .entry)) x ⌝ }
+{
+    let pos = node_at(image, x.page, x.offset);
+    if pos == 0 {
+        return NextAnswer {
+            number: 10,
+            next: Next::End,
+        };
+    }
+    let at = next_in(image, pos);
+    if at == 0 {
+        return NextAnswer {
+            number: 0,
+            next: Next::End,
+        };
+    }
+    let kind = kind_at(image, at);
+    let place = Place {
+        page: at / 4096,
+        offset: at % 4096,
+    };
+    NextAnswer {
+        number: 0,
+        next: Next::Node(NextNode {
+            place: place,
+            kind: kind,
+        }),
+    }
+}
+
+// ── a node's numbers ──
+
+// An aggregate's; `widths` has how many nodes each record shows.
+fn read_agg(image: &[u8], widths: &[u32; 1024], pos: usize) -> ReadNode
+    requires { ⌜ (pos + 5 < length (now image)) × (pos < 4194304) × Inner (now image) pos × Widths (now image) (now widths) ⌝ }
+    ensures { λ r. ⌜ ((w : Inner (now (image .entry)) pos) → r ≡ aggRead (now (image .entry)) pos (w .row)) ⌝ }
+{
+    let label = two(image, pos + 2);
+    let end = pos + two(image, pos + 4);
+    let n = width(image, widths, pos + 6, end);
+    ReadNode {
+        number: 0,
+        kind: 1,
+        label: label as u32,
+        children: n as u32,
+        start: 0,
+        len: 0,
+    }
+}
+
+// Where the content of a literal starts; an empty one has no place.
+fn content_at(pos: usize, len: usize) -> usize
+    requires { ⌜ pos < 4194304 ⌝ }
+    ensures { λ r. ⌜ r ≡ cond (eqb len 0) 0 (pos + 6) ⌝ }
+{
+    if len == 0 {
+        return 0;
+    }
+    pos + 6
+}
+
+fn read_lit(image: &[u8], pos: usize) -> ReadNode
+    requires { ⌜ (pos + 5 < length (now image)) × (pos < 4194304) × (6 ≤ twoAt (now image) (pos + 4)) ⌝ }
+    ensures { λ r. ⌜ r ≡ litRead (now (image .entry)) pos ⌝ }
+{
+    let label = two(image, pos + 2);
+    let len = two(image, pos + 4) - 6;
+    let start = content_at(pos, len);
+    ReadNode {
+        number: 0,
+        kind: 2,
+        label: label as u32,
+        children: 0,
+        start: start,
+        len: len,
+    }
+}
+
+// Read: 0, or 10 where the place is no node's; the content is a part of the image.
+pub fn read_of(image: &[u8], widths: &[u32; 1024], x: Place) -> ReadNode
+    requires { ⌜ (checkOf (now image) ≡ 0) × Widths (now image) (now widths) ⌝ }
+    ensures { λ r. ⌜ r ≡ readOf (now (image .entry)) x ⌝ }
+{
+    let pos = node_at(image, x.page, x.offset);
+    if pos == 0 {
+        return ReadNode {
+            number: 10,
+            kind: 0,
+            label: 0,
+            children: 0,
+            start: 0,
+            len: 0,
+        };
+    }
+    if image[pos] == 1 {
+        return read_agg(image, widths, pos);
+    }
+    read_lit(image, pos)
+}

@@ -1,0 +1,12 @@
+pub mod Open
+pub mod Paths
+pub mod Pieces
+pub mod Query
+pub mod Stand
+pub mod Format
+pub mod Insert
+pub mod Demand
+pub mod Navigate
+pub mod Split
+pub mod Added
+pub mod Growth

@@ -1,0 +1,27 @@
+-- The claim of a split, for every target and tolerance together.
+use mathlib.Core.Bool.{Bool, true, false}
+use native.Mathlib.Omega.{arith}
+use Rattle.model.specs.Row.{Row, nil, agg, lit, rec, lone, records, Config}
+use Rattle.model.specs.Growth.{rootRow, separator}
+use Rattle.model.specs.Claims.{Split}
+use Rattle.theory_rows.specs.Fits.{Fits}
+use Rattle.theory_rows.specs.Bound.{split-good}
+use Rattle.theory_rows.specs.Keeps.{depth-height}
+use Rattle.theory_rows.specs.Image.{fits-records}
+use Rattle.theory_decoding.specs.Valid.{ranges-say, fits-says}
+use Rattle.theory_calls.specs.Stand.{largest-fits}
+
+root-fits : (st : Config) (b : Bool) (r : Row) → Fits r → Fits (rootRow st b r)
+root-fits st false r f = f
+root-fits st true nil f = tt
+root-fits st true (agg h cs rest) f = f .1
+root-fits st true (lit h c rest) f = tt
+root-fits st true (rec p s r rest) f = tt
+
+pub split : Split
+split st near r w ranges fit over most high =
+    let f = fits-says r fit in
+    let children = rootRow st (lone r) r in
+    let good = split-good st (ranges-say st ranges) near r w f over most (omega (arith, depth-height children (root-fits st (lone r) r f))) in
+    let sep = separator st near r w .0 in
+    record { separated = good .small; records = largest-fits (records near sep) (fits-records near sep (good .fits)); lean = good .lean }

@@ -1,0 +1,82 @@
+-- The check passes whatever reads.
+use mathlib.Core.Path.{_≡_, refl, ap, _∙_}
+use mathlib.Core.Bool.{true, cond, _&&_}
+use mathlib.Core.List.{List}
+use Prim.Native.Nat.{ℕ, suc, _-_, _/_}
+use native.Mathlib.Omega.{arith}
+use lib.ListN.{length, getD, replicate}
+use lib.Seq.{take-at}
+use borrow.Author.Tests.{ne-eqb}
+use Rattle.model.specs.Row.{Row, store, Held, records, settingsPage, pagesFrom, image, lone, byTable, mayStand, standing, Config}
+use Rattle.model.specs.Reading.{Reads, pageOf}
+use Rattle.theory_rows.specs.Fits.{Valid}
+use Rattle.theory_rows.specs.Store.{settled-lone}
+use Rattle.theory_rows.specs.Image.{length-settings, once}
+use Rattle.theory_decoding.specs.Valid.{both, by-table}
+use Rattle.theory_decoding.specs.Steps.{recordCount}
+use Rattle.theory_decoding.specs.Length.{length-image, image-length-ok}
+use Rattle.theory_decoding.specs.Decode.{stored-image}
+use Rattle.theory_decoding.specs.Reading.{reads-valid}
+use Rattle.theory_check.specs.Walk.{state, Decoded, recordOf, nodeOf}
+use Rattle.theory_check.specs.Check.{trailersOf, walkOf, walkOk, checkBy}
+use Rattle.theory_check.specs.Marks.{marks-none, none-marked}
+use Rattle.theory_check.specs.Nodes.{record-node}
+use Rattle.theory_check.specs.Pages.{settings-ok, first-ok, root-kind, record-of, on-page}
+use Rattle.theory_check.specs.Scan.{named-range, scan-image}
+use Rattle.theory_check.specs.Fresh.{Fresh}
+use Rattle.theory_check.specs.Walked.{done, walked}
+
+module _ (st : Config) (root : Row) (v : Valid st root) where
+  abbrev img : List ℕ
+  img = image st root
+
+  abbrev first : Held
+  first = record { page = 1; settled = true; holder = 0; row = root }
+
+  zero-page : pageOf img 0 ≡ settingsPage st
+  unfolding image
+  zero-page = take-at (settingsPage st) (pagesFrom (records 0 (store root)) (st .pages - 1) 1) 4096 (length-settings st (v .ranges .entries))
+
+  trailers-image : trailersOf img ≡ suc (recordCount root)
+  unfolding trailersOf
+  trailers-image =
+      let n : length img / 4096 ≡ st .pages = omega (arith, length-image st root v) in
+      rw (n, zero-page, settings-ok st (v .ranges), stored-image st root v .0, first-ok first (v .rows .0 .fits) refl refl) (scan-image st root v)
+
+  fresh-image : Fresh (st .pages) (replicate 128 0) root
+  fresh-image = record {
+    marks = marks-none;
+    range = named-range st root v;
+    once = λ q. omega (arith, once st root v q);
+    new = λ q h. none-marked q;
+  }
+
+  root-stands : cond (lone root) (byTable 0 root) (mayStand 0 4 && byTable 4 root) ≡ true
+  unfolding mayStand standing
+  root-stands = both (cond (lone root) (byTable 0 root) (byTable 4 root)) true (by-table (store root) (v .rows)) .0
+
+  walk-image : (m : List ℕ) → Fresh (st .pages) m root → nodeOf img (recordOf img 1) 1 0 1 (state (suc (recordCount root)) m) ≡ done root 1 m
+  walk-image m u =
+      let stored = stored-image st root v in
+      let fit = v .rows .0 in
+      rw (record-of img 1 first fit (stored .0)) (
+      record-node img 1 1 (state (suc (recordCount root)) m) (omega arith) true root (done root 1 m) fit root-stands
+      (λ x y. walked img (st .pages) (v .ranges .many) (length-image st root v) root 1 x 1 (suc (recordCount root)) 1 m (v .rows .1) (omega (arith, fit .fits)) y (stored .1)
+      (omega arith) (omega (arith, v .levels)) u (omega arith) (omega arith))
+      )
+
+  root-first : getD img 4096 0 ≡ 1
+  root-first =
+      on-page img 1 first (v .rows .0) (stored-image st root v .0) 0 4096 refl (omega arith)
+      ∙ root-kind root _ _ (settled-lone root (v .rows .0 .shape)) ∙ rw (v .top)
+
+  check-image : checkBy img ≡ 0
+  unfolding checkBy walkOk walkOf
+  check-image =
+      let n = suc (recordCount root) in
+      let left : walkOf img n .walk .left ≡ 1 = ap (λ (d : Decoded). d .walk .left) (walk-image (replicate 128 0) fresh-image) in
+      rw (image-length-ok st root v, trailers-image, ne-eqb n 0 (λ z. omega arith), root-first, left)
+
+-- What reads passes the check.
+pub complete : (img : List ℕ) (st : Config) (root : Row) → Reads img st root → checkBy img ≡ 0
+complete img st root r = ap checkBy (r .same) ∙ check-image st root (reads-valid img st root r)

@@ -1,0 +1,104 @@
+-- What a header that passes says of its node's bytes.
+use mathlib.Core.Path.{_≡_, refl, sym, ap, ap₂, _∙_}
+use mathlib.Core.List.{List, [], _∷_, _++_}
+use mathlib.Core.Bool.{Bool, true, false, cond}
+use Prim.Native.Nat.{ℕ, zero, suc, _+_, _*_, _/_, _%_, _≤_, _<_}
+use native.Mathlib.Omega.{arith}
+use lib.ListN.{length, take, drop, getD}
+use lib.Seq.{getD-drop}
+use lib.Dec.{eqb, ltb}
+use borrow.Author.Tests.{ltb-false, eqb-true}
+use Rattle.model.specs.Row.{two, header, mayStand}
+use Rattle.model.specs.Reading.{twoAt}
+use Rattle.theory_rows.specs.Fits.{IsByte}
+use Rattle.theory_check.specs.Tests.{headOf, shapeOf}
+
+-- ── bytes ──
+
+-- Every number of a list is a byte.
+abbrev pub AllBytes : List ℕ → Type 0
+AllBytes s = (i : ℕ) → getD s i 0 < 256
+
+pub all-drop : (n : ℕ) (s : List ℕ) → AllBytes s → AllBytes (drop n s)
+all-drop n s h i = rw getD-drop (h (n + i))
+
+pub all-take : (n : ℕ) (s : List ℕ) → AllBytes s → AllBytes (take n s)
+all-take zero s h i = omega arith
+all-take (suc n) [] h i = omega arith
+all-take (suc n) (x ∷ xs) h zero = h zero
+all-take (suc n) (x ∷ xs) h (suc i) = all-take n xs (λ j. h (suc j)) i
+
+pub is-byte : (s : List ℕ) → AllBytes s → IsByte s
+is-byte [] h = tt
+is-byte (x ∷ s) h = (h 0, is-byte s (λ i. h (suc i)))
+
+-- two bytes and their number
+two-is : (a b : ℕ) → a < 256 → b < 256 → two (a + 256 * b) ≡ a ∷ b ∷ []
+two-is a b h k =
+    let low : (a + 256 * b) % 256 ≡ a = omega arith in
+    let high : (a + 256 * b) / 256 ≡ b = omega arith in
+    let whole : b % 256 ≡ b = omega arith in
+    rw (low, high, whole)
+
+pub two-at : (s : List ℕ) (i : ℕ) → AllBytes s → two (twoAt s i) ≡ getD s i 0 ∷ getD s (i + 1) 0 ∷ []
+unfolding twoAt
+two-at s i all = two-is (getD s i 0) (getD s (i + 1) 0) (all i) (all (i + 1))
+
+pub two-low : (s : List ℕ) (i : ℕ) → AllBytes s → twoAt s i < 65536
+unfolding twoAt
+two-low s i all = omega (arith, all i, all (i + 1))
+
+six : (s : List ℕ) → 6 ≤ length s → s ≡ getD s 0 0 ∷ getD s 1 0 ∷ getD s 2 0 ∷ getD s 3 0 ∷ getD s 4 0 ∷ getD s 5 0 ∷ drop 6 s
+six [] h = absurd (omega arith)
+six (a ∷ []) h = absurd (omega arith)
+six (a ∷ b ∷ []) h = absurd (omega arith)
+six (a ∷ b ∷ d ∷ []) h = absurd (omega arith)
+six (a ∷ b ∷ d ∷ e ∷ []) h = absurd (omega arith)
+six (a ∷ b ∷ d ∷ e ∷ f ∷ []) h = absurd (omega arith)
+six (a ∷ b ∷ d ∷ e ∷ f ∷ g ∷ r) h = refl
+
+-- ── heads ──
+
+-- A node of this kind that passes every test of `headOf`.
+pub record Head (s : List ℕ) (holder kind : ℕ) : Type 0 where
+  pub all : AllBytes s
+  pub long : 6 ≤ length s
+  pub small : kind ≤ 4
+  pub first : getD s 0 0 ≡ kind
+  pub second : getD s 1 0 ≡ 0
+  pub size : twoAt s 4 ≡ length s
+  pub may : mayStand holder kind ≡ true
+  pub shape : shapeOf s kind ≡ true
+
+pub head-says : (s : List ℕ) (holder kind : ℕ) → AllBytes s → headOf s holder ≡ kind → (kind ≡ 0 → ⊥) → Head s holder kind
+unfolding headOf
+head-says s holder kind all e z = go _ _ _ _ _ _ refl refl refl refl refl refl e
+  where
+    go : (a b c d f g : Bool) → ltb (length s) 6 ≡ a → ltb 4 (getD s 0 0) ≡ b → mayStand holder (getD s 0 0) ≡ c → eqb (getD s 1 0) 0 ≡ d
+        → eqb (twoAt s 4) (length s) ≡ f → shapeOf s (getD s 0 0) ≡ g
+        → cond a 0 (cond b 0 (cond c (cond d (cond f (cond g (getD s 0 0) 0) 0) 0) 0)) ≡ kind → Head s holder kind
+    go true b c d f g p q r t u v e = absurd (z (sym e))
+    go false true c d f g p q r t u v e = absurd (z (sym e))
+    go false false false d f g p q r t u v e = absurd (z (sym e))
+    go false false true false f g p q r t u v e = absurd (z (sym e))
+    go false false true true false g p q r t u v e = absurd (z (sym e))
+    go false false true true true false p q r t u v e = absurd (z (sym e))
+    go false false true true true true p q r t u v e = record {
+      all = all;
+      long = ltb-false (length s) 6 p;
+      small = omega (arith, ltb-false 4 (getD s 0 0) q);
+      first = e;
+      second = eqb-true (getD s 1 0) 0 t;
+      size = eqb-true (twoAt s 4) (length s) u;
+      may = ap (mayStand holder) (sym e) ∙ r;
+      shape = ap (shapeOf s) (sym e) ∙ v;
+    }
+
+-- The bytes are the header and what follows it.
+pub header-is : (s : List ℕ) (holder kind : ℕ) → Head s holder kind → s ≡ header kind (twoAt s 2) (length s) ++ drop 6 s
+header-is s holder kind h =
+    let label = two-at s 2 (h .all) in
+    let size : two (length s) ≡ getD s 4 0 ∷ getD s 5 0 ∷ [] = ap two (sym (h .size)) ∙ two-at s 4 (h .all) in
+    six s (h .long)
+    ∙ ap₂ (λ (k z : ℕ). k ∷ z ∷ getD s 2 0 ∷ getD s 3 0 ∷ getD s 4 0 ∷ getD s 5 0 ∷ drop 6 s) (h .first) (h .second)
+    ∙ sym (ap₂ (λ (x y : List ℕ). (kind ∷ 0 ∷ x ++ y) ++ drop 6 s) label size)

@@ -1,0 +1,174 @@
+-- What the walk makes of the bytes of one node, and of a list that starts with it.
+use mathlib.Core.Path.{_≡_, refl, sym, ap, _∙_}
+use mathlib.Core.Bool.{Bool, true, false, cond, _&&_, false≢true}
+use mathlib.Core.List.{List, [], _++_}
+use Prim.Native.Nat.{ℕ, _+_, _≤_, _<_}
+use native.Mathlib.Omega.{arith}
+use lib.ListN.{length, length-append}
+use lib.Seq.{take-at, drop-at, take-length, drop-length}
+use borrow.Author.Tests.{le-ltb, lt-ltb, le-leb, eq-eqb, ne-eqb}
+use Rattle.model.specs.Row.{Row, nil, agg, lit, rec, _⊹_, size, lone, nodeCount, two, header, bytes, recordBytes, mayStand, standing, byTable}
+use Rattle.model.specs.Reading.{twoAt}
+use Rattle.theory_rows.specs.Laws.{length-bytes, isNil-nil, ⊹-nil}
+use Rattle.theory_rows.specs.Fits.{Shape, one, more, RecordFits}
+use Rattle.theory_decoding.specs.Decode.{two-bytes}
+use Rattle.theory_check.specs.Tests.{sizeOf, twoChildren, shapeOf, headOf}
+use Rattle.theory_check.specs.Walk.{State, Decoded, decode, asAgg, before, nodeStep, moreStep, listStep, nodeOf, listOf, proxyOf}
+use Rattle.theory_check.specs.Steps.{node-eq, list-eq}
+
+-- ── the tests ──
+
+-- A node: its header, and n bytes inside.
+abbrev pub whole : (kind label n : ℕ) → (inside : List ℕ) → List ℕ
+whole k l n inside = header k l (6 + n) ++ inside
+
+module _ (k l n : ℕ) (inside : List ℕ) (e : length inside ≡ n) (h : n ≤ 4080) where
+  size-at : (s : List ℕ) → twoAt (header k l (6 + n) ++ s) 4 ≡ 6 + n
+  unfolding twoAt
+  size-at s = two-bytes (6 + n) (omega arith)
+
+  size-node : (after : List ℕ) → sizeOf (whole k l n inside ++ after) ≡ 6 + n
+  unfolding sizeOf
+  size-node after =
+      let m : length (whole k l n inside ++ after) ≡ 6 + n + length after = omega (arith, length-append inside after) in
+      rw (
+        size-at (inside ++ after),
+        m,
+        le-ltb (6 + n + length after) 6 (omega arith),
+        le-ltb (6 + n) 6 (omega arith),
+        le-ltb (6 + n + length after) (6 + n) (omega arith),
+      )
+
+  -- a node that keeps what its kind asks, where it may stand
+  head-node : (holder : ℕ) → k ≤ 4 → mayStand holder k ≡ true → shapeOf (whole k l n inside) k ≡ true → headOf (whole k l n inside) holder ≡ k
+  unfolding headOf
+  head-node holder a m s =
+      let t : length (whole k l n inside) ≡ 6 + n = omega arith in
+      rw (size-at inside, t, le-ltb (6 + n) 6 (omega arith), le-ltb 4 k a, m, eq-eqb (6 + n) (6 + n) refl, s)
+
+-- ── the walk ──
+
+module _ (img : List ℕ) (page level : ℕ) (w : State) where
+  module _ (holder : ℕ) where
+    pub list-none : listOf img [] page holder level w ≡ record { row = nil; walk = w }
+    unfolding listStep
+    list-none = list-eq img [] page holder level w
+
+    -- a list goes on after its first node
+    list-more : (s : List ℕ) → 1 ≤ w .left → 1 ≤ sizeOf s → 1 ≤ length s
+        → listOf img s page holder level w ≡ moreStep img (decode img) s page holder level w (sizeOf s)
+    unfolding listStep
+    list-more s a b c =
+        list-eq img s page holder level w
+        ∙ rw (ne-eqb (length s) 0 (λ z. omega arith), ne-eqb (w .left) 0 (λ z. omega arith), ne-eqb (sizeOf s) 0 (λ z. omega arith))
+
+  module _ (l n : ℕ) (inside : List ℕ) (e : length inside ≡ n) (h : n ≤ 4080) where
+    -- the first node, then the others
+    pub list-node : (k holder : ℕ) (after : List ℕ) (a d : Decoded) → 1 ≤ w .left → nodeOf img (whole k l n inside) page holder level w ≡ a
+        → listOf img after page holder level (a .walk) ≡ d → listOf img (whole k l n inside ++ after) page holder level w ≡ before a d
+    unfolding moreStep
+    list-node k holder after a d f i j =
+        let s = whole k l n inside ++ after in
+        let z = size-node k l n inside e h after in
+        let m : length (whole k l n inside) ≡ 6 + n = omega arith in
+        list-more holder s f (omega arith) (omega arith)
+        ∙ rw (z, take-at (whole k l n inside) after (6 + n) m, drop-at (whole k l n inside) after (6 + n) m, i, j)
+
+    pub agg-node : (holder : ℕ) → l < 65536 → mayStand holder 1 ≡ true → level ≤ 24
+        → nodeOf img (whole 1 l n inside) page holder level w ≡ asAgg l (listOf img inside page 1 (level + 1) w)
+    unfolding nodeStep shapeOf twoAt
+    agg-node holder f m g =
+        node-eq img (whole 1 l n inside) page holder level w
+        ∙ rw (head-node 1 l n inside e h holder (omega arith) m refl, le-ltb 24 level g, two-bytes l f)
+
+    pub lit-node : (holder : ℕ) → l < 65536 → mayStand holder 2 ≡ true → level ≤ 24 → n ≤ 520
+        → nodeOf img (whole 2 l n inside) page holder level w ≡ record { row = lit (record { label = l }) inside nil; walk = w }
+    unfolding nodeStep shapeOf twoAt
+    lit-node holder f m g c =
+        node-eq img (whole 2 l n inside) page holder level w
+        ∙ rw (head-node 2 l n inside e h holder (omega arith) m (le-leb (length (whole 2 l n inside)) 526 (omega arith)), le-ltb 24 level g, two-bytes l f)
+
+    helper-node : twoChildren inside ≡ true → nodeOf img (whole 4 0 n inside) page 0 level w ≡ listOf img inside page 4 level w
+    unfolding nodeStep shapeOf twoAt mayStand standing
+    helper-node c =
+        node-eq img (whole 4 0 n inside) page 0 level w
+        ∙ rw (head-node 4 0 n inside e h 0 (omega arith) refl c)
+
+  pub rec-node : (p holder : ℕ) → p < 65536 → mayStand holder 3 ≡ true
+      → nodeOf img (whole 3 0 2 (two p)) page holder level w ≡ proxyOf img p page level w
+  unfolding nodeStep shapeOf twoAt
+  rec-node p holder f m =
+      node-eq img (whole 3 0 2 (two p)) page holder level w
+      ∙ rw (head-node 3 0 2 (two p) refl (omega arith) holder (omega arith) m refl, two-bytes p f)
+
+-- ── a record ──
+
+-- the row after its first node
+abbrev tail : Row → Row
+tail nil = nil
+tail (agg h cs rest) = rest
+tail (lit h c rest) = rest
+tail (rec p s r rest) = rest
+
+-- the size of a row's first node
+first : (r : Row) → size r ≤ 4080 → 1 ≤ nodeCount r → (6 ≤ sizeOf (bytes r)) × (sizeOf (bytes r) + size (tail r) ≡ size r)
+first nil f n = absurd (omega arith)
+first (agg h cs rest) f n = omega (arith, size-node 1 (h .label) (size cs) (bytes cs) (length-bytes cs) (omega arith) (bytes rest))
+first (lit h c rest) f n = omega (arith, size-node 2 (h .label) (length c) c refl (omega arith) (bytes rest))
+first (rec p s r rest) f n = omega (arith, size-node 3 0 2 (two p) refl (omega arith) (bytes rest))
+
+some-size : (r : Row) → 1 ≤ nodeCount r → 1 ≤ size r
+some-size nil h = absurd (omega arith)
+some-size (agg l cs rest) h = omega arith
+some-size (lit l c rest) h = omega arith
+some-size (rec p s r rest) h = omega arith
+
+lone-tail : (r : Row) → lone r ≡ true → (tail r ≡ nil) × (1 ≤ nodeCount r)
+lone-tail nil e = absurd (false≢true e)
+lone-tail (agg h cs rest) e = (isNil-nil rest e, omega arith)
+lone-tail (lit h c rest) e = (isNil-nil rest e, omega arith)
+lone-tail (rec p s r rest) e = absurd (false≢true e)
+
+more-tail : (r : Row) → 2 ≤ nodeCount r → 1 ≤ nodeCount (tail r)
+more-tail nil h = absurd (omega arith)
+more-tail (agg l cs rest) h = omega arith
+more-tail (lit l c rest) h = omega arith
+more-tail (rec p s r rest) h = omega arith
+
+two-children : (r : Row) → size r ≤ 4080 → 2 ≤ nodeCount r → twoChildren (bytes r) ≡ true
+unfolding twoChildren
+two-children r f h =
+    let a = first r f (omega arith) in
+    let b = some-size (tail r) (more-tail r h) in
+    rw (ne-eqb (sizeOf (bytes r)) 0 (λ z. omega arith), lt-ltb (sizeOf (bytes r)) (length (bytes r)) (omega (arith, length-bytes r)))
+
+not-lone : {s : Bool} {r : Row} → Shape s r → lone r ≡ false → 2 ≤ nodeCount r
+not-lone (one e) h = absurd (false≢true (sym h ∙ e))
+not-lone (more r h) e = h
+
+module _ (img : List ℕ) (page level : ℕ) (w : State) (left : 1 ≤ w .left) where
+  -- a list of one node is the node
+  alone : (holder : ℕ) (s : List ℕ) → 1 ≤ length s → sizeOf s ≡ length s → listOf img s page holder level w ≡ nodeOf img s page holder level w
+  unfolding moreStep
+  alone holder s h e =
+      let a = nodeOf img s page holder level w in
+      list-more img page level w holder s left (omega arith) h
+      ∙ rw (e, take-length s, drop-length s, list-none img page level (a .walk) holder, ⊹-nil (a .row))
+
+  -- a record is what its row is
+  pub record-node : (s : Bool) (r : Row) (d : Decoded) → RecordFits s r → cond (lone r) (byTable 0 r) (mayStand 0 4 && byTable 4 r) ≡ true
+      → ((holder : ℕ) → byTable holder r ≡ true → listOf img (bytes r) page holder level w ≡ d)
+      → nodeOf img (recordBytes r) page 0 level w ≡ d
+  unfolding mayStand standing
+  record-node s r d f t inner = go (lone r) refl t
+    where
+      small : size r ≤ 4080
+      small = omega (arith, f .fits)
+
+      go : (b : Bool) → lone r ≡ b → cond b (byTable 0 r) (byTable 4 r) ≡ true → nodeOf img (cond b (bytes r) (header 4 0 (6 + size r) ++ bytes r)) page 0 level w ≡ d
+      go true e t =
+          let a = lone-tail r e in
+          let b = first r small (a .1) in
+          let n = length-bytes r in
+          sym (alone 0 (bytes r) (omega arith) (omega (arith, ap size (a .0)))) ∙ inner 0 t
+      go false e t = helper-node img page level w 0 (size r) (bytes r) (length-bytes r) small (two-children r small (not-lone (f .shape) e)) ∙ inner 4 t

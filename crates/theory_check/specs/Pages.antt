@@ -1,0 +1,182 @@
+-- What the tests on pages say of the pages of a valid store's image.
+use mathlib.Core.Path.{_≡_, refl}
+use mathlib.Core.Bool.{Bool, true, false, cond, not, _||_, false≢true}
+use mathlib.Core.List.{List, [], _∷_, _++_, append-assoc}
+use Prim.Native.Nat.{ℕ, zero, suc, _+_, _-_, _*_, _≤_, _<_}
+use native.Mathlib.Omega.{arith}
+use lib.ListN.{length, take, drop, getD, replicate, length-append, length-replicate}
+use lib.Seq.{take-at, drop-at, take-take, drop-append-add, getD-take, getD-drop}
+use lib.Dec.{ltb, eqb}
+use borrow.Author.Tests.{le-ltb, lt-leb, eq-eqb}
+use Rattle.model.specs.Row.{Row, nil, agg, lit, rec, lone, recordSize, recordBytes, two, trailer, Held, recordPage, Config, settingsPage, every, isEntry, isAgg}
+use Rattle.model.specs.Reading.{twoAt, pageOf}
+use Rattle.theory_rows.specs.Fits.{Shape, RecordFits, Ranges}
+use Rattle.theory_rows.specs.Store.{settled-lone}
+use Rattle.theory_rows.specs.Image.{length-record}
+use Rattle.theory_decoding.specs.Valid.{both}
+use Rattle.theory_decoding.specs.Decode.{two-bytes, getD-past, in-trailer, settled-page, used-page, take-page}
+use Rattle.theory_check.specs.Tests.{isMarked, namesOf, rootFits, all, allZero, matrixOk, stateOf, numbersOk, settingsOk, firstOk}
+use Rattle.theory_check.specs.Walk.{State, withMark, asRec, recordOf, entersOf, proxyStep, proxyOf, nodeOf}
+
+zeros : (n : ℕ) → allZero (replicate n 0) ≡ true
+unfolding all
+zeros zero = refl
+zeros (suc n) = zeros n
+
+-- k bytes from byte n on
+part : (a b c : List ℕ) (n k : ℕ) → length a ≡ n → length b ≡ k → take k (drop n (a ++ b ++ c)) ≡ b
+part a b c n k e f = rw (append-assoc a b c, drop-at a (b ++ c) n e) (take-at b c k f)
+
+drop-past : (a b : List ℕ) (n i : ℕ) → length a ≡ n → drop (n + i) (a ++ b) ≡ drop i b
+drop-past a b n i e = rw (← e) (drop-append-add a b i)
+
+-- ── page 0 ──
+
+matrix-ok : (m : List ℕ) → every isEntry m ≡ true → matrixOk m ≡ true
+unfolding all
+matrix-ok [] e = refl
+matrix-ok (x ∷ m) e = let t = both (isEntry x) (every isEntry m) e in rw (go (eqb x 0) (eqb x 2) (t .0)) (matrix-ok m (t .1))
+  where
+    go : (a b : Bool) → a || b ≡ true → cond a true b ≡ true
+    go true b e = e
+    go false b e = e
+
+-- with any zeros behind the matrix, so that nothing has to count them
+module _ (st : Config) (r : Ranges st) (z : List ℕ) (many : length z ≡ 3808) (none : allZero z ≡ true) where
+  abbrev last : List ℕ
+  last = trailer 2 0 272 0
+
+  abbrev front : List ℕ
+  front = two (st .pages) ++ (st .target ∷ 0 ∷ two (st .tolerance)) ++ two (st .form) ++ replicate 8 0 ++ st .matrix ++ z
+
+  numbers-with : numbersOk (front ++ last) (st .pages) ≡ true
+  unfolding numbersOk twoAt
+  numbers-with =
+      rw (
+        two-bytes (st .pages) (omega (arith, r .many)),
+        eq-eqb (st .pages) (st .pages) refl,
+        le-ltb (st .target) 64 (r .low),
+        le-ltb 192 (st .target) (r .high),
+        two-bytes (st .tolerance) (omega (arith, r .tol)),
+        le-ltb 512 (st .tolerance) (r .tol),
+        r .form,
+      )
+
+  settings-with : settingsOk (front ++ last) (st .pages) ≡ true
+  unfolding settingsOk twoAt
+  settings-with =
+      let s = front ++ last in
+      let n = r .entries in
+      let long : length front ≡ 4080 = omega (arith, length-append (st .matrix) z) in
+      let at : (i : ℕ) → getD s (4080 + i) 0 ≡ getD last i 0 = λ i. getD-past front last 4080 i long in
+      let matrix : take 256 (drop 16 s) ≡ st .matrix = rw (append-assoc (st .matrix) z last) (take-at (st .matrix) (z ++ last) 256 n) in
+      let rest : take 3808 (drop 272 s) ≡ z = part (st .matrix) z last 256 3808 n many in
+      rw (numbers-with, zeros 8, matrix, matrix-ok (st .matrix) (r .each), rest, none, at 0, at 1, at 2, at 3, drop-past front last 4080 4 long, zeros 12)
+
+pub settings-ok : (st : Config) → Ranges st → settingsOk (settingsPage st) (st .pages) ≡ true
+settings-ok st r = settings-with st r (replicate 3808 0) (length-replicate {A = ℕ} 3808 0) (zeros 3808)
+
+-- ── a free page ──
+
+pub free-state : stateOf (replicate 4096 0) ≡ 1
+unfolding stateOf
+free-state = rw (zeros 4096)
+
+-- ── a record's page ──
+
+not-two : (b : Bool) → ltb 1 (cond b 1 0) ≡ false
+not-two true = refl
+not-two false = refl
+
+not-four : (b : Bool) → eqb (cond b 1 2) 4 ≡ false
+not-four true = refl
+not-four false = refl
+
+-- A record without a helper starts with its root's kind.
+pub root-kind : (r : Row) (s t : List ℕ) → lone r ≡ true → getD (recordBytes r ++ s ++ t) 0 0 ≡ cond (isAgg r) 1 2
+root-kind nil s t e = absurd (false≢true e)
+root-kind (agg h cs rest) s t e = rw e
+root-kind (lit h c rest) s t e = rw e
+root-kind (rec p b r rest) s t e = absurd (false≢true e)
+
+module _ (h : Held) (f : recordSize (h .row) ≤ 4080) where
+  pub record-state : stateOf (recordPage h) ≡ 2
+  unfolding stateOf all
+  record-state =
+      let n = recordSize (h .row) in
+      let free : List ℕ = replicate (4080 - n) 0 in
+      let last = trailer 1 (cond (h .settled) 1 0) n (h .holder) in
+      let long : length (recordBytes (h .row) ++ free) ≡ 4080 = simp (length-append, length-replicate, length-record) (omega arith) in
+      rw (
+        in-trailer h f 0,
+        in-trailer h f 1,
+        not-two (h .settled),
+        used-page h f,
+        le-ltb 4080 n f,
+        part (recordBytes (h .row)) free last n (4080 - n) (length-record (h .row)) (length-replicate (4080 - n) 0),
+        zeros (4080 - n),
+        drop-past (recordBytes (h .row) ++ free) last 4080 6 long,
+      )
+
+  holder-page : h .holder < 65536 → twoAt (recordPage h) 4084 ≡ h .holder
+  unfolding twoAt
+  holder-page l = rw (in-trailer h f 4, in-trailer h f 5) (two-bytes (h .holder) l)
+
+  -- page 1
+  pub first-ok : h .settled ≡ true → h .holder ≡ 0 → firstOk (recordPage h) ≡ true
+  unfolding firstOk
+  first-ok s o = rw (record-state, in-trailer h f 1, holder-page (omega arith), s, o)
+
+-- ── the page in the image ──
+
+module _ (img : List ℕ) (p : ℕ) (h : Held) (f : RecordFits (h .settled) (h .row)) (e : pageOf img p ≡ recordPage h) where
+  pub on-page : (i j : ℕ) → j ≡ 4096 * p + i → i < 4096 → getD img j 0 ≡ getD (recordPage h) i 0
+  on-page i j a b = rw (a, ← e, getD-take 4096 (drop (4096 * p) img) i 0 b, getD-drop (4096 * p) img i 0)
+
+  two-on-page : (i j : ℕ) → j ≡ 4096 * p + i → i < 4095 → twoAt img j ≡ twoAt (recordPage h) i
+  unfolding twoAt
+  two-on-page i j a b = rw (on-page i j a (omega arith), on-page (i + 1) (j + 1) (omega arith) (omega arith))
+
+  pub record-of : recordOf img p ≡ recordBytes (h .row)
+  record-of =
+      rw (
+        two-on-page 4082 (4096 * p + 4082) refl (omega arith),
+        used-page h (f .fits),
+        ← take-take (recordSize (h .row)) 4096 (drop (4096 * p) img) (omega (arith, f .fits)),
+        e,
+      ) (take-page h (f .fits))
+
+  settled-of : eqb (getD img (4096 * p + 4081) 0) 1 ≡ h .settled
+  settled-of = rw (on-page 4081 (4096 * p + 4081) refl (omega arith)) (settled-page h (f .fits))
+
+  root-fits : rootFits img p ≡ true
+  unfolding rootFits
+  root-fits = rw (settled-of, on-page 0 (4096 * p) (omega arith) (omega arith)) (go (h .settled) (f .shape))
+    where
+      go : (b : Bool) → Shape b (h .row) → cond b (not (eqb (getD (recordPage h) 0 0) 4)) true ≡ true
+      go true s = rw (root-kind (h .row) _ _ (settled-lone (h .row) s), not-four (isAgg (h .row)))
+      go false s = refl
+
+  module _ (few : 2 ≤ p) (many : p < 1024) (inside : 4096 * p + 4096 ≤ length img) (l : h .holder < 65536) where
+    names-of : namesOf img p (h .holder) ≡ true
+    unfolding namesOf
+    names-of =
+        rw (
+          le-ltb p 2 few,
+          lt-leb 1024 p many,
+          le-ltb (length img) (4096 * p + 4096) inside,
+          on-page 4080 (4096 * p + 4080) refl (omega arith),
+          in-trailer h (f .fits) 0,
+          two-on-page 4082 (4096 * p + 4080 + 2) (omega arith) (omega arith),
+          used-page h (f .fits),
+          le-ltb 4080 (recordSize (h .row)) (f .fits),
+          two-on-page 4084 (4096 * p + 4080 + 4) (omega arith) (omega arith),
+          holder-page h (f .fits) l,
+          eq-eqb (h .holder) (h .holder) refl,
+        )
+
+    -- the walk goes on in the record
+    pub proxy-of : (level : ℕ) (w : State) → 2 ≤ w .left → isMarked (w .marks) p ≡ false
+        → proxyOf img p (h .holder) level w ≡ asRec p (h .settled) (nodeOf img (recordBytes (h .row)) p 0 level (withMark w p))
+    unfolding proxyStep entersOf
+    proxy-of level w a m = rw (names-of, root-fits, le-ltb (w .left) 2 a, m, settled-of, record-of)

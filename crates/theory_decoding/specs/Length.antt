@@ -1,0 +1,38 @@
+-- The image of a valid store has the length of its pages.
+use mathlib.Core.Path.{_≡_, refl}
+use mathlib.Core.Bool.{true}
+use mathlib.Core.List.{List}
+use Prim.Native.Nat.{ℕ, zero, suc, _*_, _-_, _/_, _%_, _≤_}
+use native.Mathlib.Omega.{arith}
+use borrow.Author.Tests.{le-leb, eq-eqb}
+use lib.ListN.{length, length-append}
+use Rattle.model.specs.Row.{Row, store, Held, records, settingsPage, pageAt, pagesFrom, image, Config}
+use Rattle.model.specs.Reading.{lengthOk}
+use Rattle.theory_rows.specs.Fits.{Valid}
+use Rattle.theory_rows.specs.Image.{length-pageAt, length-settings, all-fit}
+
+length-pages : (hs : List Held) → ((q : ℕ) → length (pageAt hs q) ≡ 4096) → (n q : ℕ) → length (pagesFrom hs n q) ≡ 4096 * n
+length-pages hs f zero q = refl
+length-pages hs f (suc n) q = rw (length-append, f q, length-pages hs f n (suc q)) (omega arith)
+
+module _ (st : Config) (root : Row) (v : Valid st root) where
+  pub length-image : length (image st root) ≡ 4096 * st .pages
+  unfolding image
+  length-image =
+      let hs = records 0 (store root) in
+      omega (
+        arith,
+        length-append (settingsPage st) (pagesFrom hs (st .pages - 1) 1),
+        length-settings st (v .ranges .entries),
+        length-pages hs (length-pageAt hs (all-fit st root v)) (st .pages - 1) 1,
+        v .ranges .few,
+      )
+
+  pub image-length-ok : lengthOk (length (image st root)) ≡ true
+  unfolding lengthOk
+  image-length-ok =
+      let n = length (image st root) in
+      let few : 2 ≤ n / 4096 = omega (arith, length-image, v .ranges .few) in
+      let many : n / 4096 ≤ 1024 = omega (arith, length-image, v .ranges .many) in
+      let whole : n % 4096 ≡ 0 = omega (arith, length-image) in
+      rw (eq-eqb (n % 4096) 0 whole, le-leb 2 (n / 4096) few, le-leb (n / 4096) 1024 many)

@@ -1,0 +1,82 @@
+-- The places of a chain in an image.
+use mathlib.Core.Path.{_≡_, sym, subst}
+use mathlib.Core.Bool.{Bool}
+use mathlib.Core.List.{List}
+use mathlib.Core.Option.{some}
+use Prim.Native.Nat.{ℕ, _+_, _*_}
+use native.Mathlib.Omega.{arith}
+use lib.ListN.{length}
+use Rattle.model.specs.Row.{Row, nil, agg, lit, rec, store, _⊹_, size, base, bytes, Held, recordPage, Config}
+use Rattle.model.specs.Reading.{Reads, pageOf}
+use Rattle.theory_rows.specs.Image.{Stored}
+use Rattle.theory_decoding.specs.Decode.{stored-image}
+use Rattle.theory_decoding.specs.Reading.{reads-valid}
+use Rattle.theory_layout.specs.Here.{Here, OnPage, agg-view, lit-view, rec-view, root-page}
+use Rattle.theory_insert_point.specs.Chain.{Spot, here, inside, fill, before, Chain, top, below, lastPage, lastSettled, lastHolder, whole}
+use Rattle.theory_insert_point.specs.Taking.{Taking, taking, taking-whole}
+
+-- ── the records of a chain ──
+
+-- Where the record above the last of `below c s q b rest` has the proxy, if the last record holds `row`.
+abbrev pub proxyAt : (c : Chain) → (s : Spot) → (q : ℕ) → (b : Bool) → (rest row : Row) → ℕ
+proxyAt c s q b rest row = 4096 * lastPage c + base (fill s (rec q b row rest)) + before s
+
+-- The last record, as its page holds it.
+abbrev pub lastHeld : Chain → (row : Row) → Held
+lastHeld c row = record { page = lastPage c; settled = lastSettled c; holder = lastHolder c; row = row }
+
+-- ── in an image ──
+
+module _ (img : List ℕ) where
+  pub here-⊹ : (page pos : ℕ) (a b : Row) → Here img page pos (a ⊹ b) → Here img page (pos + size a) b
+  here-⊹ page pos nil b v = let z : pos ≡ pos + 0 = omega arith in subst (λ (n : ℕ). Here img page n b) z v
+  here-⊹ page pos (agg h cs rest) b v =
+      let z : pos + (6 + size cs) + size rest ≡ pos + (6 + size cs + size rest) = omega arith in
+      subst (λ (n : ℕ). Here img page n b) z (here-⊹ page (pos + (6 + size cs)) rest b (agg-view img page pos h cs (rest ⊹ b) v .after))
+  here-⊹ page pos (lit h c rest) b v =
+      let z : pos + (6 + length c) + size rest ≡ pos + (6 + length c + size rest) = omega arith in
+      subst (λ (n : ℕ). Here img page n b) z (here-⊹ page (pos + (6 + length c)) rest b (lit-view img page pos h c (rest ⊹ b) v .after))
+  here-⊹ page pos (rec p s r rest) b v =
+      let z : pos + 8 + size rest ≡ pos + (8 + size rest) = omega arith in
+      subst (λ (n : ℕ). Here img page n b) z (here-⊹ page (pos + 8) rest b (rec-view img page pos p s r (rest ⊹ b) v .after))
+
+  -- What fills a spot stands there,
+  pub here-fill : (page pos : ℕ) (s : Spot) (x : Row) → Here img page pos (fill s x) → Here img page (pos + before s) x
+  here-fill page pos (here left) x v = here-⊹ page pos left x v
+  here-fill page pos (inside left h rest s) x v =
+      let g = agg-view img page (pos + size left) h (fill s x) rest (here-⊹ page pos left (agg h (fill s x) rest) v) in
+      let z : pos + size left + 6 + before s ≡ pos + (size left + 6 + before s) = omega arith in
+      subst (λ (n : ℕ). Here img page n x) z (here-fill page (pos + size left + 6) s x (g .children))
+
+  proxy-in : (c : Chain) (s : Spot) (q : ℕ) (b : Bool) (rest row : Row) → OnPage img (lastPage c) (lastHolder c) (fill s (rec q b row rest))
+      → Here img (lastPage c) (proxyAt c s q b rest row) (rec q b row rest)
+  proxy-in c s q b rest row v = here-fill (lastPage c) (4096 * lastPage c + base (fill s (rec q b row rest))) s (rec q b row rest) (v .here)
+
+  page-in : (c : Chain) (row : Row) → OnPage img 1 0 (whole c row) → OnPage img (lastPage c) (lastHolder c) row
+  page-in top row v = v
+  page-in (below c s q b rest) row v =
+      rec-view img (lastPage c) (proxyAt c s q b rest row) q b row rest (proxy-in c s q b rest row (page-in c (fill s (rec q b row rest)) v)) .under
+
+  module _ (st : Config) (root : Row) (r : Reads img st root) where
+    -- The last record of a chain of the root record stands on its page,
+    pub chain-page : (c : Chain) (row : Row) → whole c row ≡ root → OnPage img (lastPage c) (lastHolder c) row
+    chain-page c row e = page-in c row (subst (OnPage img 1 0) (sym e) (root-page img st root r))
+
+    -- and the proxy to it in the record above.
+    pub chain-here : (c : Chain) (s : Spot) (q : ℕ) (b : Bool) (rest row : Row) → whole (below c s q b rest) row ≡ root
+        → Here img (lastPage c) (proxyAt c s q b rest row) (rec q b row rest)
+    chain-here c s q b rest row e = proxy-in c s q b rest row (chain-page c (fill s (rec q b row rest)) e)
+
+    -- The bytes of its page.
+    pub chain-bytes : (c : Chain) (row : Row) → whole c row ≡ root → pageOf img (lastPage c) ≡ recordPage (lastHeld c row)
+    chain-bytes top row e =
+        let m : Stored (pageOf img) 0 (store root) = rw (r .same) (stored-image st root (reads-valid img st root r)) in
+        rw e (m .0)
+    chain-bytes (below c s q b rest) row e = chain-here c s q b rest row e .stored .0
+
+    -- Where the new node goes, the row that follows it stands now.
+    pub taking-here : (path : List ℕ) (k : ℕ) (t : Taking) → taking root path k ≡ some t
+        → Here img (lastPage (t .chain)) (4096 * lastPage (t .chain) + base (fill (t .spot) (t .rest)) + before (t .spot)) (t .rest)
+    taking-here path k t e =
+        let row = fill (t .spot) (t .rest) in
+        here-fill (lastPage (t .chain)) (4096 * lastPage (t .chain) + base row) (t .spot) (t .rest) (chain-page (t .chain) row (taking-whole root path k t e) .here)

@@ -1,0 +1,131 @@
+-- A table of how many nodes the record on each page of an image shows.
+use mathlib.Core.Path.{_≡_, refl, sym, ap, subst, _∙_}
+use mathlib.Core.Bool.{Bool, true, false, cond}
+use mathlib.Core.List.{List}
+use Prim.Native.Nat.{ℕ, _+_, _*_, _≤_, _<_}
+use native.Mathlib.Omega.{arith}
+use borrow.Author.Tests.{eqb-true, leb-true, leb-false}
+use lib.ListN.{length, getD}
+use lib.Dec.{leb, eqb}
+use Rattle.model.specs.Row.{Row, nil, agg, lit, rec, size, base, recordSize, count, Config}
+use Rattle.model.specs.Reading.{Reads}
+use Rattle.model.specs.Tree.{width}
+use Rattle.theory_decoding.specs.Reading.{reads-length}
+use Rattle.theory_places.specs.Pages.{pages-count}
+use Rattle.theory_places.specs.Marks.{mark-times}
+use Rattle.theory_places.specs.Widths.{Told}
+use Rattle.theory_layout.specs.Here.{Here, OnPage, RecView, agg-view, lit-view, rec-view, root-page, root-here}
+
+-- It is right for each record that a proxy in another record names.
+pub record Widths (img c : List ℕ) : Type 0 where
+  pub told : (p holder : ℕ) (r : Row) → 1 ≤ holder → OnPage img p holder r → getD c p 0 ≡ width r
+
+-- ── what stands at one place shows as many nodes ──
+
+-- Two records read on one page start at one byte with one size.
+one-page : (img : List ℕ) (p holder holder₁ : ℕ) (a b : Row)
+    → ((page page₁ pos : ℕ) → Here img page pos a → Here img page₁ pos b → size a ≡ size b → width a ≡ width b)
+    → OnPage img p holder a → OnPage img p holder₁ b → width a ≡ width b
+one-page img p holder holder₁ a b same x y =
+    let e : base b ≡ base a = sym (y .first) ∙ x .first in
+    let z : 4096 * p + base b ≡ 4096 * p + base a = ap (λ (n : ℕ). 4096 * p + n) e in
+    let s : recordSize a ≡ recordSize b = sym (x .used) ∙ y .used in
+    same p p (4096 * p + base a) (x .here) (subst (λ (n : ℕ). Here img p n b) z (y .here)) (omega arith)
+
+-- Two rows that stand at one byte with one size show as many nodes.
+same-width : (img : List ℕ) (page page₁ pos : ℕ) (a b : Row) → Here img page pos a → Here img page₁ pos b → size a ≡ size b → width a ≡ width b
+same-width img page page₁ pos nil nil x y e = refl
+same-width img page page₁ pos nil (agg h cs rest) x y e = absurd (omega arith)
+same-width img page page₁ pos nil (lit h c rest) x y e = absurd (omega arith)
+same-width img page page₁ pos nil (rec p s r rest) x y e = absurd (omega arith)
+same-width img page page₁ pos (agg h cs rest) nil x y e = absurd (omega arith)
+same-width img page page₁ pos (agg h cs rest) (agg h₁ cs₁ rest₁) x y e =
+    let v = agg-view img page pos h cs rest x in
+    let w = agg-view img page₁ pos h₁ cs₁ rest₁ y in
+    let z : pos + (6 + size cs₁) ≡ pos + (6 + size cs) = omega (arith, v .long, w .long) in
+    omega (arith, same-width img page page₁ (pos + (6 + size cs)) rest rest₁ (v .after) (subst (λ (n : ℕ). Here img page₁ n rest₁) z (w .after)) (omega arith))
+same-width img page page₁ pos (agg h cs rest) (lit h₁ c₁ rest₁) x y e =
+    absurd (omega (arith, agg-view img page pos h cs rest x .kind, lit-view img page₁ pos h₁ c₁ rest₁ y .kind))
+same-width img page page₁ pos (agg h cs rest) (rec p₁ s₁ r₁ rest₁) x y e =
+    absurd (omega (arith, agg-view img page pos h cs rest x .kind, rec-view img page₁ pos p₁ s₁ r₁ rest₁ y .kind))
+same-width img page page₁ pos (lit h c rest) nil x y e = absurd (omega arith)
+same-width img page page₁ pos (lit h c rest) (agg h₁ cs₁ rest₁) x y e =
+    absurd (omega (arith, lit-view img page pos h c rest x .kind, agg-view img page₁ pos h₁ cs₁ rest₁ y .kind))
+same-width img page page₁ pos (lit h c rest) (lit h₁ c₁ rest₁) x y e =
+    let v = lit-view img page pos h c rest x in
+    let w = lit-view img page₁ pos h₁ c₁ rest₁ y in
+    let z : pos + (6 + length c₁) ≡ pos + (6 + length c) = omega (arith, v .long, w .long) in
+    omega (arith, same-width img page page₁ (pos + (6 + length c)) rest rest₁ (v .after) (subst (λ (n : ℕ). Here img page₁ n rest₁) z (w .after)) (omega arith))
+same-width img page page₁ pos (lit h c rest) (rec p₁ s₁ r₁ rest₁) x y e =
+    absurd (omega (arith, lit-view img page pos h c rest x .kind, rec-view img page₁ pos p₁ s₁ r₁ rest₁ y .kind))
+same-width img page page₁ pos (rec p s r rest) nil x y e = absurd (omega arith)
+same-width img page page₁ pos (rec p s r rest) (agg h₁ cs₁ rest₁) x y e =
+    absurd (omega (arith, rec-view img page pos p s r rest x .kind, agg-view img page₁ pos h₁ cs₁ rest₁ y .kind))
+same-width img page page₁ pos (rec p s r rest) (lit h₁ c₁ rest₁) x y e =
+    absurd (omega (arith, rec-view img page pos p s r rest x .kind, lit-view img page₁ pos h₁ c₁ rest₁ y .kind))
+same-width img page page₁ pos (rec p s r rest) (rec p₁ s₁ r₁ rest₁) x y e =
+    let v = rec-view img page pos p s r rest x in
+    let w = rec-view img page₁ pos p₁ s₁ r₁ rest₁ y in
+    let z : p₁ ≡ p = sym (w .name) ∙ v .name in
+    let inner : width r ≡ width r₁ =
+    one-page img p page page₁ r r₁ (λ g g₁ n. same-width img g g₁ n r r₁) (v .under) (subst (λ (n : ℕ). OnPage img n page₁ r₁) z (w .under)) in
+    omega (arith, same-width img page page₁ (pos + 8) rest rest₁ (v .after) (w .after) (omega arith))
+
+-- So a page's record shows as many nodes however it is read.
+page-width : (img : List ℕ) (p holder holder₁ : ℕ) (a b : Row) → OnPage img p holder a → OnPage img p holder₁ b → width a ≡ width b
+page-width img p holder holder₁ a b = one-page img p holder holder₁ a b (λ page page₁ pos. same-width img page page₁ pos a b)
+
+-- ── the table of a root record ──
+
+-- What is counted in two parts is in one of them.
+either : {A : Type 0} (x y : ℕ) → 1 ≤ x + y → (1 ≤ x → A) → (1 ≤ y → A) → A
+either {A = A} x y h f g = go (leb 1 x) refl
+  where
+    go : (b : Bool) → leb 1 x ≡ b → A
+    go true e = f (leb-true 1 x e)
+    go false e = g (omega (arith, leb-false 1 x e))
+
+-- For each page named in a row that stands: the record there, with the table's entry.
+told-at : (img c : List ℕ) (page pos : ℕ) (row : Row) → Here img page pos row → Told c row → (q : ℕ) → 1 ≤ count q row
+    → (holder : ℕ) × (r : Row) × OnPage img q holder r × (getD c q 0 ≡ width r)
+told-at img c page pos nil x t q k = absurd (omega arith)
+told-at img c page pos (agg h cs rest) x t q k =
+    let v = agg-view img page pos h cs rest x in
+    either (count q cs) (count q rest) k (told-at img c page (pos + 6) cs (v .children) (t .0) q) (told-at img c page (pos + (6 + size cs)) rest (v .after) (t .1) q)
+told-at img c page pos (lit h b rest) x t q k =
+    let v = lit-view img page pos h b rest x in
+    told-at img c page (pos + (6 + length b)) rest (v .after) t q k
+told-at img c page pos (rec p s r rest) x t q k =
+    let v = rec-view img page pos p s r rest x in
+    go v (eqb q p) refl k
+    (told-at img c p (4096 * p + base r) r (v .under .here) (t .1) q)
+    (told-at img c page (pos + 8) rest (v .after) (t .2) q)
+  where
+    Found : Type 0
+    Found = (holder : ℕ) × (r : Row) × OnPage img q holder r × (getD c q 0 ≡ width r)
+
+    go : RecView img page pos p s r rest → (b : Bool) → eqb q p ≡ b → 1 ≤ cond b 1 0 + count q r + count q rest → (1 ≤ count q r → Found) → (1 ≤ count q rest → Found) → Found
+    go v true e k inner after =
+        let z : q ≡ p = eqb-true q p e in
+        (page, r, subst (λ (n : ℕ). OnPage img n page r) (sym z) (v .under), ap (λ (n : ℕ). getD c n 0) z ∙ t .0)
+    go v false e k inner after = either (count q r) (count q rest) (omega arith) inner after
+
+-- A table that is right for the root record's row is right for the image.
+pub widths : (img c : List ℕ) (st : Config) (root : Row) → Reads img st root → Told c root → Widths img c
+widths img c st root x t = record { told = told }
+  where
+    told : (p holder : ℕ) (r : Row) → 1 ≤ holder → OnPage img p holder r → getD c p 0 ≡ width r
+    told p holder r h o =
+        let g = o .here .on in
+        let inside : p < st .pages = omega (arith, g .inside, reads-length img st root x) in
+        let named : 1 ≡ cond (eqb p 1) 1 0 + count p root + 0 = sym (o .state) ∙ mark-times img st root x p (g .low) inside ∙ pages-count root p in
+        go (eqb p 1) refl named
+      where
+        go : (b : Bool) → eqb p 1 ≡ b → 1 ≡ cond b 1 0 + count p root + 0 → getD c p 0 ≡ width r
+        go true e n =
+            let z : p ≡ 1 = eqb-true p 1 e in
+            let w = subst (λ (n : ℕ). OnPage img n holder r) z o in
+            absurd (omega (arith, w .back, root-page img st root x .back))
+        go false e n =
+            let f = told-at img c 1 4096 root (root-here img st root x) t p (omega arith) in
+            f .3 ∙ page-width img p (f .0) holder (f .1) r (f .2) o

@@ -1,0 +1,120 @@
+-- What the page writes of an insert make of a memory, which has the bytes of each page.
+use mathlib.Core.Bool.{Bool, true, false, cond, _||_}
+use mathlib.Core.List.{List, _++_}
+use Prim.Native.Nat.{ℕ, _+_}
+use lib.ListN.{length, take, drop, replicate}
+use lib.Dec.{leb, eqb}
+use Rattle.model.specs.Limits.{pageSize, capacity}
+use Rattle.model.specs.Tree.{New}
+use Rattle.model.specs.Row.{Head, Row, nil, agg, lit, rec, _⊹_, size, isNil, lone, loneRec, recordSize, two, recordPage, Config}
+use Rattle.model.specs.Growth.{Work, freeFrom, group, twoGroups, separate, goOn, stops, splitPoint, rootRow, separator, counted, freed, apart, asRow}
+use Rattle.theory_insert_point.specs.Chain.{fill, Chain, top, below, lastPage}
+
+abbrev pub Mem : Type 0
+Mem = ℕ → List ℕ
+
+-- A free page.
+abbrev pub blank : List ℕ
+blank = replicate pageSize 0
+
+-- ── one write ──
+
+-- Page q replaced.
+abbrev pub setMem : (q : ℕ) → (page : List ℕ) → Mem → Mem
+setMem q s m = λ p. cond (eqb p q) s (m p)
+
+-- A page with another holder.
+abbrev pub relink : (q : ℕ) → (page : List ℕ) → List ℕ
+relink q s = take 4084 s ++ (two q ++ drop 4086 s)
+
+-- Each record whose proxy stands in the row itself gets the holder q.
+unfoldable pub linkMem : (q : ℕ) → Row → Mem → Mem
+linkMem q nil m = m
+linkMem q (agg h cs rest) m = linkMem q rest (linkMem q cs m)
+linkMem q (lit h c rest) m = linkMem q rest m
+linkMem q (rec p s r rest) m = linkMem q rest (setMem p (relink q (m p)) m)
+
+-- A record written on page q, and the back links of the records that it holds.
+abbrev pub putMem : (q : ℕ) → (settled : Bool) → (holder : ℕ) → Row → Mem → Mem
+putMem q s h r m = linkMem q r (setMem q (recordPage (record { page = q; settled = s; holder = h; row = r })) m)
+
+-- ── the split ──
+
+module _ (st : Config) where
+  -- A group that becomes a record is written with holder 0: its holder is known when the record above is written.
+  unfoldable pub groupMem : (near : ℕ) → Row → Work → Mem → Mem
+  groupMem near g w m =
+      let own = putMem (freeFrom st (st .pages) (w .used) near) false 0 g m in
+      cond (isNil g || loneRec g) m own
+
+  module _ (near p : ℕ) where
+    unfoldable pub twoMem : (left right : Row) → Work → Mem → Mem
+    twoMem left right w m = groupMem near right (group st near left w .1) (groupMem near left w m)
+
+    unfoldable pub separateMem : (at : ℕ) → (left row : Row) → Work → Mem → Mem
+    separateMem at left nil w m = groupMem near left w m
+    separateMem at left (agg h cs rest) w m =
+        let on = separateMem (at + (6 + size cs)) (left ⊹ agg h cs nil) rest w m in
+        let a = group st near left w in
+        let b = separate st near p (at + 6) nil cs (a .1) in
+        let down = groupMem near rest (b .1) (separateMem (at + 6) nil cs (a .1) (groupMem near left w m)) in
+        let here = twoMem left (agg h cs rest) w m in
+        cond (goOn st p at (6 + size cs) rest) on (cond (stops st cs) here down)
+    separateMem at left (lit h c rest) w m =
+        let on = separateMem (at + (6 + length c)) (left ⊹ lit h c nil) rest w m in
+        let here = twoMem left (lit h c rest) w m in
+        cond (goOn st p at (6 + length c) rest) on here
+    separateMem at left (rec q s r rest) w m =
+        let on = separateMem (at + 8) (left ⊹ rec q s r nil) rest w m in
+        let here = twoMem left (rec q s r rest) w m in
+        cond (goOn st p at 8 rest) on here
+
+  unfoldable pub separatorMem : (near : ℕ) → Row → Work → Mem → Mem
+  separatorMem near r w m = separateMem near (splitPoint st (recordSize r)) 6 nil (rootRow st (lone r) r) w m
+
+  -- ── from the last record of a chain upwards ──
+
+  -- A record that stays on its page q, with holder h: its row, or the separator of its row, is written there, and growth stops.
+  unfoldable pub keptMem : (q : ℕ) → (settled : Bool) → (h : ℕ) → Row → Work → Mem → Mem
+  keptMem q s h r w m =
+      let split = putMem q s h (separator st q r (counted st r w) .0) (separatorMem q r (counted st r w) m) in
+      cond (leb (recordSize r) capacity) (putMem q s h r m) split
+
+  -- The last record of the chain has a new row. An unsettled record that is too large leaves its page, before the groups are placed,
+  -- and the record above goes on, with the separator in place of the proxy.
+  unfoldable pub riseMem : Chain → Row → Work → Mem → Mem
+  riseMem top r w m = keptMem 1 true 0 r w m
+  riseMem (below c s q b rest) r w m =
+      let stay = keptMem q b (lastPage c) r w m in
+      let sep = separator st q r (freed st q (counted st r w)) in
+      let up = riseMem c (fill s (sep .0 ⊹ rest)) (sep .1) (separatorMem q r (freed st q (counted st r w)) (setMem q blank m)) in
+      cond (b || leb (recordSize r) capacity) stay up
+
+  -- ── the new node ──
+
+  -- The new node's own record, if it stands apart, in the record of `page`.
+  abbrev pub placeMem : New → (parent : Head) → (page : ℕ) → Work → Mem → Mem
+  placeMem x parent page w m =
+      let own = putMem (freeFrom st (st .pages) (w .used) page) true page (asRow st x nil) m in
+      cond (apart st parent (x .head)) own m
+
+-- ── rows, works and memories together ──
+
+pub record State : Type 0 where
+  pub row : Row
+  pub work : Work
+  pub mem : Mem
+
+module _ (st : Config) where
+  abbrev pub groupM : (near : ℕ) → Row → Work → Mem → State
+  groupM near g w m = record { row = group st near g w .0; work = group st near g w .1; mem = groupMem st near g w m }
+
+  abbrev pub twoGroupsM : (near p : ℕ) → (left right : Row) → Work → Mem → State
+  twoGroupsM near p a b w m = record { row = twoGroups st near p a b w .0; work = twoGroups st near p a b w .1; mem = twoMem st near p a b w m }
+
+  abbrev pub separateM : (near p at : ℕ) → (left row : Row) → Work → Mem → State
+  separateM near p at left row w m =
+      record { row = separate st near p at left row w .0; work = separate st near p at left row w .1; mem = separateMem st near p at left row w m }
+
+  abbrev pub separatorM : (near : ℕ) → Row → Work → Mem → State
+  separatorM near r w m = record { row = separator st near r w .0; work = separator st near r w .1; mem = separatorMem st near r w m }
