@@ -7,6 +7,7 @@ use native.Mathlib.Omega.{arith}
 use borrow.Author.Tests.{leb-true, leb-false, le-leb, le-ltb, lt-ltb, eqb-true, eq-eqb, ne-eqb}
 use lib.ListN.{length}
 use lib.Dec.{leb, ltb, eqb}
+use Rattle.model.specs.Limits.{mostPages, pageSize}
 use Rattle.model.specs.Row.{every, isEntry, inRange, image}
 use Rattle.model.specs.Reading.{lengthOk}
 use Rattle.model.specs.Calls.{config, formatNumber, formatOf}
@@ -16,16 +17,16 @@ use Rattle.format.specs.First.{matrixFits, numbersFit, firstRoot}
 
 -- An image's length that passes.
 pub record Long (n : ℕ) : Type 0 where
-  pub whole : n % 4096 ≡ 0
-  pub few : 2 ≤ n / 4096
-  pub many : n / 4096 ≤ 1024
+  pub whole : n % pageSize ≡ 0
+  pub few : 2 ≤ n / pageSize
+  pub many : n / pageSize ≤ mostPages
 
 pub length-says : (n : ℕ) → lengthOk n ≡ true → Long n
 unfolding lengthOk
 length-says n e =
-    let h = both (eqb (n % 4096) 0 && leb 2 (n / 4096)) (leb (n / 4096) 1024) e in
-    let k = both (eqb (n % 4096) 0) (leb 2 (n / 4096)) (h .0) in
-    record { whole = eqb-true (n % 4096) 0 (k .0); few = leb-true 2 (n / 4096) (k .1); many = leb-true (n / 4096) 1024 (h .1) }
+    let h = both (eqb (n % pageSize) 0 && leb 2 (n / pageSize)) (leb (n / pageSize) mostPages) e in
+    let k = both (eqb (n % pageSize) 0) (leb 2 (n / pageSize)) (h .0) in
+    record { whole = eqb-true (n % pageSize) 0 (k .0); few = leb-true 2 (n / pageSize) (k .1); many = leb-true (n / pageSize) mostPages (h .1) }
 
 -- ── the settings ──
 
@@ -59,14 +60,14 @@ same-tests few many low high tol form entries each true h = rw (h refl .0, h ref
     go true true true true false each = refl
 
 -- The ways out of the test of the settings, for an image of n pages.
-module _ (s : Settings) (m : List ℕ) (n : ℕ) (few : 2 ≤ n) (many : n ≤ 1024) where
+module _ (s : Settings) (m : List ℕ) (n : ℕ) (few : 2 ≤ n) (many : n ≤ mostPages) where
   tests : (inRange (config s m) && eqb (s .pages) n) ≡ cond (eqb (length m) 256) (cond (numbersFit s n) (matrixFits m) false) false
   unfolding inRange numbersFit matrixFits
   tests =
       rw (below (s .target) 64, below 192 (s .target), below 512 (s .tolerance))
-      (same-tests (leb 2 (s .pages)) (leb (s .pages) 1024) (leb 64 (s .target)) (leb (s .target) 192) (leb (s .tolerance) 512) (eqb (s .form) 1)
+      (same-tests (leb 2 (s .pages)) (leb (s .pages) mostPages) (leb 64 (s .target)) (leb (s .target) 192) (leb (s .tolerance) 512) (eqb (s .form) 1)
       (eqb (length m) 256) (every isEntry m) (eqb (s .pages) n)
-      (λ e. let k = eqb-true (s .pages) n e in (le-leb 2 (s .pages) (omega arith), le-leb (s .pages) 1024 (omega arith))))
+      (λ e. let k = eqb-true (s .pages) n e in (le-leb 2 (s .pages) (omega arith), le-leb (s .pages) mostPages (omega arith))))
 
   pub wrong-matrix : (length m ≡ 256 → ⊥) → false ≡ (inRange (config s m) && eqb (s .pages) n)
   wrong-matrix e = rw (tests, ne-eqb (length m) 256 e)
@@ -89,18 +90,18 @@ module _ (img : List ℕ) (s : Settings) (m : List ℕ) (label : ℕ) where
   refused-1 e = rw e
 
   module _ (e : lengthOk (length img) ≡ true) where
-    pub refused-2 : (inRange (config s m) && eqb (s .pages) (length img / 4096)) ≡ false → formatOf img s m label ≡ (2, img)
+    pub refused-2 : (inRange (config s m) && eqb (s .pages) (length img / pageSize)) ≡ false → formatOf img s m label ≡ (2, img)
     unfolding formatOf formatNumber
     refused-2 f = rw (e, f)
 
-    pub accepted : (inRange (config s m) && eqb (s .pages) (length img / 4096)) ≡ true → formatOf img s m label ≡ (0, image (config s m) (firstRoot label))
+    pub accepted : (inRange (config s m) && eqb (s .pages) (length img / pageSize)) ≡ true → formatOf img s m label ≡ (0, image (config s m) (firstRoot label))
     unfolding formatOf formatNumber
     accepted f = rw (e, f)
 
 -- What write_first asks.
-pub ready : (n : ℕ) (s : Settings) (m : List ℕ) → lengthOk n ≡ true → (inRange (config s m) && eqb (s .pages) (n / 4096)) ≡ true
-    → (n ≡ 4096 * s .pages) × (inRange (config s m) ≡ true)
+pub ready : (n : ℕ) (s : Settings) (m : List ℕ) → lengthOk n ≡ true → (inRange (config s m) && eqb (s .pages) (n / pageSize)) ≡ true
+    → (n ≡ pageSize * s .pages) × (inRange (config s m) ≡ true)
 ready n s m e f =
-    let h = both (inRange (config s m)) (eqb (s .pages) (n / 4096)) f in
+    let h = both (inRange (config s m)) (eqb (s .pages) (n / pageSize)) f in
     let l = length-says n e in
-    (omega (arith, eqb-true (s .pages) (n / 4096) (h .1)), h .0)
+    (omega (arith, eqb-true (s .pages) (n / pageSize) (h .1)), h .0)

@@ -8,7 +8,8 @@ use borrow.Author.Tests.{ne-eqb}
 use lib.ListN.{length, take, drop, replicate, length-append, length-drop, length-replicate}
 use lib.Seq.{take-at, drop-at}
 use lib.Dec.{eqb}
-use Rattle.model.specs.Row.{Held, store, records, pageAt, pagesFrom, Config, inRange, image}
+use Rattle.model.specs.Limits.{pageSize}
+use Rattle.model.specs.Row.{Held, store, records, pageAt, pagesFrom, Config, inRange, image, recordOn}
 use Rattle.theory_decoding.specs.Valid.{ranges-say}
 use Rattle.base_numbers.specs.Over.{over, over-all}
 use Rattle.format.specs.First.{firstRoot, rootPage, firstPage, zeros, zeros-split, length-zeros, Numbers}
@@ -32,29 +33,29 @@ cleared img l n e k = e ∙ over-all (replicate (length img) 0) img (length-repl
 -- ── the pages of a store with a root aggregate alone ──
 
 abbrev first : (label : ℕ) → Held
-first label = record { page = 1; settled = true; holder = 0; row = firstRoot label }
+first label = recordOn 1 true 0 (firstRoot label)
 
 other : (b : Bool) (x y : List ℕ) → b ≡ false → cond b x y ≡ y
 other true x y e = absurd (true≢false e)
 other false x y e = refl
 
-free-page : (label q : ℕ) → 2 ≤ q → pageAt (first label ∷ []) q ≡ zeros 4096
+free-page : (label q : ℕ) → 2 ≤ q → pageAt (first label ∷ []) q ≡ zeros pageSize
 unfolding zeros
 free-page label q h = other (eqb q 1) _ _ (ne-eqb q 1 (λ e. omega arith))
 
-free-pages : (label n q : ℕ) → 2 ≤ q → pagesFrom (first label ∷ []) n q ≡ zeros (4096 * n)
+free-pages : (label n q : ℕ) → 2 ≤ q → pagesFrom (first label ∷ []) n q ≡ zeros (pageSize * n)
 unfolding zeros
 free-pages label zero q h = refl
 free-pages label (suc n) q h =
-    let e : 4096 + 4096 * n ≡ 4096 * suc n = omega arith in
-    ap₂ _++_ (free-page label q h) (free-pages label n (suc q) (omega arith)) ∙ sym (zeros-split 4096 (4096 * n)) ∙ ap zeros e
+    let e : pageSize + pageSize * n ≡ pageSize * suc n = omega arith in
+    ap₂ _++_ (free-page label q h) (free-pages label n (suc q) (omega arith)) ∙ sym (zeros-split pageSize (pageSize * n)) ∙ ap zeros e
 
 -- The pages from 1 on.
-root-pages : (label n : ℕ) → pagesFrom (records 0 (store (firstRoot label))) (suc n) 1 ≡ rootPage label ++ zeros (4096 * n)
+root-pages : (label n : ℕ) → pagesFrom (records 0 (store (firstRoot label))) (suc n) 1 ≡ rootPage label ++ zeros (pageSize * n)
 unfolding rootPage
 root-pages label n = ap (λ (z : List ℕ). rootPage label ++ z) (free-pages label n 2 (omega arith))
 
-first-image : (st : Config) (label : ℕ) → 2 ≤ st .pages → firstPage st ++ (rootPage label ++ zeros (4096 * (st .pages - 2))) ≡ image st (firstRoot label)
+first-image : (st : Config) (label : ℕ) → 2 ≤ st .pages → firstPage st ++ (rootPage label ++ zeros (pageSize * (st .pages - 2))) ≡ image st (firstRoot label)
 unfolding image firstPage
 first-image st label h =
     let e : suc (st .pages - 2) ≡ st .pages - 1 = omega arith in
@@ -76,36 +77,36 @@ numbers-of st e =
     }
 
 -- The image l is cleared,
-module _ (st : Config) (l : List ℕ) (r : inRange st ≡ true) (z : l ≡ zeros (4096 * st .pages)) where
-  pages-left : 4096 * st .pages ≡ 4096 + (4096 + 4096 * (st .pages - 2))
+module _ (st : Config) (l : List ℕ) (r : inRange st ≡ true) (z : l ≡ zeros (pageSize * st .pages)) where
+  pages-left : pageSize * st .pages ≡ pageSize + (pageSize + pageSize * (st .pages - 2))
   pages-left = omega (arith, ranges-say st r .few)
 
-  split : l ≡ zeros (4096 + (4096 + 4096 * (st .pages - 2)))
+  split : l ≡ zeros (pageSize + (pageSize + pageSize * (st .pages - 2)))
   split = z ∙ ap zeros pages-left
 
   pub room : 8192 ≤ length l
   room = omega (arith, whole z, ranges-say st r .few)
 
-  pub page-0 : take 4096 l ≡ zeros 4096
-  page-0 = ap (take 4096) split ∙ take-zeros 4096 (4096 + 4096 * (st .pages - 2))
+  pub page-0 : take pageSize l ≡ zeros pageSize
+  page-0 = ap (take pageSize) split ∙ take-zeros pageSize (pageSize + pageSize * (st .pages - 2))
 
-  rest : drop 4096 l ≡ zeros (4096 + 4096 * (st .pages - 2))
-  rest = ap (drop 4096) split ∙ drop-zeros 4096 (4096 + 4096 * (st .pages - 2))
+  rest : drop pageSize l ≡ zeros (pageSize + pageSize * (st .pages - 2))
+  rest = ap (drop pageSize) split ∙ drop-zeros pageSize (pageSize + pageSize * (st .pages - 2))
 
   -- then its first page is p,
-  module _ (p : List ℕ) (k : length p ≡ 4096) where
-    behind : drop 4096 (p ++ drop 4096 l) ≡ zeros (4096 + 4096 * (st .pages - 2))
-    behind = drop-at p (drop 4096 l) 4096 k ∙ rest
+  module _ (p : List ℕ) (k : length p ≡ pageSize) where
+    behind : drop pageSize (p ++ drop pageSize l) ≡ zeros (pageSize + pageSize * (st .pages - 2))
+    behind = drop-at p (drop pageSize l) pageSize k ∙ rest
 
-    pub page-1 : take 4096 (drop 4096 (p ++ drop 4096 l)) ≡ zeros 4096
-    page-1 = ap (take 4096) behind ∙ take-zeros 4096 (4096 * (st .pages - 2))
+    pub page-1 : take pageSize (drop pageSize (p ++ drop pageSize l)) ≡ zeros pageSize
+    page-1 = ap (take pageSize) behind ∙ take-zeros pageSize (pageSize * (st .pages - 2))
 
-    pub room-1 : 8192 ≤ length (p ++ drop 4096 l)
+    pub room-1 : 8192 ≤ length (p ++ drop pageSize l)
     room-1 = simp (length-append, length-drop) (omega (arith, room))
 
     -- and its second page q.
     pub all-written : (label : ℕ) (q : List ℕ) → p ≡ firstPage st → q ≡ rootPage label
-        → take 4096 (p ++ drop 4096 l) ++ (q ++ drop 4096 (drop 4096 (p ++ drop 4096 l))) ≡ image st (firstRoot label)
+        → take pageSize (p ++ drop pageSize l) ++ (q ++ drop pageSize (drop pageSize (p ++ drop pageSize l))) ≡ image st (firstRoot label)
     all-written label q e f =
-        ap₂ _++_ (take-at p (drop 4096 l) 4096 k ∙ e) (ap₂ _++_ f (ap (drop 4096) behind ∙ drop-zeros 4096 (4096 * (st .pages - 2))))
+        ap₂ _++_ (take-at p (drop pageSize l) pageSize k ∙ e) (ap₂ _++_ f (ap (drop pageSize) behind ∙ drop-zeros pageSize (pageSize * (st .pages - 2))))
         ∙ first-image st label (ranges-say st r .few)

@@ -1,14 +1,15 @@
 // Formatting: the settings' ranges, the two pages of a store with a root aggregate alone, and the call.
-use model::Settings;
 use base_numbers::clear;
 use base_numbers::copy_in;
 use base_numbers::put16;
+use model::Settings;
 ghost use mathlib.Core.Path.{_≡_};
 ghost use mathlib.Core.Bool.{true, _&&_};
 ghost use Prim.Native.Nat.{_*_, _≤_};
 ghost use lib.ListN.{length};
 ghost use lib.Dec.{eqb};
 ghost use Rattle.model.specs.Row as row;
+ghost use Rattle.model.specs.Limits.{mostPages, pageSize};
 ghost use Rattle.model.specs.Reading.{lengthOk};
 ghost use Rattle.model.specs.Calls.{config, formatOf};
 ghost use Rattle.format.specs.First.{matrixFits, numbersFit, firstRoot, firstPage, rootPage, zeros, Numbers};
@@ -51,7 +52,7 @@ pub fn numbers_fit(settings: Settings, pages: usize) -> bool
 
 // Page 0, zero before.
 fn put_settings(page: &mut [u8], settings: Settings, matrix: &[u8])
-    requires { ⌜ (now page ≡ zeros 4096) × Numbers (config settings (now matrix)) ⌝ }
+    requires { ⌜ (now page ≡ zeros pageSize) × Numbers (config settings (now matrix)) ⌝ }
     ensures { λ _. ⌜ now (page .exit) ≡ firstPage (config settings (now (matrix .entry))) ⌝ }
 {
     put16(page, 0, settings.pages);
@@ -65,7 +66,7 @@ fn put_settings(page: &mut [u8], settings: Settings, matrix: &[u8])
 
 // Page 1, zero before: a root aggregate without children.
 fn put_root(page: &mut [u8], label: u16)
-    requires { ⌜ now page ≡ zeros 4096 ⌝ }
+    requires { ⌜ now page ≡ zeros pageSize ⌝ }
     ensures { λ _. ⌜ now (page .exit) ≡ rootPage label ⌝ }
 {
     put16(page, 0, 1);
@@ -77,7 +78,7 @@ fn put_root(page: &mut [u8], label: u16)
 
 // The image of a store with a root aggregate alone, whatever bytes it had.
 pub fn write_first(image: &mut [u8], settings: Settings, matrix: &[u8], label: u16)
-    requires { ⌜ (length (now image) ≡ 4096 * settings .pages) × (row.inRange (config settings (now matrix)) ≡ true) ⌝ }
+    requires { ⌜ (length (now image) ≡ pageSize * settings .pages) × (row.inRange (config settings (now matrix)) ≡ true) ⌝ }
     ensures { λ _. ⌜ now (image .exit) ≡ row.image (config settings (now (matrix .entry))) (firstRoot label) ⌝ }
 {
     let n = image.len();
@@ -101,7 +102,7 @@ pub fn length_ok(n: usize) -> bool
 
 // Whether the settings are in range, for an image of so many pages.
 fn settings_fit(settings: Settings, matrix: &[u8], pages: usize) -> bool
-    requires { ⌜ (2 ≤ pages) × (pages ≤ 1024) ⌝ }
+    requires { ⌜ (2 ≤ pages) × (pages ≤ mostPages) ⌝ }
     ensures { λ r. ⌜ r ≡ (row.inRange (config settings (now (matrix .entry))) && eqb (settings .pages) pages) ⌝ }
 {
     if matrix.len() != 256 {

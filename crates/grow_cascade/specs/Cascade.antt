@@ -6,6 +6,7 @@ use Prim.Native.Nat.{ℕ, _+_, _<_, _≤_}
 use native.Mathlib.Omega.{arith}
 use lib.ListN.{length, take}
 use lib.IntN.{ℤ}
+use Rattle.model.specs.Limits.{capacity}
 use Rattle.model.specs.Row.{Row, size, bytes, recordSize, recordBytes, Config}
 use Rattle.model.specs.Reading.{pageOf}
 use Rattle.model.specs.Growth.{Work, Out, separator}
@@ -93,7 +94,7 @@ pub record Ahead (goal : Out) (mem : Mem) (img₀ : List ℕ) (dry : Bool) (n ta
 
 module _ {goal : Out} {mem : Mem} {img₀ : List ℕ} {dry : Bool} {n target tolerance page len : ℕ} {filled : Bool} {counts : ℕ} {leans : ℤ} {l u img : List ℕ}
     (o : Onward goal mem img₀ dry n target tolerance page len filled counts leans l u img) where
-  pub ahead : {holder end : ℕ} {f : Bool} {leans′ : ℤ} {u′ img₁ out₀ out₁ : List ℕ} → 4080 < recordSize (o .now .row) → lastSettled (o .now .chain) ≡ false → holder ≡ lastHolder (o .now .chain)
+  pub ahead : {holder end : ℕ} {f : Bool} {leans′ : ℤ} {u′ img₁ out₀ out₁ : List ℕ} → capacity < recordSize (o .now .row) → lastSettled (o .now .chain) ≡ false → holder ≡ lastHolder (o .now .chain)
       → Severed (o .now .st) page (o .now .row) (leaves (o .now .st) (lastSettled (o .now .chain)) page (o .now .row) (o .now .work)) dry end f u′ (leftImage dry (lastSettled (o .now .chain)) page img) img₁ out₀ out₁
       → Past n u′ → leans′ ≡ leanNow (o .now .st) (o .now .row) counts leans
       → Ahead goal mem img₀ dry n target tolerance holder page end (filled || f) (counts + 1) leans′ l u′ img₁ out₁

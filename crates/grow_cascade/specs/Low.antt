@@ -7,6 +7,7 @@ use native.Mathlib.Omega.{arith}
 use borrow.Author.Tests.{le-leb}
 use lib.ListN.{length, take}
 use lib.IntN.{ℤ}
+use Rattle.model.specs.Limits.{pageSize, capacity}
 use Rattle.model.specs.Row.{Row, recordSize, Config}
 use Rattle.model.specs.Reading.{pageOf}
 use Rattle.model.specs.Growth.{Work, Out}
@@ -24,7 +25,7 @@ pub record Put (dry : Bool) (page : ℕ) (s : Bool) (h : ℕ) (row : Row) (img n
   pub still : dry ≡ true → new ≡ img
   pub pages : dry ≡ false → pageOf new ≡ putMem page s h row (pageOf img)
 
-pub put-is : (dry : Bool) (n page : ℕ) (s : Bool) (h : ℕ) (row : Row) (img new : List ℕ) → Below n row → recordSize row ≤ 4080 → 4096 * n ≤ length img → page < n
+pub put-is : (dry : Bool) (n page : ℕ) (s : Bool) (h : ℕ) (row : Row) (img new : List ℕ) → Below n row → recordSize row ≤ capacity → pageSize * n ≤ length img → page < n
     → new ≡ cond dry img (written page s h row img) → Put dry page s h row img new
 put-is true n page s h row img new b k room i e = record { same = ap length e; still = λ _. e; pages = λ z. absurd (true≢false z) }
 put-is false n page s h row img new b k room i e = record {
@@ -34,16 +35,16 @@ put-is false n page s h row img new b k room i e = record {
 }
 
 module _ {st : Config} {was : List ℕ} {root : Row} {c : Chain} {old row : Row} {work : Work} {dry : Bool} {n page len : ℕ} {filled : Bool} {count : ℕ} {leans : ℤ} {l u img : List ℕ}
-    (w : Rising st was root c old row work dry n page len filled count leans l u img) (fit : recordSize row ≤ 4080) where
+    (w : Rising st was root c old row work dry n page len filled count leans l u img) (fit : recordSize row ≤ capacity) where
   -- What the code that writes it requires.
   abbrev pub content : Content (take len l) n
   content = record { row = row; is = w .is; below = w .below; small = fit; some = w .some }
 
   mem-low : (c : Chain) (m : Mem) → riseMem st c row work m ≡ putMem (lastPage c) (lastSettled c) (lastHolder c) row m
   unfolding riseMem keptMem
-  mem-low top m = rw (le-leb (recordSize row) 4080 fit)
-  mem-low (below c s q true rest) m = rw (le-leb (recordSize row) 4080 fit)
-  mem-low (below c s q false rest) m = rw (le-leb (recordSize row) 4080 fit)
+  mem-low top m = rw (le-leb (recordSize row) capacity fit)
+  mem-low (below c s q true rest) m = rw (le-leb (recordSize row) capacity fit)
+  mem-low (below c s q false rest) m = rw (le-leb (recordSize row) capacity fit)
 
   pub low-done : {holder : ℕ} {new : List ℕ} → holder ≡ lastHolder c → new ≡ cond dry img (written page (lastSettled c) holder row img)
       → Risen (rise st c (row, work)) (riseMem st c row work (pageOf img)) dry filled count leans img new

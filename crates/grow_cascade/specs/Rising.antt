@@ -4,10 +4,11 @@ use mathlib.Core.Bool.{Bool, true, false, cond}
 use mathlib.Core.List.{List}
 use Prim.Native.Nat.{ℕ, _+_, _*_, _<_, _≤_}
 use native.Mathlib.Omega.{arith}
-use lib.ListN.{length, take, getD}
+use lib.ListN.{length, take}
 use lib.IntN.{ℤ}
+use Rattle.model.specs.Limits.{mostPages, pageSize, capacity, mostNode}
 use Rattle.model.specs.Row.{Row, store, isNil, lone, recordSize, recordBytes, recordPage, height, Config}
-use Rattle.model.specs.Reading.{Reads, twoAt, pageOf}
+use Rattle.model.specs.Reading.{Reads, twoAt, pageOf, backAt, settledAt}
 use Rattle.model.specs.Growth.{Work, Out, separator, rootRow, splitPoint, startOfD}
 use Rattle.model.specs.Claims.{InLean}
 use Rattle.theory_rows.specs.Fits.{Fits, Valid}
@@ -46,7 +47,7 @@ pub record Rising (st : Config) (was : List ℕ) (root : Row) (c : Chain) (old r
   pub at : page ≡ lastPage c
   pub is : take len l ≡ recordBytes row
   pub long : len ≡ recordSize row
-  pub most : recordSize row ≤ 4606
+  pub most : recordSize row ≤ (capacity + mostNode)
   pub some : isNil row ≡ false
   pub keeps : lone old ≡ true → lone row ≡ true
   pub below : Below n row
@@ -56,7 +57,7 @@ pub record Rising (st : Config) (was : List ℕ) (root : Row) (c : Chain) (old r
   pub splits : count ≡ work .splits
   pub lean : leans ≡ work .lean
   pub range : InLean leans
-  pub short : chainLength c + count ≤ 1024
+  pub short : chainLength c + count ≤ mostPages
   pub fits : Fits (rise st c (row, work) .0)
   pub levels : height (rise st c (row, work) .0) ≤ 24
   pub same : length img ≡ length was
@@ -82,10 +83,10 @@ module _ {st : Config} {was : List ℕ} {root : Row} {c : Chain} {old row : Row}
   pub stands : OnPage was (lastPage c) (lastHolder c) old
   stands = chain-page was st root (w .reads) c old (w .held)
 
-  pub long-image : length img ≡ 4096 * n
-  long-image = w .same ∙ reads-length was st root (w .reads) ∙ ap (λ (i : ℕ). 4096 * i) (w .pages)
+  pub long-image : length img ≡ pageSize * n
+  long-image = w .same ∙ reads-length was st root (w .reads) ∙ ap (λ (i : ℕ). pageSize * i) (w .pages)
 
-  pub inside : (1 ≤ page) × ((page < n) × ((n ≤ 1024) × (4096 * page + 4096 ≤ length img)))
+  pub inside : (1 ≤ page) × ((page < n) × ((n ≤ mostPages) × (pageSize * page + pageSize ≤ length img)))
   inside =
       let p = stands .here .on in
       omega (arith, p .low, p .inside, w .at, w .same, long-image, w .pages, valid .ranges .many)
@@ -104,28 +105,28 @@ module _ {st : Config} {was : List ℕ} {root : Row} {c : Chain} {old row : Row}
       go false e = w .wet e .own
 
   -- A chain's holder is a page.
-  pub holder-high : lastHolder c < 1024
+  pub holder-high : lastHolder c < mostPages
   holder-high = go c (w .held)
     where
-      go : (c : Chain) → whole c old ≡ root → lastHolder c < 1024
+      go : (c : Chain) → whole c old ≡ root → lastHolder c < mostPages
       go top e = omega arith
       go (below c s q b rest) e = chain-page was st root (w .reads) c _ e .here .on .high
 
   on-page : PageIn img (lastPage c)
   on-page = let p = stands .here .on in record { low = p .low; high = p .high; inside = omega (arith, p .inside, w .same) }
 
-  pub settled-is : getD img (4096 * page + 4081) 0 ≡ cond (lastSettled c) 1 0
+  pub settled-is : settledAt img (pageSize * page) ≡ cond (lastSettled c) 1 0
   settled-is =
-      ap (λ (i : ℕ). getD img (4096 * i + 4081) 0) (w .at) ∙ page-byte img (lastHeld c old) on-page own-page (stands .fits) holder-high 4081 (omega arith)
+      ap (λ (i : ℕ). settledAt img (pageSize * i)) (w .at) ∙ page-byte img (lastHeld c old) on-page own-page (stands .fits) holder-high 4081 (omega arith)
       ∙ in-trailer (lastHeld c old) (stands .fits) 1
 
-  pub settled-most : getD img (4096 * page + 4081) 0 ≤ 1
+  pub settled-most : settledAt img (pageSize * page) ≤ 1
   settled-most = omega (arith, settled-is, bit-le (lastSettled c))
 
-  pub holder-is : twoAt img (4096 * page + 4084) ≡ lastHolder c
+  pub holder-is : backAt img (pageSize * page) ≡ lastHolder c
   unfolding twoAt
   holder-is =
-      ap (λ (i : ℕ). twoAt img (4096 * i + 4084)) (w .at) ∙ page-number img (lastHeld c old) on-page own-page (stands .fits) holder-high 4084 (omega arith)
+      ap (λ (i : ℕ). backAt img (pageSize * i)) (w .at) ∙ page-number img (lastHeld c old) on-page own-page (stands .fits) holder-high 4084 (omega arith)
       ∙ rw (in-trailer (lastHeld c old) (stands .fits) 4, in-trailer (lastHeld c old) (stands .fits) 5) (two-bytes (lastHolder c) (omega (arith, holder-high)))
 
   -- ── the new row ──
@@ -141,7 +142,7 @@ module _ {st : Config} {was : List ℕ} {root : Row} {c : Chain} {old row : Row}
   abbrev pub env : Env n page u img
   env = record { few = inside .1 .1 .0; image = omega (arith, long-image); low = inside .0; start = inside .1 .0; past = w .past }
 
-  module _ {target tolerance : ℕ} (targ : st .target ≡ target) (tol : st .tolerance ≡ tolerance) (big : 4080 < recordSize row) where
+  module _ {target tolerance : ℕ} (targ : st .target ≡ target) (tol : st .tolerance ≡ tolerance) (big : capacity < recordSize row) where
     abbrev pub leaning : Leaning (take len l) target tolerance
     leaning = record {
       st = st;

@@ -9,6 +9,7 @@ use borrow.Author.Tests.{lt-leb}
 use lib.Dec.{eqb, leb}
 use lib.ListN.{length, take}
 use lib.IntN.{ℤ, subℕ}
+use Rattle.model.specs.Limits.{capacity}
 use Rattle.model.specs.Row.{Row, size, isNil, lone, bytes, recordSize, recordBytes, Config}
 use Rattle.model.specs.Reading.{pageOf}
 use Rattle.theory_rows.specs.Bound.{split-good}
@@ -55,12 +56,12 @@ lone-size : (r : Row) → lone r ≡ true → recordSize r ≡ size r
 lone-size r e = ap (λ (b : Bool). cond b 0 6 + size r) e ∙ omega arith
 
 -- The split of a record that stays on its page.
-kept-big : (st : Config) (q : ℕ) (o : Out) → 4080 < recordSize (o .0) → kept st q o ≡ separator st q (o .0) (counted st (o .0) (o .1))
+kept-big : (st : Config) (q : ℕ) (o : Out) → capacity < recordSize (o .0) → kept st q o ≡ separator st q (o .0) (counted st (o .0) (o .1))
 unfolding kept
-kept-big st q o k = rw (lt-leb (recordSize (o .0)) 4080 k)
+kept-big st q o k = rw (lt-leb (recordSize (o .0)) capacity k)
 
 module _ {st : Config} {was : List ℕ} {root : Row} {c : Chain} {old row : Row} {work : Work} {dry : Bool} {n page len : ℕ} {filled : Bool} {count : ℕ} {leans : ℤ} {l u img : List ℕ}
-    (w : Rising st was root c old row work dry n page len filled count leans l u img) (big : 4080 < recordSize row) (stays : lastSettled c ≡ true) where
+    (w : Rising st was root c old row work dry n page len filled count leans l u img) (big : capacity < recordSize row) (stays : lastSettled c ≡ true) where
   abbrev v : Work
   v = counted st row work
 
@@ -79,15 +80,15 @@ module _ {st : Config} {was : List ℕ} {root : Row} {c : Chain} {old row : Row}
     where
       go : (c : Chain) → lastSettled c ≡ true → Low c old → rise st c (row, work) ≡ onRow (whole c) (separator st (lastPage c) row v)
       go top e k = kept-big st 1 (row, work) big
-      go (below c s q b rest) e k = rise-stays st c s q b rest old (row, work) (ap (λ (b : Bool). b || leb (recordSize row) 4080) e) k ∙ ap (onRow (whole (below c s q b rest))) (kept-big st q (row, work) big)
+      go (below c s q b rest) e k = rise-stays st c s q b rest old (row, work) (ap (λ (b : Bool). b || leb (recordSize row) capacity) e) k ∙ ap (onRow (whole (below c s q b rest))) (kept-big st q (row, work) big)
 
   mem-is : (m : Mem) → riseMem st c row work m ≡ putMem page (lastSettled c) (lastHolder c) (S .0) (separatorMem st page row v m)
   unfolding riseMem keptMem
   mem-is m = go c stays ∙ ap (λ (q : ℕ). putMem q (lastSettled c) (lastHolder c) (separator st q row v .0) (separatorMem st q row v m)) (sym (w .at))
     where
       go : (c : Chain) → lastSettled c ≡ true → riseMem st c row work m ≡ putMem (lastPage c) (lastSettled c) (lastHolder c) (separator st (lastPage c) row v .0) (separatorMem st (lastPage c) row v m)
-      go top e = rw (lt-leb (recordSize row) 4080 big)
-      go (below c s q true rest) e = rw (lt-leb (recordSize row) 4080 big)
+      go top e = rw (lt-leb (recordSize row) capacity big)
+      go (below c s q true rest) e = rw (lt-leb (recordSize row) capacity big)
       go (below c s q false rest) e = absurd (false≢true e)
 
   module _ {target tolerance end : ℕ} {f : Bool} {u′ img₁ out₀ out₁ : List ℕ} (targ : st .target ≡ target) (tol : st .tolerance ≡ tolerance)
@@ -109,7 +110,7 @@ module _ {st : Config} {was : List ℕ} {root : Row} {c : Chain} {old row : Row}
     pub severed-below : Below n (S .0)
     severed-below = let i = inside w in below-separator st n page u v (w .pages) (i .1 .1 .0) (i .1 .0) marks (w .past) row (w .below)
 
-    pub severed-small : recordSize (S .0) ≤ 4080
+    pub severed-small : recordSize (S .0) ≤ capacity
     severed-small = omega (arith, lone-size (S .0) S-lone, good w targ tol big v .small)
 
     pub severed-some : isNil (S .0) ≡ false

@@ -9,7 +9,8 @@ use borrow.Author.Tests.{lt-leb, eqb-true}
 use lib.Dec.{eqb, leb}
 use lib.ListN.{length, take, length-replicate}
 use lib.IntN.{ℤ, subℕ}
-use Rattle.model.specs.Row.{Row, nil, agg, lit, rec, _⊹_, size, isNil, lone, bytes, recordSize, recordBytes, recordPage, count, height, Config}
+use Rattle.model.specs.Limits.{pageSize, capacity}
+use Rattle.model.specs.Row.{Row, nil, agg, lit, rec, _⊹_, size, isNil, lone, bytes, recordSize, recordBytes, recordPage, count, height, Config, recordOn}
 use Rattle.model.specs.Reading.{pageOf}
 use Rattle.model.specs.Growth.{Work, Out, separator, counted, freed, rootRow, splitPoint, startOfD}
 use Rattle.theory_rows.specs.Fits.{Fits}
@@ -94,22 +95,22 @@ below-fill n (inside left h rest s) x y k b =
 
 -- ── the page that is left ──
 
-left-long : (dry : Bool) (q : ℕ) (img : List ℕ) → 4096 * q + 4096 ≤ length img → length (leftImage dry false q img) ≡ length img
+left-long : (dry : Bool) (q : ℕ) (img : List ℕ) → pageSize * q + pageSize ≤ length img → length (leftImage dry false q img) ≡ length img
 left-long true q img h = refl
-left-long false q img h = length-setPage q blank img (length-replicate {A = ℕ} 4096 0) h
+left-long false q img h = length-setPage q blank img (length-replicate {A = ℕ} pageSize 0) h
 
 left-still : (dry : Bool) (q : ℕ) (img : List ℕ) → dry ≡ true → leftImage dry false q img ≡ img
 left-still true q img e = refl
 left-still false q img e = absurd (false≢true e)
 
-left-mem : (dry : Bool) (q : ℕ) (img : List ℕ) → 4096 * q + 4096 ≤ length img → dry ≡ false → pageOf (leftImage dry false q img) ≡ setMem q blank (pageOf img)
+left-mem : (dry : Bool) (q : ℕ) (img : List ℕ) → pageSize * q + pageSize ≤ length img → dry ≡ false → pageOf (leftImage dry false q img) ≡ setMem q blank (pageOf img)
 left-mem true q img h e = absurd (true≢false e)
 left-mem false q img h e = mem-cleared q img h
 
 -- ── one step up ──
 
 module _ {st : Config} {was : List ℕ} {root : Row} {c : Chain} {s : Spot} {q : ℕ} {rest old row : Row} {work : Work} {dry : Bool} {n page len : ℕ} {filled : Bool} {counts : ℕ} {leans : ℤ} {l u img : List ℕ}
-    (w : Rising st was root (below c s q false rest) old row work dry n page len filled counts leans l u img) (big : 4080 < recordSize row)
+    (w : Rising st was root (below c s q false rest) old row work dry n page len filled counts leans l u img) (big : capacity < recordSize row)
     {target tolerance end : ℕ} {f : Bool} {u′ img₁ out₀ out₁ : List ℕ} (targ : st .target ≡ target) (tol : st .tolerance ≡ tolerance)
     (sev : Severed st page row (leaves st false page row work) dry end f u′ (leftImage dry false page img) img₁ out₀ out₁) where
   abbrev v : Work
@@ -131,11 +132,11 @@ module _ {st : Config} {was : List ℕ} {root : Row} {c : Chain} {s : Spot} {q :
   split : SplitGood (S .0) (splitPoint st (recordSize row)) (startOfD st row)
   split = subst (λ (p : ℕ). SplitGood (separator st p row v .0) (splitPoint st (recordSize row)) (startOfD st row)) (w .at) (good w targ tol big v)
 
-  room : 4096 * q + 4096 ≤ length img
+  room : pageSize * q + pageSize ≤ length img
   room = omega (arith, page-inside w, w .at)
 
-  too-large : leb (recordSize row) 4080 ≡ false
-  too-large = lt-leb (recordSize row) 4080 big
+  too-large : leb (recordSize row) capacity ≡ false
+  too-large = lt-leb (recordSize row) capacity big
 
   pub next-goal : rise st c (next, S .1) ≡ rise st (below c s q false rest) (row, work)
   next-goal = sym (rise-goes st c s q rest (row, work) too-large)
@@ -196,14 +197,14 @@ module _ {st : Config} {was : List ℕ} {root : Row} {c : Chain} {s : Spot} {q :
         let o = above-stands was st root (w .reads) c s q false rest old (w .held) .here .on in
         record { low = omega (arith, o .low, at); high = omega (arith, o .high, at); inside = omega (arith, o .inside, at, next-same) }
 
-    pub lift-is : pageOf img₁ holder ≡ recordPage (record { page = holder; settled = lastSettled c; holder = lastHolder c; row = fill s (rec page false old rest) })
+    pub lift-is : pageOf img₁ holder ≡ recordPage (recordOn holder (lastSettled c) (lastHolder c) (fill s (rec page false old rest)))
     lift-is =
         let e : pageOf img₁ (lastPage c) ≡ recordPage (lastHeld c above) = above-page ∙ chain-bytes was st root (w .reads) c above (w .held) in
-        ap (pageOf img₁) at ∙ e ∙ (λ i. recordPage (record { page = sym at i; settled = lastSettled c; holder = lastHolder c; row = fill s (rec (sym (w .at) i) false old rest) }))
+        ap (pageOf img₁) at ∙ e ∙ (λ i. recordPage ((recordOn (sym at i) (lastSettled c) (lastHolder c) (fill s (rec (sym (w .at) i) false old rest)))))
 
-    pub lift-small : recordSize (fill s (rec page false old rest)) ≤ 4080
+    pub lift-small : recordSize (fill s (rec page false old rest)) ≤ capacity
     lift-small =
-        subst (λ (p : ℕ). recordSize (fill s (rec p false old rest)) ≤ 4080) (sym (w .at)) (above-stands was st root (w .reads) c s q false rest old (w .held) .fits)
+        subst (λ (p : ℕ). recordSize (fill s (rec p false old rest)) ≤ capacity) (sym (w .at)) (above-stands was st root (w .reads) c s q false rest old (w .held) .fits)
 
     pub lift-once : count page (fill s (rec page false old rest)) ≡ 1
     lift-once = subst (λ (p : ℕ). count p (fill s (rec p false old rest)) ≡ 1) (sym (w .at)) (above-once was st root (w .reads) c s q false rest old (w .held))

@@ -1,6 +1,6 @@
 // From the record that an insert changed upwards: each record is written, or split, and the separator of one that is not settled goes to the record above.
-use grow_replace_proxy::lift;
 use base_numbers::two;
+use grow_replace_proxy::lift;
 use grow_write_back::first_lean;
 use grow_write_back::keep;
 use grow_write_back::split_off;

@@ -9,6 +9,7 @@ use borrow.Author.Tests.{ne-eqb}
 use lib.Dec.{ltb}
 use lib.ListN.{length}
 use lib.IntN.{ℤ}
+use Rattle.model.specs.Limits.{mostContent, longestParent}
 use Rattle.model.specs.Row.{Row, nil, bytes, image, Config}
 use Rattle.model.specs.Reading.{Reads}
 use Rattle.model.specs.Tree.{Tree, shown, New, placeOf}
@@ -54,13 +55,13 @@ module _ (t : Tree) (path : List ℕ) (k : ℕ) (x : New) where
   unfolding insertNumber
   number-before full z =
       let p = namedBy t path in
-      same-test (ltb 88 (length path)) (kindBad x) (ltb 520 (length (x .content))) (isNone p) (isLiteral p) (childrenBelow k p) full z
+      same-test (ltb longestParent (length path)) (kindBad x) (ltb mostContent (length (x .content))) (isNone p) (isLiteral p) (childrenBelow k p) full z
 
   number-full : insertNumber t path k x false ≡ 0 → 12 ≡ insertNumber t path k x true
   unfolding insertNumber
   number-full z =
       let p = namedBy t path in
-      last-test (ltb 88 (length path)) (kindBad x) (ltb 520 (length (x .content))) (isNone p) (isLiteral p) (childrenBelow k p) z
+      last-test (ltb longestParent (length path)) (kindBad x) (ltb mostContent (length (x .content))) (isNone p) (isLiteral p) (childrenBelow k p) z
 
 -- ── the answer ──
 

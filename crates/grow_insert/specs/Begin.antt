@@ -8,7 +8,8 @@ use native.Mathlib.Omega.{arith}
 use lib.Dec.{eqb}
 use lib.ListN.{length, take, getD}
 use lib.IntN.{ℤ, pos}
-use Rattle.model.specs.Row.{Head, Row, nil, store, _⊹_, size, base, isNil, lone, bytes, recordSize, recordBytes, recordPage, height, image, Config}
+use Rattle.model.specs.Limits.{mostPages, pageSize, capacity, mostNode}
+use Rattle.model.specs.Row.{Head, Row, nil, store, _⊹_, size, base, isNil, lone, bytes, recordSize, recordBytes, recordPage, height, image, Config, recordOn}
 use Rattle.model.specs.Reading.{twoAt, pageOf, configOn}
 use Rattle.model.specs.Tree.{New, placeOf}
 use Rattle.model.specs.Growth.{Work, Out, taken, apart, asRow, place, atRest, grow}
@@ -76,10 +77,10 @@ pub record Grew {dry : Bool} {img : List ℕ} {above k left label : ℕ} {node :
 -- ── the new node ──
 
 module _ (st : Config) (x : New) (fits : NewFits x) where
-  pub node-most : size (asRow st x nil) ≤ 526
-  node-most = cond-case (λ (r : Row). size r ≤ 526) (eqb (x .kind) 1) (λ _. omega arith) (λ _. omega (arith, fits .long))
+  pub node-most : size (asRow st x nil) ≤ mostNode
+  node-most = cond-case (λ (r : Row). size r ≤ mostNode) (eqb (x .kind) 1) (λ _. omega arith) (λ _. omega (arith, fits .long))
 
-  node-record : length (recordBytes (asRow st x nil)) ≤ 4080
+  node-record : length (recordBytes (asRow st x nil)) ≤ capacity
   node-record = rw (as-lone st x) (omega (arith, length-bytes (asRow st x nil), node-most))
 
   node-fits : Fits (asRow st x nil)
@@ -94,19 +95,19 @@ module _ (st : Config) (x : New) (fits : NewFits x) where
   node-below n = cond-case (Below n) (eqb (x .kind) 1) (λ _. (tt, tt)) (λ _. tt)
 
   module _ (h : Head) (page : ℕ) (w : Work) where
-    pub placed-most : size (asPlaced st x h page w) ≤ 526
-    placed-most = cond-case (λ (r : Row). size r ≤ 526) (apart st h (x .head)) (λ _. omega arith) (λ _. node-most)
+    pub placed-most : size (asPlaced st x h page w) ≤ mostNode
+    placed-most = cond-case (λ (r : Row). size r ≤ mostNode) (apart st h (x .head)) (λ _. omega arith) (λ _. node-most)
 
     placed-below : (n : ℕ) → ownPage st x h page w < n → Below n (asPlaced st x h page w)
     placed-below n k = cond-case (Below n) (apart st h (x .head)) (λ _. (k, tt)) (λ _. node-below n)
 
-    placed-length : (img : List ℕ) → 4096 * ownPage st x h page w + 4096 ≤ length img → length (imagePlaced st x h page w img) ≡ length img
+    placed-length : (img : List ℕ) → pageSize * ownPage st x h page w + pageSize ≤ length img → length (imagePlaced st x h page w img) ≡ length img
     placed-length img k =
         let r = recordBytes (asRow st x nil) in
         cond-case (λ (i : List ℕ). length i ≡ length img) (apart st h (x .head))
         (λ _. length-setPage (ownPage st x h page w) (pageBytesOf r 1 page) img (length-pageBytesOf r 1 page node-record) k) (λ _. refl)
 
-    placed-mem : (img : List ℕ) → 4096 * ownPage st x h page w + 4096 ≤ length img → pageOf (imagePlaced st x h page w img) ≡ placeMem st x h page w (pageOf img)
+    placed-mem : (img : List ℕ) → pageSize * ownPage st x h page w + pageSize ≤ length img → pageOf (imagePlaced st x h page w img) ≡ placeMem st x h page w (pageOf img)
     placed-mem img k = go (apart st h (x .head))
       where
         q : ℕ
@@ -118,7 +119,7 @@ module _ (st : Config) (x : New) (fits : NewFits x) where
         go : (b : Bool) → pageOf (cond b (setPage q (pageBytesOf (recordBytes r) 1 page) img) img) ≡ cond b (putMem q true page r (pageOf img)) (pageOf img)
         go true =
             mem-set q (pageBytesOf (recordBytes r) 1 page) img (length-pageBytesOf (recordBytes r) 1 page node-record) k
-            ∙ ap (λ (z : List ℕ). setMem q z (pageOf img)) (sym (recordPage-is (record { page = q; settled = true; holder = page; row = r })))
+            ∙ ap (λ (z : List ℕ). setMem q z (pageOf img)) (sym (recordPage-is (recordOn q true page r)))
             ∙ sym (node-bare q _)
         go false = refl
 
@@ -158,10 +159,10 @@ module _ {dry : Bool} {img : List ℕ} {above k left label : ℕ} {node : List �
   valid : Valid st root
   valid = reads-valid img st root (w .aim .reads)
 
-  pub long : length img ≡ 4096 * st .pages
+  pub long : length img ≡ pageSize * st .pages
   long = reads-length img st root (w .aim .reads)
 
-  pub few : (2 ≤ st .pages) × (st .pages ≤ 1024)
+  pub few : (2 ≤ st .pages) × (st .pages ≤ mostPages)
   few = (valid .ranges .few, valid .ranges .many)
 
   pub target-is : getD img 2 0 ≡ st .target
@@ -230,14 +231,14 @@ module _ {dry : Bool} {img : List ℕ} {above k left label : ℕ} {node : List �
     own-inside =
         free-within st (st .pages) (lastPage c) (W .used) refl (few .1) (inside .1) (marked-beyond marked (rest-past st root u₀ marked)) (st .pages)
 
-    own-room : 4096 * ownPage st (w .x) h (lastPage c) W + 4096 ≤ length img
+    own-room : pageSize * ownPage st (w .x) h (lastPage c) W + pageSize ≤ length img
     own-room = omega (arith, long, own-inside)
 
     module _ {o₀ u img₁ out : List ℕ} {size₁ : ℕ} {full : Bool} (placed : Placed st (w .x) h p W dry img o₀ size₁ full u img₁ out) where
       put : Placed st (w .x) h (lastPage c) W dry img o₀ size₁ full u img₁ out
       put = subst (λ (i : ℕ). Placed st (w .x) h i W dry img o₀ size₁ full u img₁ out) at-page placed
 
-      pub placed-size : size₁ ≤ 526
+      pub placed-size : size₁ ≤ mostNode
       placed-size = omega (arith, put .long, placed-most st (w .x) (w .fits) h (lastPage c) W)
 
       pub placed-is : take size₁ out ≡ bytes P
@@ -285,13 +286,13 @@ module _ {dry : Bool} {img : List ℕ} {above k left label : ℕ} {node : List �
         pub into-on : PageIn img₁ p
         into-on = let o = stands .here .on in record { low = omega (arith, o .low, at-page); high = omega (arith, o .high, at-page); inside = omega (arith, o .inside, at-page, same₁) }
 
-        pub into-is : pageOf img₁ p ≡ recordPage (record { page = p; settled = lastSettled c; holder = lastHolder c; row = fill s rest })
-        into-is = ap (pageOf img₁) at-page ∙ page-same ∙ ap (λ (i : ℕ). recordPage (record { page = i; settled = lastSettled c; holder = lastHolder c; row = fill s rest })) (sym at-page)
+        pub into-is : pageOf img₁ p ≡ recordPage (recordOn p (lastSettled c) (lastHolder c) (fill s rest))
+        into-is = ap (pageOf img₁) at-page ∙ page-same ∙ ap (λ (i : ℕ). recordPage (recordOn i (lastSettled c) (lastHolder c) (fill s rest))) (sym at-page)
 
-        pub into-small : recordSize (fill s rest) ≤ 4080
+        pub into-small : recordSize (fill s rest) ≤ capacity
         into-small = stands .fits
 
-        pub into-most : size P ≤ 526
+        pub into-most : size P ≤ mostNode
         into-most = placed-most st (w .x) (w .fits) h (lastPage c) W
 
         pub into-offset : off ≡ at (base (fill s rest)) s

@@ -8,8 +8,9 @@ use borrow.Author.Tests.{le-leb, lt-leb}
 use lib.Dec.{eqb, leb}
 use lib.ListN.{length, take, getD}
 use lib.IntN.{pos}
+use Rattle.model.specs.Limits.{pageSize, capacity}
 use Rattle.model.specs.Row.{Row, nil, agg, lit, rec, _⊹_, base, bytes, recordSize, recordBytes, Config}
-use Rattle.model.specs.Reading.{twoAt}
+use Rattle.model.specs.Reading.{twoAt, settledAt}
 use Rattle.model.specs.Tree.{New}
 use Rattle.model.specs.Growth.{Out, apart, asRow, taken}
 use Rattle.model.specs.declared.Place.{Place}
@@ -36,9 +37,9 @@ pub record Seat (img used : List ℕ) (n target tolerance page off : ℕ) (new c
   pub ready : Env n page used img
   pub low : off < 65536
   pub own : getD new 0 0 ≡ 3 → (8 ≤ length new) × (place ≡ record { page = twoAt new 6; offset = 0 })
-  pub kept : (getD new 0 0 ≡ 3 → ⊥) → length content ≤ 4080 → place ≡ record { page = page; offset = off }
-  pub split : (getD new 0 0 ≡ 3 → ⊥) → 4080 < length content
-      → (o : Off n page target tolerance (getD img (4096 * page + 4081) 0) content used) × (place ≡ movedRecord (o .st) page (o .row) (leaves (o .st) (o .stays) page (o .row) (o .work)) off)
+  pub kept : (getD new 0 0 ≡ 3 → ⊥) → length content ≤ capacity → place ≡ record { page = page; offset = off }
+  pub split : (getD new 0 0 ≡ 3 → ⊥) → capacity < length content
+      → (o : Off n page target tolerance (settledAt img (pageSize * page)) content used) × (place ≡ movedRecord (o .st) page (o .row) (leaves (o .st) (o .stays) page (o .row) (o .work)) off)
 
 -- ── the bytes say whether the node is apart ──
 
@@ -132,21 +133,21 @@ module _ {dry : Bool} {img : List ℕ} {above k left label : ℕ} {node : List �
         let e : base r ≡ base (fill (begin.s w) (begin.rest w)) = ap base (sym row-is ∙ begin.row-is w) ∙ ap (λ (x : Bool). cond x 0 6) (sym (lone-fill (begin.s w) (begin.rest w) (begin.P w ⊹ begin.rest w) (begin.keeps w))) in
         omega (arith, off-is)
 
-    seat-kept : length (take len l) ≤ 4080 → seatPlace ≡ record { page = p; offset = off₁ }
+    seat-kept : length (take len l) ≤ capacity → seatPlace ≡ record { page = p; offset = off₁ }
     seat-kept h =
-        let m : leb (recordSize r) 4080 ≡ true = le-leb (recordSize r) 4080 (omega (arith, content-long, ap recordSize row-is)) in
+        let m : leb (recordSize r) capacity ≡ true = le-leb (recordSize r) capacity (omega (arith, content-long, ap recordSize row-is)) in
         rw (beside, m) (λ i. record { page = sym at-page i; offset = sym byte-is i })
 
-    split-place : 4080 < recordSize (begin.row w) → seatPlace ≡ movedRecord S p (begin.row w) (leaves S (lastSettled c) p (begin.row w) (begin.O w .1)) off₁
+    split-place : capacity < recordSize (begin.row w) → seatPlace ≡ movedRecord S p (begin.row w) (leaves S (lastSettled c) p (begin.row w) (begin.O w .1)) off₁
     split-place big =
-        let m : leb (recordSize r) 4080 ≡ false = lt-leb (recordSize r) 4080 (omega (arith, ap recordSize row-is)) in
+        let m : leb (recordSize r) capacity ≡ false = lt-leb (recordSize r) capacity (omega (arith, ap recordSize row-is)) in
         let e : seatPlace ≡ movedRecord S (lastPage c) r (leaves S (lastSettled c) (lastPage c) r (begin.W w)) (base r + before (begin.s w)) = rw (beside, m) in
         e ∙ (λ i. movedRecord S (sym at-page i) (sym row-is i) (leaves S (lastSettled c) (sym at-page i) (sym row-is i) (sym work-is i)) (sym byte-is i))
 
-    seat-split : 4080 < length (take len l)
-        → (o : Off n p target tolerance (getD img₁ (4096 * p + 4081) 0) (take len l) u) × (seatPlace ≡ movedRecord (o .st) p (o .row) (leaves (o .st) (o .stays) p (o .row) (o .work)) off₁)
+    seat-split : capacity < length (take len l)
+        → (o : Off n p target tolerance (settledAt img₁ (pageSize * p)) (take len l) u) × (seatPlace ≡ movedRecord (o .st) p (o .row) (leaves (o .st) (o .stays) p (o .row) (o .work)) off₁)
     seat-split h =
-        let big : 4080 < recordSize (begin.row w) = omega (arith, content-long) in
+        let big : capacity < recordSize (begin.row w) = omega (arith, content-long) in
         (off rising a b big _ (settled-is rising), split-place big)
 
   -- What the code that finds it requires.

@@ -5,8 +5,9 @@ use mathlib.Core.List.{List}
 use Prim.Native.Nat.{ℕ, _+_, _*_, _-_, _≤_}
 use native.Mathlib.Omega.{arith}
 use lib.ListN.{length, take, drop}
-use Rattle.model.specs.Row.{Row, _⊹_, size, base, bytes, recordSize, recordBytes, Held, recordPage}
-use Rattle.model.specs.Reading.{twoAt, pageOf}
+use Rattle.model.specs.Limits.{pageSize, capacity, mostNode}
+use Rattle.model.specs.Row.{Row, _⊹_, size, base, bytes, recordSize, recordBytes, Held, recordPage, recordOn}
+use Rattle.model.specs.Reading.{pageOf, usedAt}
 use Rattle.theory_rows.specs.Laws.{length-bytes}
 use Rattle.theory_rows.specs.Image.{length-record}
 use Rattle.theory_layout.specs.Here.{PageIn}
@@ -23,10 +24,10 @@ pub record Taken (img : List ℕ) (page pos par : ℕ) (new : List ℕ) : Type 0
   pub settled : Bool
   pub up : ℕ
   pub on : PageIn img page
-  pub is : pageOf img page ≡ recordPage (record { page = page; settled = settled; holder = up; row = fill spot tail })
-  pub small : recordSize (fill spot tail) ≤ 4080
+  pub is : pageOf img page ≡ recordPage (recordOn page settled up (fill spot tail))
+  pub small : recordSize (fill spot tail) ≤ capacity
   pub comes : new ≡ bytes put
-  pub most : size put ≤ 526
+  pub most : size put ≤ mostNode
   pub offset : pos ≡ at (base (fill spot tail)) spot
   pub holder : par ≡ parent 0 (base (fill spot tail)) spot
   pub root : KeepsRoot spot tail (put ⊹ tail)
@@ -37,12 +38,12 @@ taken w = fill (w .spot) (w .put ⊹ w .tail)
 
 module _ {img : List ℕ} {page pos par : ℕ} {new : List ℕ} (w : Taken img page pos par new) where
   abbrev held : Held
-  held = record { page = page; settled = w .settled; holder = w .up; row = fill (w .spot) (w .tail) }
+  held = (recordOn page (w .settled) (w .up) (fill (w .spot) (w .tail)))
 
-  pub taken-used : twoAt img (4096 * page + 4082) ≡ recordSize (fill (w .spot) (w .tail))
+  pub taken-used : usedAt img (pageSize * page) ≡ recordSize (fill (w .spot) (w .tail))
   taken-used = page-used img held (w .is) (w .small)
 
-  pub taken-part : (n : ℕ) → n ≡ twoAt img (4096 * page + 4082) → take (4096 * page + n - 4096 * page) (drop (4096 * page) img) ≡ recordBytes (fill (w .spot) (w .tail))
+  pub taken-part : (n : ℕ) → n ≡ usedAt img (pageSize * page) → take (pageSize * page + n - pageSize * page) (drop (pageSize * page) img) ≡ recordBytes (fill (w .spot) (w .tail))
   taken-part n e = page-part img held (w .is) (w .small) n e
 
   -- Where `splice` puts it.

@@ -1,17 +1,17 @@
 // An insert on an image that passes the check: the node goes into the record that takes it, and growth goes on from there. First dry, then writing.
-use grow_refusals::admit;
+use base_numbers::two;
 use grow_cascade::rise;
-use grow_split_point::split_point;
+use grow_locate::find_receiver;
 use grow_new_node::place_node;
 use grow_new_node::put_node;
 use grow_new_node::usage;
-use model::InsertAnswer;
-use model::Place;
-use base_numbers::two;
-use grow_locate::find_receiver;
+use grow_refusals::admit;
 use grow_relocate::moved_to;
 use grow_splice::splice;
+use grow_split_point::split_point;
 use grow_write_back::leave;
+use model::InsertAnswer;
+use model::Place;
 ghost use mathlib.Core.Path.{_≡_};
 ghost use lib.ListN.{length};
 ghost use Rattle.model.specs.Row.{recordSize, recordBytes};

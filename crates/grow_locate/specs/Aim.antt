@@ -7,6 +7,7 @@ use Prim.Native.Nat.{ℕ, _+_, _*_}
 use native.Mathlib.Omega.{arith}
 use borrow.Author.Tests.{le-ltb}
 use lib.ListN.{length}
+use Rattle.model.specs.Limits.{pageSize, longestPath}
 use Rattle.model.specs.Row.{Row, Config}
 use Rattle.model.specs.Tree.{Node, New, shown, named, placeOf}
 use Rattle.model.specs.Reading.{Reads}
@@ -32,7 +33,7 @@ pub record Aimed (img : List ℕ) (parent k : ℕ) : Type 0 where
   pub taken : taking root path k ≡ some t
   pub y : Place
   pub names : placeOf root path ≡ some y
-  pub at : parent ≡ 4096 * y .page + y .offset
+  pub at : parent ≡ pageSize * y .page + y .offset
 
 abbrev pub receiverOf : Taking → Receiver
 receiverOf t = record { page = lastPage (t .chain); at = offsetIn (t .spot) (t .rest); par = parentIn t }
@@ -51,10 +52,10 @@ module _ (img : List ℕ) (st : Config) (root : Row) (reads : Reads img st root)
   -- Find gives the parent's place.
   pub find-parent : (y : Place) → placeOf root (pathOf path) ≡ some y → findOf img path .place ≡ y
   unfolding findOf findIn
-  find-parent y e = rw (opens img st root reads, le-ltb 92 (length path) (omega (arith, a .short)), a .named, e)
+  find-parent y e = rw (opens img st root reads, le-ltb longestPath (length path) (omega (arith, a .short)), a .named, e)
 
   -- An insert that is accepted aims at the node that find gives for the parent's path.
-  abbrev pub aimed : (parent : ℕ) → parent ≡ 4096 * findOf img path .place .page + findOf img path .place .offset → Aimed img parent k
+  abbrev pub aimed : (parent : ℕ) → parent ≡ pageSize * findOf img path .place .page + findOf img path .place .offset → Aimed img parent k
   aimed parent e =
       let (t, f) = taking-accepted root path k x full a in
       let (y, n) = named-some root (entries path) (a .named) in
@@ -68,5 +69,5 @@ module _ (img : List ℕ) (st : Config) (root : Row) (reads : Reads img st root)
         taken = f;
         y = y;
         names = n;
-        at = e ∙ ap (λ (y : Place). 4096 * y .page + y .offset) z;
+        at = e ∙ ap (λ (y : Place). pageSize * y .page + y .offset) z;
       }

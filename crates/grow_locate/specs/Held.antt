@@ -5,6 +5,7 @@ use mathlib.Core.List.{List, [], _∷_, _++_, append-assoc, append-nil}
 use Prim.Native.Nat.{ℕ, _+_, _*_}
 use native.Mathlib.Omega.{arith}
 use lib.ListN.{length}
+use Rattle.model.specs.Limits.{pageSize}
 use Rattle.model.specs.Row.{Row, nil, agg, lit, rec, _⊹_, size, base, Config}
 use Rattle.model.specs.Reading.{Reads}
 use Rattle.theory_insert_point.specs.Chain.{Spot, here, inside, fill, before, Chain, top, below, lastPage, lastHolder, whole}
@@ -51,17 +52,17 @@ chain-in : (c : Chain) (row : Row) → InRoot (whole c row) (lastPage c) (lastHo
 chain-in top row = record { before = []; after = []; depth = 0; within = in-top }
 chain-in (below c s q b rest) row =
     let u = chain-in c (fill s (rec q b row rest)) in
-    let (xs, ys, e) = items-fill (4096 * lastPage c + base (fill s (rec q b row rest))) s (rec q b row rest) in
+    let (xs, ys, e) = items-fill (pageSize * lastPage c + base (fill s (rec q b row rest))) s (rec q b row rest) in
     record { before = _; after = _; depth = _; within = sub (u .within) xs _ _ q row e }
 
 -- A record below a chain is held by the chain's last record.
 pub held-by : (img : List ℕ) (st : Config) (root : Row) → Reads img st root → (c : Chain) (s : Spot) (q : ℕ) (b : Bool) (r rest : Row)
     → whole c (fill s (rec q b r rest)) ≡ root
-    → (h : HeldBy img (lastPage c) q) × (h .pos ≡ 4096 * lastPage c + base (fill s (rec q b r rest)) + before s)
+    → (h : HeldBy img (lastPage c) q) × (h .pos ≡ pageSize * lastPage c + base (fill s (rec q b r rest)) + before s)
 held-by img st root reads c s q b r rest w =
     let row = fill s (rec q b r rest) in
     let u : InRoot root (lastPage c) (lastHolder c) row = subst (λ (n : Row). InRoot n (lastPage c) (lastHolder c) row) w (chain-in c row) in
-    let (xs, ys, e) = items-fill (4096 * lastPage c + base row) s (rec q b r rest) in (
+    let (xs, ys, e) = items-fill (pageSize * lastPage c + base row) s (rec q b r rest) in (
       record {
         above = record { settings = st; root = root; reads = reads; holder = lastHolder c; row = row; before = u .before; after = u .after; depth = u .depth; within = u .within };
         left = xs;

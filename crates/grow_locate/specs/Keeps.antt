@@ -5,7 +5,7 @@ use mathlib.Core.List.{List}
 use mathlib.Core.Option.{some}
 use Prim.Native.Nat.{ℕ, _+_}
 use native.Mathlib.Omega.{arith}
-use Rattle.model.specs.Row.{Row, nil, _⊹_, size, isNil, lone, bytes}
+use Rattle.model.specs.Row.{Row, nil, _⊹_, size, isNil, lone}
 use Rattle.theory_insert_point.specs.Chain.{Spot, here, inside, fill, before, top}
 use Rattle.theory_insert_point.specs.Taking.{Taking, taking}
 use Rattle.theory_insert_point.specs.Steady.{Steady, in-steady, taking-lone}

@@ -7,9 +7,10 @@ use Prim.Native.Nat.{ℕ, suc, _-_, _+_, _*_, _/_, _%_, _≤_, _<_}
 use native.Mathlib.Omega.{arith}
 use lib.ListN.{length}
 use lib.Dec.{eqb}
+use Rattle.model.specs.Limits.{mostPages, pageSize, capacity, mostBytes}
 use Rattle.model.specs.Row.{Row, nil, agg, lit, rec, _⊹_, size, lone, base, Config}
 use Rattle.model.specs.Tree.{placeAt, placeOf}
-use Rattle.model.specs.Reading.{Reads, twoAt}
+use Rattle.model.specs.Reading.{Reads, twoAt, sizeAt}
 use Rattle.model.specs.declared.Place.{Place}
 use Rattle.theory_rows.specs.Fits.{Valid}
 use Rattle.theory_rows.specs.Laws.{isNil-nil}
@@ -33,38 +34,38 @@ use Rattle.grow_locate.specs.Held.{held-by}
 
 -- The byte of the image where the new node goes.
 abbrev pub goesAt : Taking → ℕ
-goesAt t = 4096 * lastPage (t .chain) + offsetIn (t .spot) (t .rest)
+goesAt t = pageSize * lastPage (t .chain) + offsetIn (t .spot) (t .rest)
 
 -- ── behind a sibling ──
 
 -- `next` is right behind the node at s, or behind the proxy of the record whose root it is.
 pub data Behind (img : List ℕ) (s next : ℕ) : Type 0 where
-  node : (s % 4096 ≡ 0 → ⊥) → s + 16 ≤ length img → s < 4194304 → next ≡ s + twoAt img (s + 4) → Behind img s next
-  proxy : s % 4096 ≡ 0 → s + 4096 ≤ length img → s < 4194304 → (holder : ℕ) → twoAt img (s + 4084) ≡ holder
-      → (h : HeldBy img holder (s / 4096)) × (h .pos + 8 ≡ next) → next < 4194304 → Behind img s next
+  node : (s % pageSize ≡ 0 → ⊥) → s + 16 ≤ length img → s < mostBytes → next ≡ s + sizeAt img s → Behind img s next
+  proxy : s % pageSize ≡ 0 → s + pageSize ≤ length img → s < mostBytes → (holder : ℕ) → twoAt img (s + 4084) ≡ holder
+      → (h : HeldBy img holder (s / pageSize)) × (h .pos + 8 ≡ next) → next < mostBytes → Behind img s next
 
 module _ (img : List ℕ) (s next : ℕ) where
-  pub behind-room : Behind img s next → (s + 16 ≤ length img) × (s < 4194304)
+  pub behind-room : Behind img s next → (s + 16 ≤ length img) × (s < mostBytes)
   behind-room (node z a b e) = (a, b)
   behind-room (proxy z a b holder e h l) = (omega arith, b)
 
-  pub root-room : Behind img s next → s % 4096 ≡ 0 → s + 4096 ≤ length img
+  pub root-room : Behind img s next → s % pageSize ≡ 0 → s + pageSize ≤ length img
   root-room (node z a b e) y = absurd (z y)
   root-room (proxy z a b holder e h l) y = a
 
-  pub behind-held : Behind img s next → s % 4096 ≡ 0 → (holder : ℕ) → holder ≡ twoAt img (s + 4084)
-      → (h : HeldBy img holder (s / 4096)) × ((h .pos + 8 ≡ next) × (next < 4194304))
+  pub behind-held : Behind img s next → s % pageSize ≡ 0 → (holder : ℕ) → holder ≡ twoAt img (s + 4084)
+      → (h : HeldBy img holder (s / pageSize)) × ((h .pos + 8 ≡ next) × (next < mostBytes))
   behind-held (node z a b e) y holder f = absurd (z y)
   behind-held (proxy z a b holder₁ e h l) y holder f =
       let g : holder₁ ≡ holder = sym (f ∙ e) in
-      subst (λ (n : ℕ). (h : HeldBy img n (s / 4096)) × ((h .pos + 8 ≡ next) × (next < 4194304))) g (h .0, (h .1, l))
+      subst (λ (n : ℕ). (h : HeldBy img n (s / pageSize)) × ((h .pos + 8 ≡ next) × (next < mostBytes))) g (h .0, (h .1, l))
 
-  pub behind-node : Behind img s next → (s % 4096 ≡ 0 → ⊥) → next ≡ s + twoAt img (s + 4)
+  pub behind-node : Behind img s next → (s % pageSize ≡ 0 → ⊥) → next ≡ s + sizeAt img s
   behind-node (node z a b e) y = e
   behind-node (proxy z a b holder e h l) y = absurd (y z)
 
 -- how long a node is
-lone-long : (img : List ℕ) (page pos : ℕ) (one rest : Row) → lone one ≡ true → Here img page pos (one ⊹ rest) → twoAt img (pos + 4) ≡ size one
+lone-long : (img : List ℕ) (page pos : ℕ) (one rest : Row) → lone one ≡ true → Here img page pos (one ⊹ rest) → sizeAt img pos ≡ size one
 lone-long img page pos nil rest l h = absurd (false≢true l)
 lone-long img page pos (agg g cs more) rest l h = omega (arith, agg-view img page pos g cs (more ⊹ rest) h .long, ap size (isNil-nil more l))
 lone-long img page pos (lit g c more) rest l h = omega (arith, lit-view img page pos g c (more ⊹ rest) h .long, ap size (isNil-nil more l))
@@ -78,12 +79,12 @@ module _ (img : List ℕ) (st : Config) (root : Row) (reads : Reads img st root)
   whole-around : (s : Spot) (one : Row) → t .spot ≡ past s one → whole (t .chain) (fill s (one ⊹ t .rest)) ≡ root
   whole-around s one z = ap (whole (t .chain)) (sym (around s one z)) ∙ taking-whole root path k t e
 
-  before-here : (s : Spot) (one : Row) → t .spot ≡ past s one → Here img (lastPage (t .chain)) (4096 * lastPage (t .chain) + base (fill s (one ⊹ t .rest)) + before s) (one ⊹ t .rest)
+  before-here : (s : Spot) (one : Row) → t .spot ≡ past s one → Here img (lastPage (t .chain)) (pageSize * lastPage (t .chain) + base (fill s (one ⊹ t .rest)) + before s) (one ⊹ t .rest)
   before-here s one z =
-      here-fill img (lastPage (t .chain)) (4096 * lastPage (t .chain) + base (fill s (one ⊹ t .rest))) s (one ⊹ t .rest)
+      here-fill img (lastPage (t .chain)) (pageSize * lastPage (t .chain) + base (fill s (one ⊹ t .rest))) s (one ⊹ t .rest)
       (chain-page img st root reads (t .chain) (fill s (one ⊹ t .rest)) (whole-around s one z) .here)
 
-  goes-past : (s : Spot) (one : Row) → t .spot ≡ past s one → goesAt t ≡ 4096 * lastPage (t .chain) + base (fill s (one ⊹ t .rest)) + before s + size one
+  goes-past : (s : Spot) (one : Row) → t .spot ≡ past s one → goesAt t ≡ pageSize * lastPage (t .chain) + base (fill s (one ⊹ t .rest)) + before s + size one
   goes-past s one z = omega (arith, ap (λ (s : Spot). offsetIn s (t .rest)) z, offset-past s one (t .rest) (size one) refl)
 
   -- a node behind others is not where its record starts
@@ -94,11 +95,11 @@ module _ (img : List ℕ) (st : Config) (root : Row) (reads : Reads img st root)
       omega arith
   not-first (inside left h rest s) one z = omega arith
 
-  beside : (y : Place) (s : ℕ) → s ≡ 4096 * y .page + y .offset → Beside t y → Behind img s (goesAt t)
+  beside : (y : Place) (s : ℕ) → s ≡ pageSize * y .page + y .offset → Beside t y → Behind img s (goesAt t)
   beside y s a (behindNode u one l z p o) =
       let h = before-here u one z in
-      let m : s ≡ 4096 * lastPage (t .chain) + base (fill u (one ⊹ t .rest)) + before u = omega arith in
-      let long : twoAt img (s + 4) ≡ size one = subst (λ (n : ℕ). twoAt img (n + 4) ≡ size one) (sym m) (lone-long img (lastPage (t .chain)) _ one (t .rest) l h) in
+      let m : s ≡ pageSize * lastPage (t .chain) + base (fill u (one ⊹ t .rest)) + before u = omega arith in
+      let long : sizeAt img s ≡ size one = subst (λ (n : ℕ). sizeAt img n ≡ size one) (sym m) (lone-long img (lastPage (t .chain)) _ one (t .rest) l h) in
       let high = h .on .high in
       let in-img = h .on .inside in
       let room = h .room in
@@ -107,8 +108,8 @@ module _ (img : List ℕ) (st : Config) (root : Row) (reads : Reads img st root)
   beside y s a (behindProxy u q b r l z p o) =
       let h = before-here u (rec q b r nil) z in
       let v = rec-view img (lastPage (t .chain)) _ q b r (t .rest) h in
-      let m : s ≡ 4096 * q = omega arith in
-      let d : q ≡ s / 4096 = omega arith in
+      let m : s ≡ pageSize * q = omega arith in
+      let d : q ≡ s / pageSize = omega arith in
       let (x, i) = held-by img st root reads (t .chain) u q b r (t .rest) (whole-around u (rec q b r nil) z) in
       let g : x .pos + 8 ≡ goesAt t = omega (arith, goes-past u (rec q b r nil) z) in
       let high = v .under .here .on .high in
@@ -118,7 +119,7 @@ module _ (img : List ℕ) (st : Config) (root : Row) (reads : Reads img st root)
       (omega (arith, goes-past u (rec q b r nil) z, h .room, h .on .high))
 
   -- the place is on its page
-  goes-room : goesAt t ≤ 4096 * lastPage (t .chain) + 4080
+  goes-room : goesAt t ≤ pageSize * lastPage (t .chain) + capacity
   goes-room = omega (arith, taking-here img st root reads path k t e .room)
 
 -- ── the parent ──
@@ -143,7 +144,7 @@ steps-part = record {
 
 -- The left sibling of child k of the aggregate at `parent`, if there is one, stands at the byte `left`.
 abbrev pub LeftAt : (img : List ℕ) → (parent k left : ℕ) → Type 0
-LeftAt img parent k left = (r : Rowed img (parent + 6) (parent + twoAt img (parent + 4)) 1024) → (k ≡ 0 → ⊥) → left ≡ nthOf (parent + 6) (r .row) (k - 1) .at
+LeftAt img parent k left = (r : Rowed img (parent + 6) (parent + sizeAt img parent) mostPages) → (k ≡ 0 → ⊥) → left ≡ nthOf (parent + 6) (r .row) (k - 1) .at
 
 module _ (img : List ℕ) (parent k : ℕ) (w : Aimed img parent k) where
   v : Valid (w .st) (w .root)
@@ -159,7 +160,7 @@ module _ (img : List ℕ) (parent k : ℕ) (w : Aimed img parent k) where
   -- It stands at its byte.
   pub parent-here : Here img (lastPage (found .chain)) parent row
   parent-here =
-      let n : ℕ = 4096 * lastPage (found .chain) + base (fill (found .spot) row) in
+      let n : ℕ = pageSize * lastPage (found .chain) + base (fill (found .spot) row) in
       let z : n + before (found .spot) ≡ parent = omega (arith, w .at, found .page, found .offset) in
       subst (λ (n : ℕ). Here img (lastPage (found .chain)) n row) z
       (here-fill img (lastPage (found .chain)) n (found .spot) row (chain-page img (w .st) (w .root) (w .reads) (found .chain) (fill (found .spot) row) (found .is) .here))
@@ -169,13 +170,13 @@ module _ (img : List ℕ) (parent k : ℕ) (w : Aimed img parent k) where
       let z : f (whole (found .chain) (fill (found .spot) row)) ≡ f (w .root) = ap f (found .is) in
       omega (arith, part-fill f q (found .spot) row, part-whole f q (found .chain) (fill (found .spot) row))
 
-  deep : nesting row ≤ 1024
+  deep : nesting row ≤ mostPages
   deep = omega (arith, part-of nesting nesting-part, root-nesting img (w .st) (w .root) (w .reads))
 
-  few : steps row ≤ 4194304
+  few : steps row ≤ mostBytes
   few = omega (arith, part-of steps steps-part, few-steps (w .st) (w .root) v, v .ranges .many)
 
-  pub parent-room : (parent + 16 ≤ length img) × (parent < 4194304)
+  pub parent-room : (parent + 16 ≤ length img) × (parent < mostBytes)
   parent-room =
       let h = parent-here in
       let o = h .on in
@@ -185,7 +186,7 @@ module _ (img : List ℕ) (parent k : ℕ) (w : Aimed img parent k) where
   seen = agg-view img (lastPage (found .chain)) parent (found .head) (found .children) (found .rest) parent-here
 
   -- Its children,
-  pub kids : (len : ℕ) → len ≡ twoAt img (parent + 4) → Rowed img (parent + 6) (parent + len) 1024
+  pub kids : (len : ℕ) → len ≡ sizeAt img parent → Rowed img (parent + 6) (parent + len) mostPages
   kids len e = record {
     page = lastPage (found .chain);
     row = found .children;
@@ -217,7 +218,7 @@ module _ (img : List ℕ) (parent k : ℕ) (w : Aimed img parent k) where
     unfolding kids
     sibling at l =
         let e : k - 1 ≡ i = omega arith in
-        subst (λ (x : ℕ). Behind img x (goesAt (w .t))) (sym (l (kids (twoAt img (parent + 4)) refl) (λ y. omega arith) ∙ ap (λ (i : ℕ). nthOf (parent + 6) (found .children) i .at) e)) left-behind
+        subst (λ (x : ℕ). Behind img x (goesAt (w .t))) (sym (l (kids (sizeAt img parent) refl) (λ y. omega arith) ∙ ap (λ (i : ℕ). nthOf (parent + 6) (found .children) i .at) e)) left-behind
 
   -- The first child goes behind the header.
   pub goes-first : k ≡ 0 → parent + 6 ≡ goesAt (w .t)
@@ -228,19 +229,19 @@ module _ (img : List ℕ) (parent k : ℕ) (w : Aimed img parent k) where
   -- ── the answer ──
 
   module _ (pos : ℕ) (e : pos ≡ goesAt (w .t)) where
-    on-page : pos / 4096 ≡ lastPage (w .t .chain)
+    on-page : pos / pageSize ≡ lastPage (w .t .chain)
     on-page = omega (arith, goes-room img (w .st) (w .root) (w .reads) (w .path) k (w .t) (w .taken))
 
-    at-byte : pos % 4096 ≡ offsetIn (w .t .spot) (w .t .rest)
+    at-byte : pos % pageSize ≡ offsetIn (w .t .spot) (w .t .rest)
     at-byte = omega (arith, goes-room img (w .st) (w .root) (w .reads) (w .path) k (w .t) (w .taken))
 
-    par-byte : cond (eqb (parent / 4096) (pos / 4096)) (parent % 4096) 0 ≡ parentIn (w .t)
+    par-byte : cond (eqb (parent / pageSize) (pos / pageSize)) (parent % pageSize) 0 ≡ parentIn (w .t)
     par-byte =
         let h = parent-here in
-        let a : parent / 4096 ≡ w .y .page = omega (arith, w .at, found .page, h .start, h .room) in
-        let b : parent % 4096 ≡ w .y .offset = omega (arith, w .at, found .page, h .start, h .room) in
+        let a : parent / pageSize ≡ w .y .page = omega (arith, w .at, found .page, h .start, h .room) in
+        let b : parent % pageSize ≡ w .y .offset = omega (arith, w .at, found .page, h .start, h .room) in
         (λ i. cond (eqb (a i) (on-page i)) (b i) 0) ∙ sym (taking-parent (w .st) (w .root) v (w .path) k (w .t) (w .y) (w .taken) (w .names))
 
-    pub received : (par : ℕ) → par ≡ cond (eqb (parent / 4096) (pos / 4096)) (parent % 4096) 0
-        → record { page = pos / 4096; at = pos % 4096; par = par } ≡ receiverOf (w .t)
+    pub received : (par : ℕ) → par ≡ cond (eqb (parent / pageSize) (pos / pageSize)) (parent % pageSize) 0
+        → record { page = pos / pageSize; at = pos % pageSize; par = par } ≡ receiverOf (w .t)
     received par q = λ i. record { page = on-page i; at = at-byte i; par = (q ∙ par-byte) i }

@@ -1,10 +1,11 @@
 // Where the new node of an insert goes, on an image that passes the check.
-use read_next::find_proxy;
 use base_numbers::two;
+use read_next::find_proxy;
 ghost use mathlib.Core.Path.{_≡_};
 ghost use mathlib.Core.Bool.{cond};
 ghost use Prim.Native.Nat.{ℕ, _/_, _%_};
 ghost use lib.Dec.{eqb};
+ghost use Rattle.model.specs.Limits.{pageSize};
 ghost use Rattle.grow_locate.specs.Aim.{Aimed, receiverOf};
 ghost use Rattle.grow_locate.specs.Receive.{goesAt, Behind, LeftAt};
 
@@ -40,7 +41,7 @@ fn place(image: &[u8], parent: usize, k: usize, left: usize) -> usize
 
 // The offset of the byte `parent` if it is on the page, else 0.
 fn offset_on(parent: usize, page: usize) -> usize
-    ensures { λ r. ⌜ r ≡ cond (eqb (parent / 4096) page) (parent % 4096) 0 ⌝ }
+    ensures { λ r. ⌜ r ≡ cond (eqb (parent / pageSize) page) (parent % pageSize) 0 ⌝ }
 {
     if parent / 4096 == page {
         return parent % 4096;

@@ -8,6 +8,7 @@ use borrow.Author.Tests.{leb-true, leb-false, le-leb, lt-ltb, eqb-true, eqb-fals
 use lib.ListN.{length, getD, set, replicate, getD-replicate, length-set, length-replicate}
 use lib.Seq.{getD-set-same, getD-set-other}
 use lib.Dec.{leb, ltb, eqb}
+use Rattle.model.specs.Limits.{mostPages, pageSize}
 use Rattle.model.specs.Row.{Row, Config, count, outside}
 use Rattle.model.specs.Reading.{Reads}
 use Rattle.model.specs.Growth.{atRest}
@@ -37,21 +38,21 @@ rest-past st root u t q a b = t .same q b ∙ rw (le-leb (st .pages) q a) (go (l
 -- The pages from 2 to p have their marks, the others 1.
 pub record Filled (img u : List ℕ) (p : ℕ) : Type 0 where
   pub low : 2 ≤ p
-  pub long : length u ≡ 1024
+  pub long : length u ≡ mostPages
   pub done : (q : ℕ) → 2 ≤ q → q < p → getD u q 0 ≡ mark img q
   pub first : (q : ℕ) → q < 2 → getD u q 0 ≡ 1
-  pub rest : (q : ℕ) → p ≤ q → q < 1024 → getD u q 0 ≡ 1
+  pub rest : (q : ℕ) → p ≤ q → q < mostPages → getD u q 0 ≡ 1
 
-pub marked-start : (img u : List ℕ) → u ≡ replicate 1024 1 → Filled img u 2
+pub marked-start : (img u : List ℕ) → u ≡ replicate mostPages 1 → Filled img u 2
 marked-start img u e = record {
   low = omega arith;
-  long = ap length e ∙ length-replicate {A = ℕ} 1024 1;
+  long = ap length e ∙ length-replicate {A = ℕ} mostPages 1;
   done = λ q a b. absurd (omega arith);
-  first = λ q a. ap (λ (z : List ℕ). getD z q 0) e ∙ getD-replicate 1024 q 1 0 (omega arith);
-  rest = λ q a b. ap (λ (z : List ℕ). getD z q 0) e ∙ getD-replicate 1024 q 1 0 b;
+  first = λ q a. ap (λ (z : List ℕ). getD z q 0) e ∙ getD-replicate mostPages q 1 0 (omega arith);
+  rest = λ q a b. ap (λ (z : List ℕ). getD z q 0) e ∙ getD-replicate mostPages q 1 0 b;
 }
 
-pub marked-turn : (img u : List ℕ) (p : ℕ) → p < 1024 → Filled img u p → Filled img (set u p (mark img p)) (p + 1)
+pub marked-turn : (img u : List ℕ) (p : ℕ) → p < mostPages → Filled img u p → Filled img (set u p (mark img p)) (p + 1)
 marked-turn img u p h m = record {
   low = omega (arith, m .low);
   long = simp length-set (m .long);
@@ -67,7 +68,7 @@ marked-turn img u p h m = record {
     go q a b false e = getD-set-other u p q (mark img p) 0 (eqb-false q p e) ∙ m .done q a (omega (arith, eqb-false q p e))
 
 -- At the end they are the pages that growth starts with.
-pub marked-end : (img u : List ℕ) (p n : ℕ) → n ≤ p → p ≤ max 2 n → 4096 * n ≡ length img → Filled img u p
+pub marked-end : (img u : List ℕ) (p n : ℕ) → n ≤ p → p ≤ max 2 n → pageSize * n ≡ length img → Filled img u p
     → (st : Config) (root : Row) → Reads img st root → Marked u (atRest st root)
 unfolding usedBy
 marked-end img u p n a b l m st root r = record { long = m .long; same = λ q h. go q h (leb q 1) (leb n q) refl refl }
@@ -82,7 +83,7 @@ marked-end img u p n a b l m st root r = record { long = m .long; same = λ q h.
     ends : p ≡ n
     ends = omega (arith, same, reads-valid img st root r .ranges .few)
 
-    go : (q : ℕ) → q < 1024 → (x y : Bool) → leb q 1 ≡ x → leb n q ≡ y → not (eqb (getD u q 0) 0) ≡ (outside (st .pages) q || ltb 0 (count q root))
+    go : (q : ℕ) → q < mostPages → (x y : Bool) → leb q 1 ≡ x → leb n q ≡ y → not (eqb (getD u q 0) 0) ≡ (outside (st .pages) q || ltb 0 (count q root))
     go q h true y e f = rw (e, m .first q (omega (arith, leb-true q 1 e)))
     go q h false true e f = rw (same, e, f, m .rest q (omega (arith, ends, leb-true n q f)) h)
     go q h false false e f =

@@ -9,6 +9,7 @@ use borrow.Author.Tests.{eqb-true, lt-ltb, le-ltb}
 use lib.ListN.{length, getD, take, drop}
 use lib.Seq.{getD-take, getD-drop}
 use lib.Dec.{eqb}
+use Rattle.model.specs.Limits.{mostContent}
 use Rattle.model.specs.Row.{Head, Row, nil, size, two, bytes, Config}
 use Rattle.model.specs.Reading.{Reads}
 use Rattle.model.specs.Growth.{class, apart, asRow}
@@ -23,7 +24,7 @@ use Rattle.base_numbers.specs.Over.{over, over-then}
 pub record Sound (kind label : ℕ) (content : List ℕ) : Type 0 where
   pub kinds : kindBad (newOf kind label content) ≡ false
   pub label-fits : label < 65536
-  pub small : length content ≤ 520
+  pub small : length content ≤ mostContent
 
 nothing : (l : List ℕ) → length l ≡ 0 → l ≡ []
 nothing [] e = refl

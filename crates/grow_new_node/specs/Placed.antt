@@ -6,9 +6,10 @@ use Prim.Native.Nat.{ℕ, _<_, _≤_}
 use native.Mathlib.Omega.{arith}
 use lib.Dec.{eqb}
 use lib.ListN.{length, length-set}
+use Rattle.model.specs.Limits.{mostPages}
 use Rattle.model.specs.Row.{Head, Row, nil, agg, lit, size, lone, bytes, recordBytes, Config}
 use Rattle.model.specs.Tree.{New}
-use Rattle.model.specs.Growth.{Work, freeFrom, taken, apart, asRow, place}
+use Rattle.model.specs.Growth.{Work, freeFrom, apart, asRow, place}
 use Rattle.base_numbers.specs.Over.{over}
 use Rattle.theory_rows.specs.Laws.{length-bytes}
 use Rattle.grow_pages.specs.Write.{usedBy, setPage, pageBytesOf, used-set, free-same}
@@ -42,7 +43,7 @@ module _ (st : Config) (x : New) (parent : Head) (page : ℕ) (w : Work) where
     pub image : img ≡ cond dry img₀ (imagePlaced img₀)
     pub past : Past (st .pages) u
 
-  module _ (dry : Bool) (u₀ img₀ o₀ : List ℕ) (many : st .pages ≤ 1024) (start : page < st .pages) (t : Marked u₀ w) (beyond : Past (st .pages) u₀) where
+  module _ (dry : Bool) (u₀ img₀ o₀ : List ℕ) (many : st .pages ≤ mostPages) (start : page < st .pages) (t : Marked u₀ w) (beyond : Past (st .pages) u₀) where
     same-page : freeFrom st (st .pages) (usedBy u₀) page ≡ ownPage
     same-page = free-same st many (usedBy u₀) (w .used) (t .same) (st .pages) page (omega arith)
 

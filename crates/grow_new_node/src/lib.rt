@@ -8,6 +8,7 @@ ghost use mathlib.Core.Path.{_≡_};
 ghost use mathlib.Core.Bool.{true};
 ghost use Prim.Native.Nat.{_+_, _*_, _≤_, _<_};
 ghost use lib.ListN.{length};
+ghost use Rattle.model.specs.Limits.{mostPages, pageSize, capacity, settingsSize};
 ghost use Rattle.model.specs.Row.{Head, Row, nil, size, bytes, lone, Config};
 ghost use Rattle.model.specs.Reading.{Reads};
 ghost use Rattle.model.specs.Calls.{newOf};
@@ -29,7 +30,7 @@ pub struct Fresh {
 
 // The pages that are not free: 0, 1, those past the end, and those whose trailer begins with 1.
 pub fn usage(image: &[u8], pages: usize) -> [u8; 1024]
-    requires { ⌜ (pages ≤ 1024) × (4096 * pages ≡ length (now image)) ⌝ }
+    requires { ⌜ (pages ≤ mostPages) × (pageSize * pages ≡ length (now image)) ⌝ }
     ensures { λ r. ⌜ ((st : Config) (root : Row) → Reads (now (image .entry)) st root → Marked r (atRest st root)) ⌝ }
 {
     let mut used = [1u8; 1024];
@@ -64,7 +65,7 @@ fn label_class(label: usize) -> usize
 
 // Whether the matrix sets a child apart from its parent, by their labels.
 pub fn is_apart(image: &[u8], parent: usize, child: usize) -> bool
-    requires { ⌜ 272 ≤ length (now image) ⌝ }
+    requires { ⌜ settingsSize ≤ length (now image) ⌝ }
     ensures { λ r. ⌜ ((st : Config) (root : Row) → Reads (now (image .entry)) st root → (h c : Head) → h .label ≡ parent → c .label ≡ child → r ≡ apart st h c) ⌝ }
 {
     let row = label_class(parent);
@@ -83,7 +84,7 @@ pub fn place_apart(
     dry: bool,
     out: &mut [u8],
 ) -> bool
-    requires { ⌜ Env pages page (now used) (now image) × ((length (now node) ≤ 4080) × (8 ≤ length (now out))) ⌝ }
+    requires { ⌜ Env pages page (now used) (now image) × ((length (now node) ≤ capacity) × (8 ≤ length (now out))) ⌝ }
     ensures { λ r. ⌜ ((st : Config) → st .pages ≡ pages → (row : Row) → lone row ≡ true → now (node .entry) ≡ bytes row →
         Own (freeFrom st (st .pages) (usedBy (now (used .entry))) page) page dry row (now (used .entry)) (now (image .entry)) (now (out .entry)) r (now (used .exit)) (now (image .exit)) (now (out .exit))) ⌝ }
 {
@@ -108,7 +109,7 @@ pub fn place_node(
     dry: bool,
     out: &mut [u8],
 ) -> Fresh
-    requires { ⌜ Env pages page (now used) (now image) × ((length (now node) ≤ 4080) × ((length (now node) ≤ length (now out)) × (8 ≤ length (now out)))) ⌝ }
+    requires { ⌜ Env pages page (now used) (now image) × ((length (now node) ≤ capacity) × ((length (now node) ≤ length (now out)) × (8 ≤ length (now out)))) ⌝ }
     ensures { λ r. ⌜ ((st : Config) (root : Row) → Reads (now (image .entry)) st root → st .pages ≡ pages → (w : Work) → Marked (now (used .entry)) w
         → (x : New) (h : Head) → h .label ≡ parent → x .head .label ≡ label → now (node .entry) ≡ bytes (asRow st x nil)
         → Placed st x h page w dry (now (image .entry)) (now (out .entry)) (r .size) (r .full) (now (used .exit)) (now (image .exit)) (now (out .exit))) ⌝ }

@@ -4,8 +4,9 @@ use mathlib.Core.List.{List, _++_, append-assoc}
 use Prim.Native.Nat.{ℕ, _+_, _*_, _<_, _≤_}
 use native.Mathlib.Omega.{arith}
 use lib.ListN.{length, drop, getD}
-use Rattle.model.specs.Row.{Row, nil, agg, lit, rec, _⊹_, size, two, header, bytes}
-use Rattle.model.specs.Reading.{twoAt}
+use Rattle.model.specs.Limits.{mostPages, pageSize}
+use Rattle.model.specs.Row.{Row, nil, agg, lit, rec, _⊹_, size, two, header, bytes, noHead}
+use Rattle.model.specs.Reading.{sizeAt, nameAt}
 use Rattle.theory_decoding.specs.At.{first-byte, number-at, past}
 use Rattle.theory_rows.specs.Laws.{length-bytes, size-⊹, bytes-⊹}
 use Rattle.base_numbers.specs.Over.{over}
@@ -15,13 +16,13 @@ abbrev pub links : (q : ℕ) → Row → (image : List ℕ) → List ℕ
 links q nil img = img
 links q (agg h cs rest) img = links q rest (links q cs img)
 links q (lit h c rest) img = links q rest img
-links q (rec p s r rest) img = links q rest (over (4096 * p + 4084) (two q) img)
+links q (rec p s r rest) img = links q rest (over (pageSize * p + 4084) (two q) img)
 
 links-⊹ : (q : ℕ) (a b : Row) (img : List ℕ) → links q (a ⊹ b) img ≡ links q b (links q a img)
 links-⊹ q nil b img = refl
 links-⊹ q (agg h cs rest) b img = links-⊹ q rest b (links q cs img)
 links-⊹ q (lit h c rest) b img = links-⊹ q rest b img
-links-⊹ q (rec p s r rest) b img = links-⊹ q rest b (over (4096 * p + 4084) (two q) img)
+links-⊹ q (rec p s r rest) b img = links-⊹ q rest b (over (pageSize * p + 4084) (two q) img)
 
 -- Each proxy of the row names a page below n.
 abbrev pub Below : (n : ℕ) → Row → Type 0
@@ -57,19 +58,19 @@ pub record Scan (l : List ℕ) (n q pos : ℕ) (img goal : List ℕ) : Type 0 wh
 -- What the scan finds where bytes are left.
 pub record Found (l : List ℕ) (n q pos : ℕ) (img goal : List ℕ) : Type 0 where
   pub long : ℕ
-  pub is : twoAt l (pos + 4) ≡ long
+  pub is : sizeAt l pos ≡ long
   pub more : 6 ≤ long
   pub within : pos + long ≤ length l
   pub into : getD l pos 0 ≡ 1 → Scan l n q (pos + 6) img goal
-  pub proxy : getD l pos 0 ≡ 3 → (long ≡ 8) × ((twoAt l (pos + 6) < n) × Scan l n q (pos + 8) (over (4096 * twoAt l (pos + 6) + 4084) (two q) img) goal)
+  pub proxy : getD l pos 0 ≡ 3 → (long ≡ 8) × ((nameAt l pos < n) × Scan l n q (pos + 8) (over (pageSize * nameAt l pos + 4084) (two q) img) goal)
   pub past : (getD l pos 0 ≡ 1 → ⊥) → (getD l pos 0 ≡ 3 → ⊥) → Scan l n q (pos + long) img goal
 
-module _ (l : List ℕ) (n q pos : ℕ) (img goal : List ℕ) (few : n ≤ 1024) where
+module _ (l : List ℕ) (n q pos : ℕ) (img goal : List ℕ) (few : n ≤ mostPages) where
   found-by : (r : Row) → drop pos l ≡ bytes r → pos + size r ≡ length l → size r < 65536 → Below n r → links q r img ≡ goal → 0 < size r → Found l n q pos img goal
   found-by nil e z t b s h = absurd (omega arith)
   found-by (agg lb cs rest) e z t b s h =
       let kind : getD l pos 0 ≡ 1 = first-byte l pos (bytes (agg lb cs rest)) e in
-      let body : bytes (agg lb cs rest) ≡ header 1 (lb .label) (6 + size cs) ++ bytes (cs ⊹ rest) = ap (λ (v : List ℕ). header 1 (lb .label) (6 + size cs) ++ v) (sym (bytes-⊹ cs rest)) in
+      let body : bytes (agg lb cs rest) ≡ header 1 lb (6 + size cs) ++ bytes (cs ⊹ rest) = ap (λ (v : List ℕ). header 1 lb (6 + size cs) ++ v) (sym (bytes-⊹ cs rest)) in
       record {
         long = 6 + size cs;
         is = number-at l pos (bytes (agg lb cs rest)) e 4 (6 + size cs) (omega arith) refl refl;
@@ -77,7 +78,7 @@ module _ (l : List ℕ) (n q pos : ℕ) (img goal : List ℕ) (few : n ≤ 1024)
         within = omega arith;
         into = λ k. record {
           row = cs ⊹ rest;
-          is = past l pos 6 (header 1 (lb .label) (6 + size cs)) (bytes (cs ⊹ rest)) refl (e ∙ body);
+          is = past l pos 6 (header 1 lb (6 + size cs)) (bytes (cs ⊹ rest)) refl (e ∙ body);
           ends = omega (arith, size-⊹ cs rest);
           small = omega (arith, size-⊹ cs rest);
           below = below-⊹ n cs rest (b .0) (b .1);
@@ -97,7 +98,7 @@ module _ (l : List ℕ) (n q pos : ℕ) (img goal : List ℕ) (few : n ≤ 1024)
         proxy = λ k. absurd (omega (arith, kind));
         past = λ k m. record {
           row = rest;
-          is = past l pos (6 + length c) (header 2 (lb .label) (6 + length c) ++ c) (bytes rest) (omega arith) (e ∙ sym (append-assoc (header 2 (lb .label) (6 + length c)) c (bytes rest)));
+          is = past l pos (6 + length c) (header 2 lb (6 + length c) ++ c) (bytes rest) (omega arith) (e ∙ sym (append-assoc (header 2 lb (6 + length c)) c (bytes rest)));
           ends = omega arith;
           small = omega arith;
           below = b;
@@ -106,7 +107,7 @@ module _ (l : List ℕ) (n q pos : ℕ) (img goal : List ℕ) (few : n ≤ 1024)
       }
   found-by (rec p t x rest) e z y b s h =
       let kind : getD l pos 0 ≡ 3 = first-byte l pos (bytes (rec p t x rest)) e in
-      let name : twoAt l (pos + 6) ≡ p = number-at l pos (bytes (rec p t x rest)) e 6 p (omega (arith, b .0)) refl refl in
+      let name : nameAt l pos ≡ p = number-at l pos (bytes (rec p t x rest)) e 6 p (omega (arith, b .0)) refl refl in
       record {
         long = 8;
         is = number-at l pos (bytes (rec p t x rest)) e 4 8 (omega arith) refl refl;
@@ -119,7 +120,7 @@ module _ (l : List ℕ) (n q pos : ℕ) (img goal : List ℕ) (few : n ≤ 1024)
             rw name (b .0),
             record {
               row = rest;
-              is = past l pos 8 (header 3 0 8 ++ two p) (bytes rest) refl e;
+              is = past l pos 8 (header 3 noHead 8 ++ two p) (bytes rest) refl e;
               ends = omega arith;
               small = omega arith;
               below = b .1;

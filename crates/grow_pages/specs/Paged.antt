@@ -8,6 +8,7 @@ use borrow.Author.Tests.{eqb-true, eqb-false, eq-eqb, leb-true, leb-false}
 use lib.Dec.{eqb, leb}
 use lib.ListN.{length, take, drop, replicate, length-append, length-take, length-drop, length-replicate, take-append-drop}
 use lib.Seq.{take-at, drop-at, take-append-le, drop-append-le, drop-drop, length-take-le}
+use Rattle.model.specs.Limits.{pageSize}
 use Rattle.model.specs.Row.{Row, nil, agg, lit, rec, two}
 use Rattle.model.specs.Reading.{pageOf}
 use Rattle.base_numbers.specs.Over.{over, over-is, length-over, over-left, over-right, over-all}
@@ -40,50 +41,50 @@ after-over at m xs l h k =
 
 -- ── a write within a page ──
 
-pub length-page : (p : ℕ) (img : List ℕ) → 4096 * p + 4096 ≤ length img → length (pageOf img p) ≡ 4096
-length-page p img h = let e : length (drop (4096 * p) img) ≡ length img - 4096 * p = length-drop (4096 * p) img in length-take-le 4096 (drop (4096 * p) img) (omega arith)
+pub length-page : (p : ℕ) (img : List ℕ) → pageSize * p + pageSize ≤ length img → length (pageOf img p) ≡ pageSize
+length-page p img h = let e : length (drop (pageSize * p) img) ≡ length img - pageSize * p = length-drop (pageSize * p) img in length-take-le pageSize (drop (pageSize * p) img) (omega arith)
 
-module _ (p k : ℕ) (xs img : List ℕ) (h : k + length xs ≤ 4096) (room : 4096 * p + 4096 ≤ length img) where
-  pub page-same : pageOf (over (4096 * p + k) xs img) p ≡ over k xs (pageOf img p)
+module _ (p k : ℕ) (xs img : List ℕ) (h : k + length xs ≤ pageSize) (room : pageSize * p + pageSize ≤ length img) where
+  pub page-same : pageOf (over (pageSize * p + k) xs img) p ≡ over k xs (pageOf img p)
   page-same =
-      let a = 4096 * p in
+      let a = pageSize * p in
       let d = drop a img in
       let t : length (take a img) ≡ a = length-take-le a img (omega arith) in
-      let n : length (take 4096 d) ≡ 4096 = length-page p img room in
+      let n : length (take pageSize d) ≡ pageSize = length-page p img room in
       let e : over (a + k) xs img ≡ take a img ++ over k xs d =
       ap (over (a + k) xs) (sym (take-append-drop a img)) ∙ over-right (a + k) k xs (take a img) d (omega arith) in
-      let f : over k xs d ≡ over k xs (take 4096 d) ++ drop 4096 d =
-      ap (over k xs) (sym (take-append-drop 4096 d)) ∙ over-left k xs (take 4096 d) (drop 4096 d) (omega arith) in
-      ap (λ (z : List ℕ). take 4096 (drop a z)) e
-      ∙ ap (take 4096) (drop-at (take a img) (over k xs d) a t ∙ f)
-      ∙ take-at (over k xs (take 4096 d)) (drop 4096 d) 4096 (length-over k xs (take 4096 d) (omega arith) ∙ n)
+      let f : over k xs d ≡ over k xs (take pageSize d) ++ drop pageSize d =
+      ap (over k xs) (sym (take-append-drop pageSize d)) ∙ over-left k xs (take pageSize d) (drop pageSize d) (omega arith) in
+      ap (λ (z : List ℕ). take pageSize (drop a z)) e
+      ∙ ap (take pageSize) (drop-at (take a img) (over k xs d) a t ∙ f)
+      ∙ take-at (over k xs (take pageSize d)) (drop pageSize d) pageSize (length-over k xs (take pageSize d) (omega arith) ∙ n)
 
-  pub page-other : (q : ℕ) → (q ≡ p → ⊥) → pageOf (over (4096 * p + k) xs img) q ≡ pageOf img q
+  pub page-other : (q : ℕ) → (q ≡ p → ⊥) → pageOf (over (pageSize * p + k) xs img) q ≡ pageOf img q
   page-other q e = go (leb q p) refl
     where
-      go : (b : Bool) → leb q p ≡ b → pageOf (over (4096 * p + k) xs img) q ≡ pageOf img q
-      go true f = before-over (4096 * p + k) (4096 * q) 4096 xs img (omega (arith, leb-true q p f, e)) (omega arith)
-      go false f = ap (take 4096) (after-over (4096 * p + k) (4096 * q) xs img (omega (arith, leb-false q p f)) (omega arith))
+      go : (b : Bool) → leb q p ≡ b → pageOf (over (pageSize * p + k) xs img) q ≡ pageOf img q
+      go true f = before-over (pageSize * p + k) (pageSize * q) pageSize xs img (omega (arith, leb-true q p f, e)) (omega arith)
+      go false f = ap (take pageSize) (after-over (pageSize * p + k) (pageSize * q) xs img (omega (arith, leb-false q p f)) (omega arith))
 
   -- A write within page p changes that page alone.
-  pub page-over : (q : ℕ) → pageOf (over (4096 * p + k) xs img) q ≡ cond (eqb q p) (over k xs (pageOf img p)) (pageOf img q)
+  pub page-over : (q : ℕ) → pageOf (over (pageSize * p + k) xs img) q ≡ cond (eqb q p) (over k xs (pageOf img p)) (pageOf img q)
   page-over q = go (eqb q p) refl
     where
-      go : (b : Bool) → eqb q p ≡ b → pageOf (over (4096 * p + k) xs img) q ≡ cond b (over k xs (pageOf img p)) (pageOf img q)
-      go true e = ap (pageOf (over (4096 * p + k) xs img)) (eqb-true q p e) ∙ page-same
+      go : (b : Bool) → eqb q p ≡ b → pageOf (over (pageSize * p + k) xs img) q ≡ cond b (over k xs (pageOf img p)) (pageOf img q)
+      go true e = ap (pageOf (over (pageSize * p + k) xs img)) (eqb-true q p e) ∙ page-same
       go false e = page-other q (eqb-false q p e)
 
 -- ── a page set ──
 
-module _ (p : ℕ) (s img : List ℕ) (long : length s ≡ 4096) (room : 4096 * p + 4096 ≤ length img) where
+module _ (p : ℕ) (s img : List ℕ) (long : length s ≡ pageSize) (room : pageSize * p + pageSize ≤ length img) where
   pub length-setPage : length (setPage p s img) ≡ length img
   unfolding setPage
-  length-setPage = length-over (4096 * p) s img (omega arith)
+  length-setPage = length-over (pageSize * p) s img (omega arith)
 
   pub page-set : (q : ℕ) → pageOf (setPage p s img) q ≡ cond (eqb q p) s (pageOf img q)
   unfolding setPage
   page-set q =
-      let z : 4096 * p ≡ 4096 * p + 0 = omega arith in
+      let z : pageSize * p ≡ pageSize * p + 0 = omega arith in
       ap (λ (i : ℕ). pageOf (over i s img) q) z
       ∙ page-over p 0 s img (omega arith) room q
       ∙ ap (λ (v : List ℕ). cond (eqb q p) v (pageOf img q)) (over-all s (pageOf img p) (long ∙ sym (length-page p img room)))
@@ -99,17 +100,17 @@ module _ (p : ℕ) (s img : List ℕ) (long : length s ≡ 4096) (room : 4096 * 
       go false f = refl
 
 -- A page is cleared.
-pub page-cleared : (p : ℕ) (img : List ℕ) → 4096 * p + 4096 ≤ length img → (q : ℕ) → pageOf (setPage p (replicate 4096 0) img) q ≡ cond (eqb q p) (replicate 4096 0) (pageOf img q)
-page-cleared p img room q = page-set p (replicate 4096 0) img (length-replicate {A = ℕ} 4096 0) room q
+pub page-cleared : (p : ℕ) (img : List ℕ) → pageSize * p + pageSize ≤ length img → (q : ℕ) → pageOf (setPage p (replicate pageSize 0) img) q ≡ cond (eqb q p) (replicate pageSize 0) (pageOf img q)
+page-cleared p img room q = page-set p (replicate pageSize 0) img (length-replicate {A = ℕ} pageSize 0) room q
 
 -- ── back links ──
 
-pub length-links : (n q : ℕ) (row : Row) (img : List ℕ) → Below n row → 4096 * n ≤ length img → length (links q row img) ≡ length img
+pub length-links : (n q : ℕ) (row : Row) (img : List ℕ) → Below n row → pageSize * n ≤ length img → length (links q row img) ≡ length img
 length-links n q nil img b h = refl
 length-links n q (agg l cs rest) img b h =
     let e : length (links q cs img) ≡ length img = length-links n q cs img (b .0) h in
     length-links n q rest (links q cs img) (b .1) (omega arith) ∙ e
 length-links n q (lit l c rest) img b h = length-links n q rest img b h
 length-links n q (rec p s r rest) img b h =
-    let e : length (over (4096 * p + 4084) (two q) img) ≡ length img = length-over (4096 * p + 4084) (two q) img (omega (arith, b .0)) in
-    length-links n q rest (over (4096 * p + 4084) (two q) img) (b .1) (omega arith) ∙ e
+    let e : length (over (pageSize * p + 4084) (two q) img) ≡ length img = length-over (pageSize * p + 4084) (two q) img (omega (arith, b .0)) in
+    length-links n q rest (over (pageSize * p + 4084) (two q) img) (b .1) (omega arith) ∙ e

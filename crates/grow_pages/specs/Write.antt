@@ -9,6 +9,7 @@ use borrow.Author.Tests.{eq-eqb, ne-eqb, lt-ltb, le-ltb, ltb-true, eqb-true, eqb
 use lib.Dec.{eqb, ltb}
 use lib.ListN.{length, getD, set, replicate, length-append, length-replicate}
 use lib.Seq.{getD-set-same, getD-set-other}
+use Rattle.model.specs.Limits.{mostPages, pageSize, capacity}
 use Rattle.model.specs.Row.{two, trailer, Config, Held, recordBytes, recordPage}
 use Rattle.model.specs.Growth.{freeFrom, mark}
 use Rattle.theory_rows.specs.Laws.{cond-case}
@@ -17,17 +18,17 @@ use Rattle.base_numbers.specs.Over.{over, over-then}
 
 -- The image with page p replaced.
 unfoldable pub setPage : (page : ℕ) → (bytes image : List ℕ) → List ℕ
-setPage p s l = over (4096 * p) s l
+setPage p s l = over (pageSize * p) s l
 
 -- A record's page: its bytes, zeros, and the trailer; settled is 0 or 1.
 unfoldable pub pageBytesOf : (content : List ℕ) → (settled holder : ℕ) → List ℕ
-pageBytesOf c s h = c ++ replicate (4080 - length c) 0 ++ trailer 1 s (length c) h
+pageBytesOf c s h = c ++ replicate (capacity - length c) 0 ++ trailer 1 s (length c) h
 
 pub recordPage-is : (h : Held) → recordPage h ≡ pageBytesOf (recordBytes (h .row)) (cond (h .settled) 1 0) (h .holder)
 unfolding pageBytesOf
 recordPage-is h = rw (length-record (h .row))
 
-pub length-pageBytesOf : (c : List ℕ) (s h : ℕ) → length c ≤ 4080 → length (pageBytesOf c s h) ≡ 4096
+pub length-pageBytesOf : (c : List ℕ) (s h : ℕ) → length c ≤ capacity → length (pageBytesOf c s h) ≡ pageSize
 unfolding pageBytesOf
 length-pageBytesOf c s h k = simp (length-append, length-replicate) (omega arith)
 
@@ -37,20 +38,20 @@ state (suc zero) h = refl
 state (suc (suc s)) h = absurd (omega arith)
 
 -- The six writes of a record's page.
-pub record-written : (p s h : ℕ) (c l a b d e f g : List ℕ) → 4096 * p + 4096 ≤ length l → length c ≤ 4080 → s ≤ 1
-    → a ≡ over (4096 * p) c l
-    → b ≡ over (4096 * p + length c) (replicate (4080 - length c) 0) a
-    → d ≡ over (4096 * p + 4080) (two (1 + 256 * s)) b
-    → e ≡ over (4096 * p + 4082) (two (length c)) d
-    → f ≡ over (4096 * p + 4084) (two h) e
-    → g ≡ over (4096 * p + 4086) (replicate 10 0) f
+pub record-written : (p s h : ℕ) (c l a b d e f g : List ℕ) → pageSize * p + pageSize ≤ length l → length c ≤ capacity → s ≤ 1
+    → a ≡ over (pageSize * p) c l
+    → b ≡ over (pageSize * p + length c) (replicate (capacity - length c) 0) a
+    → d ≡ over (pageSize * p + capacity) (two (1 + 256 * s)) b
+    → e ≡ over (pageSize * p + 4082) (two (length c)) d
+    → f ≡ over (pageSize * p + 4084) (two h) e
+    → g ≡ over (pageSize * p + 4086) (replicate 10 0) f
     → g ≡ setPage p (pageBytesOf c s h) l
 unfolding setPage pageBytesOf
 record-written p s h c l a b d e f g room k t qa qb qd qe qf qg =
-    let at = 4096 * p in
-    let z : List ℕ = replicate (4080 - length c) 0 in
-    let nz : length z ≡ 4080 - length c = length-replicate _ _ in
-    let qd′ : d ≡ over (at + 4080) (1 ∷ s ∷ []) b = rw (state s t) at qd in
+    let at = pageSize * p in
+    let z : List ℕ = replicate (capacity - length c) 0 in
+    let nz : length z ≡ capacity - length c = length-replicate _ _ in
+    let qd′ : d ≡ over (at + capacity) (1 ∷ s ∷ []) b = rw (state s t) at qd in
     let w1 : b ≡ over at (c ++ z) l = over-then _ _ _ _ _ _ _ qa qb refl (omega arith) in
     let w2 : d ≡ over at ((c ++ z) ++ (1 ∷ s ∷ [])) l = over-then _ _ _ _ _ _ _ w1 qd′ (simp length-append (omega arith)) (simp length-append (omega arith)) in
     let w3 : e ≡ over at (((c ++ z) ++ (1 ∷ s ∷ [])) ++ two (length c)) l = over-then _ _ _ _ _ _ _ w2 qe (simp length-append (omega arith)) (simp length-append (omega arith)) in
@@ -58,7 +59,7 @@ record-written p s h c l a b d e f g room k t qa qb qd qe qf qg =
     over-then _ _ _ _ _ _ _ w4 qg (simp length-append (omega arith)) (simp length-append (omega arith)) ∙ simp append-assoc
 
 -- A page written whole.
-pub page-written : (p : ℕ) (s l m : List ℕ) → m ≡ over (4096 * p) s l → m ≡ setPage p s l
+pub page-written : (p : ℕ) (s l m : List ℕ) → m ≡ over (pageSize * p) s l → m ≡ setPage p s l
 unfolding setPage
 page-written p s l m e = e
 
@@ -117,17 +118,17 @@ used-set u q v x h = go (eqb x q) refl
     go false e = ap (λ (i : ℕ). not (eqb i 0)) (getD-set-other u q x v 0 (eqb-false x q e))
 
 -- Only pages below 1,024 are looked at.
-module _ (st : Config) (many : st .pages ≤ 1024) where
-  after-below : (q : ℕ) → after (st .pages) q < 1024
+module _ (st : Config) (many : st .pages ≤ mostPages) where
+  after-below : (q : ℕ) → after (st .pages) q < mostPages
   after-below q =
-      cond-case (λ (i : ℕ). i < 1024) (ltb (suc q) (st .pages)) (λ f. omega (arith, ltb-true (suc q) (st .pages) f)) (λ f. omega arith)
+      cond-case (λ (i : ℕ). i < mostPages) (ltb (suc q) (st .pages)) (λ f. omega (arith, ltb-true (suc q) (st .pages) f)) (λ f. omega arith)
 
-  pub free-same : (a b : ℕ → Bool) → ((x : ℕ) → x < 1024 → a x ≡ b x) → (k q : ℕ) → q < 1024 → freeFrom st k a q ≡ freeFrom st k b q
+  pub free-same : (a b : ℕ → Bool) → ((x : ℕ) → x < mostPages → a x ≡ b x) → (k q : ℕ) → q < mostPages → freeFrom st k a q ≡ freeFrom st k b q
   unfolding freeFrom
   free-same a b e zero q g = refl
   free-same a b e (suc k) q g = rw (e q g) (ap (λ (i : ℕ). cond (b q) i q) (free-same a b e k (after (st .pages) q) (after-below q)))
 
-  pub free-below : (used : ℕ → Bool) (k q : ℕ) → q < 1024 → freeFrom st k used q < 1024
+  pub free-below : (used : ℕ → Bool) (k q : ℕ) → q < mostPages → freeFrom st k used q < mostPages
   unfolding freeFrom
   free-below used zero q g = omega arith
-  free-below used (suc k) q g = cond-case (λ (i : ℕ). i < 1024) (used q) (λ _. free-below used k (after (st .pages) q) (after-below q)) (λ _. g)
+  free-below used (suc k) q g = cond-case (λ (i : ℕ). i < mostPages) (used q) (λ _. free-below used k (after (st .pages) q) (after-below q)) (λ _. g)

@@ -6,6 +6,7 @@ use base_numbers::two;
 ghost use mathlib.Core.Path.{_≡_};
 ghost use Prim.Native.Nat.{_+_, _*_, _≤_, _<_};
 ghost use lib.ListN.{length, replicate};
+ghost use Rattle.model.specs.Limits.{mostPages, pageSize, capacity};
 ghost use Rattle.model.specs.Row.{Config};
 ghost use Rattle.model.specs.Growth.{freeFrom};
 ghost use Rattle.grow_pages.specs.Write.{usedBy, setPage, pageBytesOf};
@@ -13,7 +14,7 @@ ghost use Rattle.grow_pages.specs.Links.{Linked, links};
 
 // The first free page counting up from `from`, page 2 following the last; 0 if none is free. A page is used where its byte is not 0.
 pub fn first_free(used: &[u8; 1024], pages: usize, from: usize) -> usize
-    requires { ⌜ (1 ≤ from) × ((from < pages) × (pages ≤ 1024)) ⌝ }
+    requires { ⌜ (1 ≤ from) × ((from < pages) × (pages ≤ mostPages)) ⌝ }
     ensures { λ r. ⌜ ((st : Config) → st .pages ≡ pages → r ≡ freeFrom st pages (usedBy (now (used .entry))) from) ⌝ }
 {
     let mut q = from;
@@ -30,7 +31,7 @@ pub fn first_free(used: &[u8; 1024], pages: usize, from: usize) -> usize
 
 // Writes a record with its trailer to a page.
 pub fn put_record(image: &mut [u8], page: usize, content: &[u8], settled: usize, holder: usize)
-    requires { ⌜ (page < 1024) × ((4096 * page + 4096 ≤ length (now image)) × ((length (now content) ≤ 4080) × ((settled ≤ 1) × (holder < 1024)))) ⌝ }
+    requires { ⌜ (page < mostPages) × ((pageSize * page + pageSize ≤ length (now image)) × ((length (now content) ≤ capacity) × ((settled ≤ 1) × (holder < mostPages)))) ⌝ }
     ensures { λ _. ⌜ now (image .exit) ≡ setPage page (pageBytesOf (now (content .entry)) settled holder) (now (image .entry)) ⌝ }
 {
     let base = 4096 * page;
@@ -45,15 +46,15 @@ pub fn put_record(image: &mut [u8], page: usize, content: &[u8], settled: usize,
 
 // Makes a page free: all zero.
 pub fn clear_page(image: &mut [u8], page: usize)
-    requires { ⌜ (page < 1024) × (4096 * page + 4096 ≤ length (now image)) ⌝ }
-    ensures { λ _. ⌜ now (image .exit) ≡ setPage page (replicate 4096 0) (now (image .entry)) ⌝ }
+    requires { ⌜ (page < mostPages) × (pageSize * page + pageSize ≤ length (now image)) ⌝ }
+    ensures { λ _. ⌜ now (image .exit) ≡ setPage page (replicate pageSize 0) (now (image .entry)) ⌝ }
 {
     clear(image, 4096 * page, 4096);
 }
 
 // Sets the back link of each record whose proxy stands in the row to page q.
 pub fn relink(row: &[u8], image: &mut [u8], pages: usize, q: usize)
-    requires { ⌜ (pages ≤ 1024) × ((4096 * pages ≤ length (now image)) × ((q < pages) × Linked (now row) pages)) ⌝ }
+    requires { ⌜ (pages ≤ mostPages) × ((pageSize * pages ≤ length (now image)) × ((q < pages) × Linked (now row) pages)) ⌝ }
     ensures { λ _. ⌜ ((w : Linked (now (row .entry)) pages) → now (image .exit) ≡ links q (w .row) (now (image .entry))) ⌝ }
 {
     let mut pos = 0;

@@ -8,6 +8,7 @@ use native.Mathlib.Omega.{arith}
 use borrow.Author.Tests.{le-ltb, lt-ltb, ne-eqb}
 use lib.ListN.{length}
 use lib.Dec.{eqb}
+use Rattle.model.specs.Limits.{pageSize, mostContent, longestPath, longestParent}
 use Rattle.model.specs.Row.{Row, Config}
 use Rattle.model.specs.Tree.{Node, shown, named, placeOf}
 use Rattle.model.specs.Reading.{Reads}
@@ -40,12 +41,12 @@ not-one kind len z = rw (ne-eqb kind 1 z) (go (eqb kind 2))
 
 -- The byte of the image at which the node that find gives stands.
 abbrev pub foundAt : (img path : List ℕ) → ℕ
-foundAt img path = 4096 * findOf img path .place .page + findOf img path .place .offset
+foundAt img path = pageSize * findOf img path .place .page + findOf img path .place .offset
 
 -- ── an accepted insert ──
 
 abbrev pub aims : (img : List ℕ) (st : Config) (root : Row) (reads : Reads img st root) (path : List ℕ) (child kind label parent : ℕ) (content : List ℕ)
-    → insertNumber (shown root) path child (newOf kind label content) false ≡ 0 → parent ≡ 4096 * findOf img path .place .page + findOf img path .place .offset
+    → insertNumber (shown root) path child (newOf kind label content) false ≡ 0 → parent ≡ pageSize * findOf img path .place .page + findOf img path .place .offset
     → Aimed img parent child
 aims img st root reads path child kind label parent content z e =
     aimed img st root reads path child (newOf kind label content) false (accepted (shown root) path child (newOf kind label content) false z) parent e
@@ -58,15 +59,15 @@ pub record Found (img : List ℕ) (root : Row) (path : List ℕ) : Type 0 where
   pub names : namedBy (shown root) path ≡ some node
   pub read : ReadAt img node (foundAt img path)
 
-module _ (img : List ℕ) (st : Config) (root : Row) (reads : Reads img st root) (path : List ℕ) (short : length path ≤ 88) where
+module _ (img : List ℕ) (st : Config) (root : Row) (reads : Reads img st root) (path : List ℕ) (short : length path ≤ longestParent) where
   -- Find refuses a path of this length only if it names no node.
   find-named : (n : Node) → namedBy (shown root) path ≡ some n → findOf img path .number ≡ 0
   unfolding findOf findIn
-  find-named n e = rw (opens img st root reads, le-ltb 92 (length path) (omega arith), e)
+  find-named n e = rw (opens img st root reads, le-ltb longestPath (length path) (omega arith), e)
 
   find-unnamed : namedBy (shown root) path ≡ none → findOf img path .number ≡ 7
   unfolding findOf findIn
-  find-unnamed e = rw (opens img st root reads, le-ltb 92 (length path) (omega arith), e)
+  find-unnamed e = rw (opens img st root reads, le-ltb longestPath (length path) (omega arith), e)
 
   pub not-named : (findOf img path .number ≡ 0 → ⊥) → isNone (namedBy (shown root) path) ≡ true
   not-named z = go (namedBy (shown root) path) refl
@@ -77,7 +78,7 @@ module _ (img : List ℕ) (st : Config) (root : Row) (reads : Reads img st root)
 
   find-place : (p : List ℕ) (n : Node) (y : Place) → entries path ≡ some p → named (shown root) p ≡ some n → placeOf root p ≡ some y → findOf img path .place ≡ y
   unfolding findOf findIn
-  find-place p n y e f g = rw (opens img st root reads, le-ltb 92 (length path) (omega arith), e, f, g)
+  find-place p n y e f g = rw (opens img st root reads, le-ltb longestPath (length path) (omega arith), e, f, g)
 
   found-at : (p : List ℕ) (n : Node) → entries path ≡ some p → named (shown root) p ≡ some n → Found img root path
   found-at p n e f =
@@ -87,7 +88,7 @@ module _ (img : List ℕ) (st : Config) (root : Row) (reads : Reads img st root)
       record {
         node = n;
         names = ap (namedIf (shown root)) e ∙ f;
-        read = subst (λ (y : Place). ReadAt img n (4096 * y .page + y .offset)) (sym z) (node-read img st root reads n (m .0) y (ap (placeOf root) (m .1) ∙ g));
+        read = subst (λ (y : Place). ReadAt img n (pageSize * y .page + y .offset)) (sym z) (node-read img st root reads n (m .0) y (ap (placeOf root) (m .1) ∙ g));
       }
 
   pub found : findOf img path .number ≡ 0 → Found img root path
@@ -108,9 +109,9 @@ module _ (img : List ℕ) (st : Config) (root : Row) (reads : Reads img st root)
 
 -- No test of the arguments alone applies.
 pub record Formed (path : List ℕ) (kind : ℕ) (content : List ℕ) : Type 0 where
-  pub short : length path ≤ 88
+  pub short : length path ≤ longestParent
   pub good : badKind kind (length content) ≡ false
-  pub small : length content ≤ 520
+  pub small : length content ≤ mostContent
 
 module _ (img path : List ℕ) (child kind : ℕ) (content : List ℕ) where
   -- The insert's number, whatever the store and the label.
@@ -125,17 +126,17 @@ module _ (img path : List ℕ) (child kind : ℕ) (content : List ℕ) where
 
   -- ── by the arguments alone ──
 
-  pub too-long : 88 < length path → Number 4
+  pub too-long : longestParent < length path → Number 4
   unfolding insertNumber
-  too-long a = λ st root reads label. rw (lt-ltb 88 (length path) a)
+  too-long a = λ st root reads label. rw (lt-ltb longestParent (length path) a)
 
-  pub wrong-kind : length path ≤ 88 → badKind kind (length content) ≡ true → Number 5
+  pub wrong-kind : length path ≤ longestParent → badKind kind (length content) ≡ true → Number 5
   unfolding insertNumber
-  wrong-kind a b = λ st root reads label. rw (le-ltb 88 (length path) a, b)
+  wrong-kind a b = λ st root reads label. rw (le-ltb longestParent (length path) a, b)
 
-  pub long-content : length path ≤ 88 → badKind kind (length content) ≡ false → 520 < length content → Number 6
+  pub long-content : length path ≤ longestParent → badKind kind (length content) ≡ false → mostContent < length content → Number 6
   unfolding insertNumber
-  long-content a b c = λ st root reads label. rw (le-ltb 88 (length path) a, b, lt-ltb 520 (length content) c)
+  long-content a b c = λ st root reads label. rw (le-ltb longestParent (length path) a, b, lt-ltb mostContent (length content) c)
 
   -- ── by the parent ──
 
@@ -144,7 +145,7 @@ module _ (img path : List ℕ) (child kind : ℕ) (content : List ℕ) where
     formed : (st : Config) (root : Row) (label : ℕ) → let parent = namedBy (shown root) path in
         lowest ((7, isNone parent) ∷ (8, isLiteral parent) ∷ (9, childrenBelow child parent) ∷ (12, false) ∷ []) ≡ insertNumber (shown root) path child (newOf kind label content) false
     unfolding insertNumber
-    formed st root label = rw (le-ltb 88 (length path) (w .short), w .good, le-ltb 520 (length content) (w .small))
+    formed st root label = rw (le-ltb longestParent (length path) (w .short), w .good, le-ltb mostContent (length content) (w .small))
 
     module _ (f : FindAnswer) (is : f ≡ findOf img path) where
       pub no-node : (f .number ≡ 0 → ⊥) → Number 7
@@ -157,8 +158,8 @@ module _ (img path : List ℕ) (child kind : ℕ) (content : List ℕ) where
         parent-found st root reads = found img st root reads path (w .short) (sym (ap (λ (f : FindAnswer). f .number) is) ∙ there)
 
         -- The parent's byte,
-        pub parent-is : {parent : ℕ} → parent ≡ 4096 * f .place .page + f .place .offset → parent ≡ foundAt img path
-        parent-is e = e ∙ ap (λ (f : FindAnswer). 4096 * f .place .page + f .place .offset) is
+        pub parent-is : {parent : ℕ} → parent ≡ pageSize * f .place .page + f .place .offset → parent ≡ foundAt img path
+        parent-is e = e ∙ ap (λ (f : FindAnswer). pageSize * f .place .page + f .place .offset) is
 
         -- the node there in any store that the image reads as,
         pub parent-read : (st : Config) (root : Row) → Reads img st root → {parent : ℕ} → parent ≡ foundAt img path → (n : Node) × ReadAt img n parent

@@ -7,6 +7,7 @@ use Prim.Native.Nat.{ℕ, zero, suc, _+_, _-_, _≤_, _<_}
 use native.Mathlib.Omega.{arith}
 use lib.ListN.{length}
 use lib.Dec.{ltb}
+use Rattle.model.specs.Limits.{mostBytes}
 use Rattle.model.specs.Row.{Head, Row, nil, agg, lit, rec, lone}
 use Rattle.model.specs.Tree.{width, placeOf}
 use Rattle.model.specs.Reading.{twoAt}
@@ -59,5 +60,5 @@ module _ (img : List ℕ) (parent k : ℕ) (w : Aimed img parent k) where
       (omega (arith, parent-room img parent k w .0), agg-view img (lastPage (p .chain)) parent (p .head) (p .children) (p .rest) (parent-here img parent k w) .label ∙ ap (λ (h : Head). h .label) (sym h))
 
   -- and its byte is below the most bytes of an image.
-  pub parent-low : parent < 4194304
+  pub parent-low : parent < mostBytes
   parent-low = parent-room img parent k w .1

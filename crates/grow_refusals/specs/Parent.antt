@@ -7,9 +7,10 @@ use native.Mathlib.Omega.{arith}
 use borrow.Author.Tests.{eq-eqb, ne-eqb, lt-ltb, le-ltb, ltb-true, ltb-false}
 use lib.ListN.{length, getD}
 use lib.Dec.{ltb, eqb}
+use Rattle.model.specs.Limits.{mostPages, mostBytes}
 use Rattle.model.specs.Row.{Row, nil, agg, lit, rec, size}
 use Rattle.model.specs.Tree.{Node, width}
-use Rattle.model.specs.Reading.{twoAt}
+use Rattle.model.specs.Reading.{sizeAt}
 use Rattle.model.specs.Answers.{lowest}
 use Rattle.theory_decoding.specs.Steps.{steps}
 use Rattle.theory_layout.specs.Here.{nesting, Here, agg-view}
@@ -28,19 +29,19 @@ pub record Kids (img : List ℕ) (n : Node) (parent : ℕ) : Type 0 where
   pub page : ℕ
   pub row : Row
   pub here : Here img page (parent + 6) row
-  pub long : twoAt img (parent + 4) ≡ 6 + size row
-  pub deep : nesting row ≤ 1024
-  pub few : steps row ≤ 4194304
+  pub long : sizeAt img parent ≡ 6 + size row
+  pub deep : nesting row ≤ mostPages
+  pub few : steps row ≤ mostBytes
   pub many : n .children ≡ width row
 
 module _ {img : List ℕ} {n : Node} {parent : ℕ} (r : ReadAt img n parent) where
-  pub read-room : (parent + 16 ≤ length img) × (parent < 4194304)
+  pub read-room : (parent + 16 ≤ length img) × (parent < mostBytes)
   read-room = omega (arith, r .here .room, r .here .on .inside, r .here .on .high)
 
   pub kids : (getD img parent 0 ≡ 2 → ⊥) → Kids img n parent
   kids z = go (r .row) (r .here) (r .leads) (r .deep) (r .few)
     where
-      go : (row : Row) → Here img (r .page) parent row → Leads row n → nesting row ≤ 1024 → steps row ≤ 4194304 → Kids img n parent
+      go : (row : Row) → Here img (r .page) parent row → Leads row n → nesting row ≤ mostPages → steps row ≤ mostBytes → Kids img n parent
       go nil v l d f = absurd l
       go (agg h cs rest) v l d f =
           let w = agg-view img (r .page) parent h cs rest v in
@@ -60,14 +61,14 @@ module _ {img : List ℕ} {n : Node} {parent : ℕ} (r : ReadAt img n parent) wh
     pub is-first : (k : ℕ) → k ≡ 0 → 0 ≡ parentNumber n k
     is-first k e = sym (rw (not-literal, le-ltb (n .children) k (omega arith)))
 
-    pub searched-ends : (len : ℕ) → len ≡ twoAt img (parent + 4) → parent + len ≡ parent + 6 + size (kids z .row)
+    pub searched-ends : (len : ℕ) → len ≡ sizeAt img parent → parent + len ≡ parent + 6 + size (kids z .row)
     searched-ends len e = omega (arith, kids z .long)
 
     -- The children as the search takes them.
-    abbrev pub searched : (len : ℕ) → len ≡ twoAt img (parent + 4) → Rowed img (parent + 6) (parent + len) 1024
+    abbrev pub searched : (len : ℕ) → len ≡ sizeAt img parent → Rowed img (parent + 6) (parent + len) mostPages
     searched len e = let k = kids z in record { page = k .page; row = k .row; here = k .here; ends = searched-ends len e; deep = k .deep; few = k .few }
 
-    module _ (len : ℕ) (e : len ≡ twoAt img (parent + 4)) (k : ℕ) (some : k ≡ 0 → ⊥) (x : NthNode) (q : x ≡ nthOf (parent + 6) (searched len e .row) (k - 1)) where
+    module _ (len : ℕ) (e : len ≡ sizeAt img parent) (k : ℕ) (some : k ≡ 0 → ⊥) (x : NthNode) (q : x ≡ nthOf (parent + 6) (searched len e .row) (k - 1)) where
       pub is-past : x .found ≡ false → 9 ≡ parentNumber n k
       is-past f =
           let a = nth-none (parent + 6) (searched len e .row) (k - 1) (sym (ap (λ (x : NthNode). x .found) q) ∙ f) in
@@ -82,7 +83,7 @@ module _ {img : List ℕ} {n : Node} {parent : ℕ} (r : ReadAt img n parent) wh
               absurd (true≢false (sym f ∙ ap (λ (x : NthNode). x .found) (q ∙ nth-left (parent + 6) (kids z .row) (k - 1) (ltb-false (k - 1) (width (kids z .row)) g))))
 
 -- The search's result is where the left sibling stands.
-pub left-is : (img : List ℕ) (parent k len : ℕ) (x : NthNode) → len ≡ twoAt img (parent + 4)
-    → ((r : Rowed img (parent + 6) (parent + len) 1024) → x ≡ nthOf (parent + 6) (r .row) (k - 1)) → LeftAt img parent k (x .at)
+pub left-is : (img : List ℕ) (parent k len : ℕ) (x : NthNode) → len ≡ sizeAt img parent
+    → ((r : Rowed img (parent + 6) (parent + len) mostPages) → x ≡ nthOf (parent + 6) (r .row) (k - 1)) → LeftAt img parent k (x .at)
 left-is img parent k len x e f r z =
     ap (λ (x : NthNode). x .at) (f (record { page = r .page; row = r .row; here = r .here; ends = omega (arith, r .ends); deep = r .deep; few = r .few }))

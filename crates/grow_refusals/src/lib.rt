@@ -1,10 +1,11 @@
 // Every refusal of an insert but a full store's, on an image that passes the check.
+use base_numbers::two;
 use read_find::find_in;
 use read_find::nth;
-use base_numbers::two;
 ghost use mathlib.Core.Path.{_≡_};
 ghost use mathlib.Core.Bool.{false};
 ghost use Prim.Native.Nat.{ℕ, _+_, _*_};
+ghost use Rattle.model.specs.Limits.{pageSize};
 ghost use Rattle.model.specs.Row.{Row, Config};
 ghost use Rattle.model.specs.Tree.{Node, shown};
 ghost use Rattle.model.specs.Reading.{Reads};
@@ -84,7 +85,7 @@ pub fn admit(
     requires { ⌜ (checkOf (now image) ≡ 0) × Widths (now image) (now widths) ⌝ }
     ensures { λ r. ⌜ ((st : Config) (root : Row) → Reads (now (image .entry)) st root → (label : ℕ)
         → r .number ≡ insertNumber (shown root) (now (path .entry)) child (newOf kind label (now (content .entry))) false) ⌝ }
-    ensures { λ r. ⌜ (r .number ≡ 0 → r .parent ≡ 4096 * findOf (now (image .entry)) (now (path .entry)) .place .page + findOf (now (image .entry)) (now (path .entry)) .place .offset) ⌝ }
+    ensures { λ r. ⌜ (r .number ≡ 0 → r .parent ≡ pageSize * findOf (now (image .entry)) (now (path .entry)) .place .page + findOf (now (image .entry)) (now (path .entry)) .place .offset) ⌝ }
     ensures { λ r. ⌜ (r .number ≡ 0 → LeftAt (now (image .entry)) (r .parent) child (r .left)) ⌝ }
 {
     if 88 < path.len() {

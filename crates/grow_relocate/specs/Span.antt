@@ -5,6 +5,7 @@ use mathlib.Core.List.{List, [], append-nil}
 use Prim.Native.Nat.{ℕ, _+_, _-_, _<_, _≤_}
 use native.Mathlib.Omega.{arith}
 use lib.ListN.{length, set}
+use Rattle.model.specs.Limits.{mostPages}
 use Rattle.model.specs.Row.{Row, nil, agg, lit, rec, size, isNil, lone, loneRec, base, bytes, Config}
 use Rattle.model.specs.Reading.{twoAt}
 use Rattle.model.specs.Growth.{Work, freeFrom}
@@ -81,8 +82,8 @@ base-low r = go (lone r)
     go false = omega arith
 
 -- The page that is free is below 1024, whatever the tree's other settings.
-module _ (n near : ℕ) (u : List ℕ) (few : n ≤ 1024) (start : near < n) where
-  pub page-in : (q : ℕ) → ((st : Config) → st .pages ≡ n → q ≡ freeFrom st n (usedBy u) near) → q < 1024
+module _ (n near : ℕ) (u : List ℕ) (few : n ≤ mostPages) (start : near < n) where
+  pub page-in : (q : ℕ) → ((st : Config) → st .pages ≡ n → q ≡ freeFrom st n (usedBy u) near) → q < mostPages
   page-in q e =
       let st : Config = record { pages = n; target = 0; tolerance = 0; form = 0; matrix = [] } in
       omega (arith, e st refl, free-below st few (usedBy u) n near (omega arith))

@@ -7,8 +7,9 @@ use native.Mathlib.Omega.{arith}
 use borrow.Author.Tests.{lt-ltb, le-ltb}
 use lib.ListN.{length, take, drop, replicate, length-replicate}
 use lib.Dec.{ltb}
+use Rattle.model.specs.Limits.{mostPages}
 use Rattle.model.specs.Row.{Row, nil, agg, lit, rec, _⊹_, size, isNil, lone, loneRec, bytes, Config}
-use Rattle.model.specs.Reading.{twoAt}
+use Rattle.model.specs.Reading.{sizeAt}
 use Rattle.model.specs.Growth.{Work, goOn, stops, group, separate, rootRow}
 use Rattle.model.specs.declared.Place.{Place}
 use Rattle.theory_rows.specs.Laws.{cond-case}
@@ -110,7 +111,7 @@ module _ {n near p tol : ℕ} {l u img : List ℕ} {pos end x : ℕ} (w : Sep n 
   abbrev pub right-span : Span (take (end - x) (drop x l))
   right-span = record { row = F w xe; is = kids-bytes (at-x w xe); small = omega (arith, level-sizes (w .kids) p x xe, w .kids .ends, w .kids .small) }
 
-  abbrev pub rest-span : goesInto (w .st) (F w xe) ≡ true → (k : ℕ) → k ≡ twoAt l (x + 4) → Span (take (end - (x + k)) (drop (x + k) l))
+  abbrev pub rest-span : goesInto (w .st) (F w xe) ≡ true → (k : ℕ) → k ≡ sizeAt l x → Span (take (end - (x + k)) (drop (x + k) l))
   rest-span e k is = record {
     row = restOf (F w xe);
     is = after-bytes (at-x w xe) (w .st) e k is;
@@ -126,7 +127,7 @@ module _ {n near p tol : ℕ} {l u img : List ℕ} {pos end x : ℕ} (w : Sep n 
     next-env env = env-left w xe env past-left refl
 
     -- The level inside the chosen child.
-    abbrev pub next-sep : goesInto (w .st) (F w xe) ≡ true → (k : ℕ) → k ≡ twoAt l (x + 4) → Sep n near p tol true l u₁ img (x + 6) (x + k) 512
+    abbrev pub next-sep : goesInto (w .st) (F w xe) ≡ true → (k : ℕ) → k ≡ sizeAt l x → Sep n near p tol true l u₁ img (x + 6) (x + k) 512
     next-sep e k is = record {
       st = w .st;
       pages = w .pages;
@@ -138,10 +139,10 @@ module _ {n near p tol : ℕ} {l u img : List ℕ} {pos end x : ℕ} (w : Sep n 
     }
 
   module _ (env : Env n near u img) (work : Work) (m : Marked u work) where
-    few-pages : w .st .pages ≤ 1024
+    few-pages : w .st .pages ≤ mostPages
     few-pages = omega (arith, w .pages, env .few)
 
-    near-low : near < 1024
+    near-low : near < mostPages
     near-low = omega (arith, env .few, env .start)
 
     pub left-marked : {u₁ : List ℕ} → u₁ ≡ groupI (w .st) near true (L w xe) u img .used → Marked u₁ (group (w .st) near (L w xe) work .1)
@@ -169,7 +170,7 @@ module _ {n near p tol : ℕ} {l u img : List ℕ} {pos end x : ℕ} (w : Sep n 
     pub done-right : x ≤ target → goesInto (w .st) (F w xe) ≡ false → r ≡ groupPlace (w .st) near (F w xe) (group (w .st) near (L w xe) work .1) x target → r ≡ goal
     done-right h b e = e ∙ in-right (goesInto (w .st) (F w xe)) (ltb target x) _ _ _ b (le-ltb target x h) ∙ by-jump
 
-    module _ (h : x ≤ target) (b : goesInto (w .st) (F w xe) ≡ true) (k : ℕ) (is : k ≡ twoAt l (x + 4)) where
+    module _ (h : x ≤ target) (b : goesInto (w .st) (F w xe) ≡ true) (k : ℕ) (is : k ≡ sizeAt l x) where
       size-is : k ≡ 6 + size (kidsOf (F w xe))
       size-is = inner-size (at-x w xe) (w .st) b k is
 

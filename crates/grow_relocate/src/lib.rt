@@ -1,15 +1,16 @@
 // Where a split moves the nodes of the record that it splits, without a walk over the tree.
+use base_numbers::two;
+use grow_pages::first_free;
+use grow_split::separate;
 use grow_split_point::child;
 use grow_split_point::enters;
 use grow_split_point::stays;
 use model::Place;
-use base_numbers::two;
-use grow_pages::first_free;
-use grow_split::separate;
 ghost use mathlib.Core.Path.{_≡_};
 ghost use mathlib.Core.Bool.{true};
 ghost use mathlib.Core.List.{List};
 ghost use Prim.Native.Nat.{ℕ, _+_, _≤_, _<_};
+ghost use Rattle.model.specs.Limits.{mostPages};
 ghost use Rattle.model.specs.Row.{Row, nil, bytes, base, Config};
 ghost use Rattle.model.specs.Growth.{Work};
 ghost use Rattle.grow_split.specs.Cutting.{groupI, separateI};
@@ -43,7 +44,7 @@ pub fn in_group(
     start: usize,
     target: usize,
 ) -> Place
-    requires { ⌜ (1 ≤ near) × ((near < pages) × ((pages ≤ 1024) × ((target < 65536) × Span (now part)))) ⌝ }
+    requires { ⌜ (1 ≤ near) × ((near < pages) × ((pages ≤ mostPages) × ((target < 65536) × Span (now part)))) ⌝ }
     ensures { λ r. ⌜ ((w : Span (now (part .entry))) (st : Config) → st .pages ≡ pages → (work : Work) → Marked (now (used .entry)) work → r ≡ groupPlace st near (w .row) work start target) ⌝ }
 {
     let page = first_free(used, pages, near);
@@ -62,7 +63,7 @@ pub fn in_group(
 
 // Marks the page that a group's record takes.
 pub fn mark_group(part: &[u8], used: &mut [u8; 1024], pages: usize, near: usize)
-    requires { ⌜ (1 ≤ near) × ((near < pages) × (pages ≤ 1024)) ⌝ }
+    requires { ⌜ (1 ≤ near) × ((near < pages) × (pages ≤ mostPages)) ⌝ }
     ensures { λ _. ⌜ ((g : Row) → now (part .entry) ≡ bytes g → (st : Config) → st .pages ≡ pages → (img : List ℕ) → now (used .exit) ≡ groupI st near true g (now (used .entry)) img .used) ⌝ }
 {
     if stays(part) {

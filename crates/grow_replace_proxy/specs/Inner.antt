@@ -5,8 +5,9 @@ use mathlib.Core.List.{List}
 use Prim.Native.Nat.{ℕ, _+_, _<_, _≤_}
 use native.Mathlib.Omega.{arith}
 use lib.ListN.{length}
+use Rattle.model.specs.Limits.{capacity}
 use Rattle.model.specs.Row.{Head, Row, nil, agg, lit, rec, size, base, recordSize, recordBytes}
-use Rattle.model.specs.Reading.{twoAt}
+use Rattle.model.specs.Reading.{sizeAt}
 use Rattle.theory_insert_point.specs.Chain.{Spot, here, inside, fill}
 use Rattle.grow_splice.specs.Spot.{at, parent, push, size-around, parent-push, at-push, at-low, at-high}
 use Rattle.grow_replace_proxy.specs.Left.{spot-case, opened, Left, left-length, left-start, Reads, left-past, left-into, reads-inside, reads-agg, reads-lit, reads-rec}
@@ -19,7 +20,7 @@ pub record Filled (l : List ℕ) (target : ℕ) : Type 0 where
   pub old : Row
   pub rest : Row
   pub is : l ≡ recordBytes (fill spot (rec page settled old rest))
-  pub small : recordSize (fill spot (rec page settled old rest)) ≤ 4080
+  pub small : recordSize (fill spot (rec page settled old rest)) ≤ capacity
   pub stands : target ≡ at (base (fill spot (rec page settled old rest))) spot
 
 -- Where the node starts that holds it.
@@ -38,7 +39,7 @@ pub record Inner (l : List ℕ) (target pos par goal : ℕ) : Type 0 where
 -- What stands at pos.
 pub record Step (l : List ℕ) (target pos par goal : ℕ) : Type 0 where
   pub long : ℕ
-  pub is : twoAt l (pos + 4) ≡ long
+  pub is : sizeAt l pos ≡ long
   pub more : 6 ≤ long
   pub within : pos + long ≤ length l
   pub enter : target < pos + long → Inner l target (pos + 6) pos goal

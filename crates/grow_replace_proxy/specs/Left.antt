@@ -5,8 +5,9 @@ use mathlib.Core.List.{List, [], _++_, append-assoc, append-nil}
 use Prim.Native.Nat.{ℕ, _+_, _<_, _≤_}
 use native.Mathlib.Omega.{arith}
 use lib.ListN.{length, getD, length-append}
-use Rattle.model.specs.Row.{Head, Row, nil, agg, lit, rec, _⊹_, size, lone, two, header, bytes, recordSize, recordBytes, count}
-use Rattle.model.specs.Reading.{twoAt}
+use Rattle.model.specs.Limits.{capacity}
+use Rattle.model.specs.Row.{Head, Row, nil, agg, lit, rec, _⊹_, size, lone, two, header, bytes, recordSize, recordBytes, count, noHead}
+use Rattle.model.specs.Reading.{twoAt, sizeAt, nameAt}
 use Rattle.theory_rows.specs.Laws.{length-bytes, size-⊹, ⊹-assoc, bytes-⊹}
 use Rattle.theory_rows.specs.Bound.{isNil-⊹}
 use Rattle.theory_rows.specs.Pages.{count-⊹}
@@ -63,9 +64,9 @@ left-length l pos s x v = omega (arith, v .len, length-bytes (fill s x), simp le
 -- what a header says
 pub record Reads (l : List ℕ) (pos k n : ℕ) : Type 0 where
   pub kind : getD l pos 0 ≡ k
-  pub long : twoAt l (pos + 4) ≡ n
+  pub long : sizeAt l pos ≡ n
 
-pub reads : (l pre body : List ℕ) (pos k lb n : ℕ) → l ≡ pre ++ (header k lb n ++ body) → length pre ≡ pos → n < 65536 → Reads l pos k n
+pub reads : (l pre body : List ℕ) (pos k : ℕ) (lb : Head) (n : ℕ) → l ≡ pre ++ (header k lb n ++ body) → length pre ≡ pos → n < 65536 → Reads l pos k n
 reads l pre body pos k lb n e z h = record {
   kind = let y : pos + 0 ≡ pos = omega arith in rw e (rw y at (getD-past pre (header k lb n ++ body) pos 0 z));
   long = rw e (two-header pre body pos k lb n z h);
@@ -87,10 +88,10 @@ module _ (l : List ℕ) (pos : ℕ) (x : Row) where
   -- into an aggregate that ends before the spot
   pub left-through : (h : Head) (cs : Row) (t : Spot) → Left l pos (push (agg h cs nil) t) x → Left l (pos + 6) (push cs t) x
   left-through h cs t v =
-      let e : bytes (fill (push (agg h cs nil) t) x) ≡ header 1 (h .label) (6 + size cs) ++ bytes (fill (push cs t) x) =
-      ap bytes (fill-push (agg h cs nil) t x) ∙ ap (λ (z : List ℕ). header 1 (h .label) (6 + size cs) ++ z) (sym (ap bytes (fill-push cs t x) ∙ bytes-⊹ cs (fill t x))) in
+      let e : bytes (fill (push (agg h cs nil) t) x) ≡ header 1 h (6 + size cs) ++ bytes (fill (push cs t) x) =
+      ap bytes (fill-push (agg h cs nil) t x) ∙ ap (λ (z : List ℕ). header 1 h (6 + size cs) ++ z) (sym (ap bytes (fill-push cs t x) ∙ bytes-⊹ cs (fill t x))) in
       record {
-        pre = v .pre ++ header 1 (h .label) (6 + size cs);
+        pre = v .pre ++ header 1 h (6 + size cs);
         post = v .post;
         is = v .is ∙ ap (λ (z : List ℕ). v .pre ++ (z ++ v .post)) e ∙ simp append-assoc;
         len = simp length-append (omega (arith, v .len));
@@ -100,7 +101,7 @@ module _ (l : List ℕ) (pos : ℕ) (x : Row) where
   -- into the aggregate that holds the spot
   pub left-into : (h : Head) (rest : Row) (s : Spot) → Left l pos (inside nil h rest s) x → Left l (pos + 6) s x
   left-into h rest s v = record {
-    pre = v .pre ++ header 1 (h .label) (6 + size (fill s x));
+    pre = v .pre ++ header 1 h (6 + size (fill s x));
     post = bytes rest ++ v .post;
     is = v .is ∙ simp append-assoc;
     len = simp length-append (omega (arith, v .len));
@@ -111,29 +112,29 @@ module _ (l : List ℕ) (pos : ℕ) (x : Row) where
 
   pub reads-inside : (h : Head) (rest : Row) (s : Spot) → Left l pos (inside nil h rest s) x → Reads l pos 1 (6 + size (fill s x))
   reads-inside h rest s v =
-      reads l (v .pre) ((bytes (fill s x) ++ bytes rest) ++ v .post) pos 1 (h .label) (6 + size (fill s x)) (v .is) (v .len) (omega (arith, v .small))
+      reads l (v .pre) ((bytes (fill s x) ++ bytes rest) ++ v .post) pos 1 h (6 + size (fill s x)) (v .is) (v .len) (omega (arith, v .small))
 
-  first : (k lb : ℕ) (body : List ℕ) (a : Row) (t : Spot) → bytes a ≡ header k lb (size a) ++ body → Left l pos (push a t) x → Reads l pos k (size a)
+  first : (k : ℕ) (lb : Head) (body : List ℕ) (a : Row) (t : Spot) → bytes a ≡ header k lb (size a) ++ body → Left l pos (push a t) x → Reads l pos k (size a)
   first k lb body a t b v =
       reads l (v .pre) (body ++ (bytes (fill t x) ++ v .post)) pos k lb (size a)
       (v .is ∙ ap (λ (z : List ℕ). v .pre ++ (z ++ v .post)) (ap bytes (fill-push a t x) ∙ bytes-⊹ a (fill t x) ∙ ap (λ (z : List ℕ). z ++ bytes (fill t x)) b) ∙ simp append-assoc)
       (v .len) (omega (arith, v .small, ap size (fill-push a t x), size-⊹ a (fill t x)))
 
   pub reads-agg : (h : Head) (cs : Row) (t : Spot) → Left l pos (push (agg h cs nil) t) x → Reads l pos 1 (size (agg h cs nil))
-  reads-agg h cs t v = first 1 (h .label) (bytes cs) (agg h cs nil) t (agg-bytes h cs) v
+  reads-agg h cs t v = first 1 h (bytes cs) (agg h cs nil) t (agg-bytes h cs) v
 
   pub reads-lit : (h : Head) (c : List ℕ) (t : Spot) → Left l pos (push (lit h c nil) t) x → Reads l pos 2 (size (lit h c nil))
-  reads-lit h c t v = first 2 (h .label) c (lit h c nil) t (lit-bytes h c) v
+  reads-lit h c t v = first 2 h c (lit h c nil) t (lit-bytes h c) v
 
   pub reads-rec : (p : ℕ) (b : Bool) (r : Row) (t : Spot) → Left l pos (push (rec p b r nil) t) x → Reads l pos 3 8
-  reads-rec p b r t v = first 3 0 (two p) (rec p b r nil) t refl v
+  reads-rec p b r t v = first 3 noHead (two p) (rec p b r nil) t refl v
 
 -- A proxy's page, the proxy first in what is left.
-pub named : (l pre body : List ℕ) (pos p : ℕ) → l ≡ pre ++ (header 3 0 8 ++ (two p ++ body)) → length pre ≡ pos → p < 65536 → twoAt l (pos + 6) ≡ p
+pub named : (l pre body : List ℕ) (pos p : ℕ) → l ≡ pre ++ (header 3 noHead 8 ++ (two p ++ body)) → length pre ≡ pos → p < 65536 → nameAt l pos ≡ p
 unfolding twoAt
 named l pre body pos p e z h =
     let y : pos + 6 + 1 ≡ pos + 7 = omega arith in
-    rw (y, e, getD-past pre (header 3 0 8 ++ (two p ++ body)) pos 6 z, getD-past pre (header 3 0 8 ++ (two p ++ body)) pos 7 z) (two-bytes p h)
+    rw (y, e, getD-past pre (header 3 noHead 8 ++ (two p ++ body)) pos 6 z, getD-past pre (header 3 noHead 8 ++ (two p ++ body)) pos 7 z) (two-bytes p h)
 
 -- ── the start ──
 
@@ -142,14 +143,14 @@ abbrev pub opened : (s : Spot) (q : ℕ) (b : Bool) (old rest : Row) → Whole s
 opened s q b old rest = whole s (rec q b old rest) (rec q b old rest) (λ e. (proxy-root s q b old rest e, proxy-root s q b old rest e))
 
 -- Past its header the walk starts.
-pub left-start : (l : List ℕ) (s : Spot) (q : ℕ) (b : Bool) (old rest : Row) → l ≡ recordBytes (fill s (rec q b old rest)) → recordSize (fill s (rec q b old rest)) ≤ 4080
+pub left-start : (l : List ℕ) (s : Spot) (q : ℕ) (b : Bool) (old rest : Row) → l ≡ recordBytes (fill s (rec q b old rest)) → recordSize (fill s (rec q b old rest)) ≤ capacity
     → Left l 6 (opened s q b old rest .spot) (rec q b old rest)
 left-start l s q b old rest e h =
     let v = opened s q b old rest in
     record {
-      pre = header (v .kind) (v .label) (6 + size (fill (v .spot) (rec q b old rest)));
+      pre = header (v .kind) (v .head) (6 + size (fill (v .spot) (rec q b old rest)));
       post = [];
-      is = e ∙ v .was ∙ ap (λ (z : List ℕ). header (v .kind) (v .label) (6 + size (fill (v .spot) (rec q b old rest))) ++ z) (sym (append-nil (bytes (fill (v .spot) (rec q b old rest)))));
+      is = e ∙ v .was ∙ ap (λ (z : List ℕ). header (v .kind) (v .head) (6 + size (fill (v .spot) (rec q b old rest))) ++ z) (sym (append-nil (bytes (fill (v .spot) (rec q b old rest)))));
       len = refl;
       small = omega (arith, v .size-was);
     }

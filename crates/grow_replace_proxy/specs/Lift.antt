@@ -6,8 +6,9 @@ use Prim.Native.Nat.{ℕ, _+_, _*_, _-_, _<_, _≤_}
 use native.Mathlib.Omega.{arith}
 use lib.ListN.{length, getD, take, drop}
 use lib.Seq.{take-take, getD-take, getD-drop}
-use Rattle.model.specs.Row.{Row, rec, _⊹_, size, base, bytes, recordSize, recordBytes, Held, recordPage, count}
-use Rattle.model.specs.Reading.{twoAt, pageOf}
+use Rattle.model.specs.Limits.{pageSize, capacity}
+use Rattle.model.specs.Row.{Row, rec, _⊹_, size, base, bytes, recordSize, recordBytes, Held, recordPage, count, recordOn}
+use Rattle.model.specs.Reading.{twoAt, pageOf, usedAt}
 use Rattle.theory_rows.specs.Laws.{length-bytes}
 use Rattle.theory_rows.specs.Image.{length-record}
 use Rattle.theory_decoding.specs.Decode.{used-page, take-page}
@@ -19,20 +20,20 @@ use Rattle.grow_replace_proxy.specs.Seek.{Proxied}
 use Rattle.grow_replace_proxy.specs.Inner.{Filled}
 
 -- A record that stands on its page: its length, as the page says it,
-module _ (img : List ℕ) (h : Held) (is : pageOf img (h .page) ≡ recordPage h) (small : recordSize (h .row) ≤ 4080) where
-  pub page-used : twoAt img (4096 * h .page + 4082) ≡ recordSize (h .row)
+module _ (img : List ℕ) (h : Held) (is : pageOf img (h .page) ≡ recordPage h) (small : recordSize (h .row) ≤ capacity) where
+  pub page-used : usedAt img (pageSize * h .page) ≡ recordSize (h .row)
   unfolding twoAt
   page-used =
-      let at-byte : (i : ℕ) → i < 4096 → getD img (4096 * h .page + i) 0 ≡ getD (recordPage h) i 0 = λ i k.
-      sym (getD-drop (4096 * h .page) img i 0) ∙ sym (getD-take 4096 (drop (4096 * h .page) img) i 0 k) ∙ ap (λ (z : List ℕ). getD z i 0) is in
-      let z : 4096 * h .page + 4082 + 1 ≡ 4096 * h .page + 4083 = omega arith in
+      let at-byte : (i : ℕ) → i < pageSize → getD img (pageSize * h .page + i) 0 ≡ getD (recordPage h) i 0 = λ i k.
+      sym (getD-drop (pageSize * h .page) img i 0) ∙ sym (getD-take pageSize (drop (pageSize * h .page) img) i 0 k) ∙ ap (λ (z : List ℕ). getD z i 0) is in
+      let z : pageSize * h .page + 4082 + 1 ≡ pageSize * h .page + 4083 = omega arith in
       rw (z, at-byte 4082 (omega arith), at-byte 4083 (omega arith)) (used-page h small)
 
   -- and its bytes.
-  pub page-part : (n : ℕ) → n ≡ twoAt img (4096 * h .page + 4082) → take (4096 * h .page + n - 4096 * h .page) (drop (4096 * h .page) img) ≡ recordBytes (h .row)
+  pub page-part : (n : ℕ) → n ≡ usedAt img (pageSize * h .page) → take (pageSize * h .page + n - pageSize * h .page) (drop (pageSize * h .page) img) ≡ recordBytes (h .row)
   page-part n e =
-      let z : 4096 * h .page + n - 4096 * h .page ≡ recordSize (h .row) = omega (arith, page-used) in
-      rw z (sym (take-take (recordSize (h .row)) 4096 (drop (4096 * h .page) img) (omega arith)) ∙ ap (take (recordSize (h .row))) is ∙ take-page h small)
+      let z : pageSize * h .page + n - pageSize * h .page ≡ recordSize (h .row) = omega (arith, page-used) in
+      rw z (sym (take-take (recordSize (h .row)) pageSize (drop (pageSize * h .page) img) (omega arith)) ∙ ap (take (recordSize (h .row))) is ∙ take-page h small)
 
 -- The record on page `holder` names `page` one time, by a proxy at the spot; the bytes of `put` are to take the proxy's place.
 pub record Lift (img : List ℕ) (holder page : ℕ) (sep : List ℕ) : Type 0 where
@@ -44,8 +45,8 @@ pub record Lift (img : List ℕ) (holder page : ℕ) (sep : List ℕ) : Type 0 w
   pub above : Bool
   pub up : ℕ
   pub on : PageIn img holder
-  pub is : pageOf img holder ≡ recordPage (record { page = holder; settled = above; holder = up; row = fill spot (rec page settled old rest) })
-  pub small : recordSize (fill spot (rec page settled old rest)) ≤ 4080
+  pub is : pageOf img holder ≡ recordPage (recordOn holder above up (fill spot (rec page settled old rest)))
+  pub small : recordSize (fill spot (rec page settled old rest)) ≤ capacity
   pub once : count page (fill spot (rec page settled old rest)) ≡ 1
   pub names : (q : ℕ) → 1 ≤ count q (fill spot (rec page settled old rest)) → q < 65536
   pub comes : sep ≡ bytes put
@@ -63,12 +64,12 @@ module _ (img : List ℕ) (holder page : ℕ) (sep : List ℕ) (w : Lift img hol
   before = fill (w .spot) (rec page (w .settled) (w .old) (w .rest))
 
   abbrev held : Held
-  held = record { page = holder; settled = w .above; holder = w .up; row = before }
+  held = recordOn holder (w .above) (w .up) before
 
-  pub used : twoAt img (4096 * holder + 4082) ≡ recordSize before
+  pub used : usedAt img (pageSize * holder) ≡ recordSize before
   used = page-used img held (w .is) (w .small)
 
-  pub part : (n : ℕ) → n ≡ twoAt img (4096 * holder + 4082) → take (4096 * holder + n - 4096 * holder) (drop (4096 * holder) img) ≡ recordBytes before
+  pub part : (n : ℕ) → n ≡ usedAt img (pageSize * holder) → take (pageSize * holder + n - pageSize * holder) (drop (pageSize * holder) img) ≡ recordBytes before
   part n e = page-part img held (w .is) (w .small) n e
 
   pub sep-least : 8 ≤ length sep

@@ -5,8 +5,9 @@ use mathlib.Core.List.{List, _++_}
 use Prim.Native.Nat.{ℕ, _+_, _<_, _≤_}
 use native.Mathlib.Omega.{arith}
 use lib.ListN.{length, getD}
-use Rattle.model.specs.Row.{Head, Row, nil, agg, lit, rec, size, base, two, header, bytes, recordSize, recordBytes, count}
-use Rattle.model.specs.Reading.{twoAt}
+use Rattle.model.specs.Limits.{capacity}
+use Rattle.model.specs.Row.{Head, Row, nil, agg, lit, rec, size, base, two, header, bytes, recordSize, recordBytes, count, noHead}
+use Rattle.model.specs.Reading.{sizeAt, nameAt}
 use Rattle.theory_rows.specs.Pages.{count-⊹}
 use Rattle.theory_decoding.specs.Valid.{names-own}
 use Rattle.theory_insert_point.specs.Chain.{Spot, here, inside, fill}
@@ -20,7 +21,7 @@ pub record Proxied (l : List ℕ) (page : ℕ) : Type 0 where
   pub old : Row
   pub rest : Row
   pub is : l ≡ recordBytes (fill spot (rec page settled old rest))
-  pub small : recordSize (fill spot (rec page settled old rest)) ≤ 4080
+  pub small : recordSize (fill spot (rec page settled old rest)) ≤ capacity
   pub once : count page (fill spot (rec page settled old rest)) ≡ 1
   pub names : (q : ℕ) → 1 ≤ count q (fill spot (rec page settled old rest)) → q < 65536
 
@@ -43,9 +44,9 @@ pub record Seek (l : List ℕ) (page pos goal : ℕ) : Type 0 where
 pub record Found (l : List ℕ) (page pos goal : ℕ) : Type 0 where
   pub within : pos + 8 ≤ length l
   pub into : getD l pos 0 ≡ 1 → Seek l page (pos + 6) goal
-  pub proxy : getD l pos 0 ≡ 3 → twoAt l (pos + 6) ≡ page → pos ≡ goal
-  pub other : getD l pos 0 ≡ 3 → (twoAt l (pos + 6) ≡ page → ⊥) → Seek l page (pos + 8) goal
-  pub past : (getD l pos 0 ≡ 1 → ⊥) → (getD l pos 0 ≡ 3 → ⊥) → (6 ≤ twoAt l (pos + 4)) × Seek l page (pos + twoAt l (pos + 4)) goal
+  pub proxy : getD l pos 0 ≡ 3 → nameAt l pos ≡ page → pos ≡ goal
+  pub other : getD l pos 0 ≡ 3 → (nameAt l pos ≡ page → ⊥) → Seek l page (pos + 8) goal
+  pub past : (getD l pos 0 ≡ 1 → ⊥) → (getD l pos 0 ≡ 3 → ⊥) → (6 ≤ sizeAt l pos) × Seek l page (pos + sizeAt l pos) goal
 
 -- The proxy names its page.
 pub count-spot : (s : Spot) (q : ℕ) (b : Bool) (r rest : Row) → 1 ≤ count q (fill s (rec q b r rest))
@@ -62,9 +63,9 @@ module _ (l : List ℕ) (page pos goal : ℕ) (b : Bool) (old rest : Row) where
 
   finds-here : Finds (here nil)
   finds-here v g o n =
-      let e : l ≡ v .pre ++ (header 3 0 8 ++ (two page ++ (bytes rest ++ v .post))) = v .is in
-      let d = reads l (v .pre) (two page ++ (bytes rest ++ v .post)) pos 3 0 8 e (v .len) (omega arith) in
-      let p : twoAt l (pos + 6) ≡ page = named l (v .pre) (bytes rest ++ v .post) pos page e (v .len) (n page (names-own page b old rest)) in
+      let e : l ≡ v .pre ++ (header 3 noHead 8 ++ (two page ++ (bytes rest ++ v .post))) = v .is in
+      let d = reads l (v .pre) (two page ++ (bytes rest ++ v .post)) pos 3 noHead 8 e (v .len) (omega arith) in
+      let p : nameAt l pos ≡ page = named l (v .pre) (bytes rest ++ v .post) pos page e (v .len) (n page (names-own page b old rest)) in
       record {
         within = room (here nil) v;
         into = λ k. absurd (omega (arith, d .kind));
@@ -148,8 +149,8 @@ module _ (l : List ℕ) (page pos goal : ℕ) (b : Bool) (old rest : Row) where
   finds-rec p s r t v g o n =
       let x = rec page b old rest in
       let d = reads-rec l pos x p s r t v in
-      let e : l ≡ v .pre ++ (header 3 0 8 ++ (two p ++ (bytes (fill t x) ++ v .post))) = v .is ∙ ap (λ (z : List ℕ). v .pre ++ (z ++ v .post)) (ap bytes (fill-push (rec p s r nil) t x)) in
-      let m : twoAt l (pos + 6) ≡ p = named l (v .pre) (bytes (fill t x) ++ v .post) pos p e (v .len) (n p (omega (arith, count-push p (rec p s r nil) t x, names-own p s r nil))) in
+      let e : l ≡ v .pre ++ (header 3 noHead 8 ++ (two p ++ (bytes (fill t x) ++ v .post))) = v .is ∙ ap (λ (z : List ℕ). v .pre ++ (z ++ v .post)) (ap bytes (fill-push (rec p s r nil) t x)) in
+      let m : nameAt l pos ≡ p = named l (v .pre) (bytes (fill t x) ++ v .post) pos p e (v .len) (n p (omega (arith, count-push p (rec p s r nil) t x, names-own p s r nil))) in
       let apart : page ≡ p → ⊥ = λ f.
       let k : 1 ≤ count page (rec p s r nil) = rw f (names-own p s r nil) in
       omega (arith, o, count-push page (rec p s r nil) t x, count-spot t page b old rest) in

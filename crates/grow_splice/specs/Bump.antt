@@ -6,8 +6,8 @@ use Prim.Native.Nat.{ℕ, _+_, _/_, _%_, _<_, _≤_}
 use native.Mathlib.Omega.{arith}
 use lib.ListN.{length, getD, length-append}
 use lib.Seq.{getD-append-add}
-use Rattle.model.specs.Row.{Head, Row, nil, agg, lit, rec, size, two, header, bytes}
-use Rattle.model.specs.Reading.{twoAt}
+use Rattle.model.specs.Row.{Head, Row, nil, agg, lit, rec, size, two, header, bytes, noHead}
+use Rattle.model.specs.Reading.{twoAt, sizeAt}
 use Rattle.base_numbers.specs.Over.{over, over-right}
 use Rattle.theory_rows.specs.Laws.{length-bytes}
 use Rattle.theory_insert_point.specs.Chain.{Spot, here, inside}
@@ -33,7 +33,7 @@ mid-end cur goal pos par n m h =
 -- what stands at pos
 pub record Look (cur goal : List ℕ) (pos par n : ℕ) : Type 0 where
   pub sz : ℕ
-  pub is : twoAt cur (pos + 4) ≡ sz
+  pub is : sizeAt cur pos ≡ sz
   pub fits : pos + 6 ≤ length cur
   pub more : 6 ≤ sz
   pub small : sz + n < 65536
@@ -41,7 +41,7 @@ pub record Look (cur goal : List ℕ) (pos par n : ℕ) : Type 0 where
   pub enter : par < pos + sz → Mid (over (pos + 4) (two (sz + n)) cur) goal (pos + 6) par n
 
 -- a header read at its place, and its size written
-pub two-header : (pre body : List ℕ) (pos k l sz : ℕ) → length pre ≡ pos → sz < 65536 → twoAt (pre ++ (header k l sz ++ body)) (pos + 4) ≡ sz
+pub two-header : (pre body : List ℕ) (pos k : ℕ) (l : Head) (sz : ℕ) → length pre ≡ pos → sz < 65536 → twoAt (pre ++ (header k l sz ++ body)) (pos + 4) ≡ sz
 unfolding twoAt
 two-header pre body pos k l sz e h =
     let a : getD (pre ++ (header k l sz ++ body)) (length pre + 4) 0 ≡ sz % 256 = getD-append-add pre (header k l sz ++ body) 4 0 in
@@ -49,12 +49,12 @@ two-header pre body pos k l sz e h =
     let d : length pre + 4 + 1 ≡ length pre + 5 = omega arith in
     rw (← e, d, a, b) (omega arith)
 
-pub over-header : (pre body : List ℕ) (pos k l sz m : ℕ) → length pre ≡ pos → over (pos + 4) (two m) (pre ++ (header k l sz ++ body)) ≡ pre ++ (header k l m ++ body)
+pub over-header : (pre body : List ℕ) (pos k : ℕ) (l : Head) (sz m : ℕ) → length pre ≡ pos → over (pos + 4) (two m) (pre ++ (header k l sz ++ body)) ≡ pre ++ (header k l m ++ body)
 unfolding over
 over-header pre body pos k l sz m e = over-right (pos + 4) 4 (two m) pre (header k l sz ++ body) (omega arith) ∙ ap (λ (z : List ℕ). pre ++ z) refl
 
 -- a node that is passed by
-look-past : (a : Row) (k l : ℕ) (body : List ℕ) (t : Spot) (cur goal : List ℕ) (pos par n : ℕ) (m : Mid cur goal pos par n) → m .spot ≡ push a t
+look-past : (a : Row) (k : ℕ) (l : Head) (body : List ℕ) (t : Spot) (cur goal : List ℕ) (pos par n : ℕ) (m : Mid cur goal pos par n) → m .spot ≡ push a t
     → bytes a ≡ header k l (size a) ++ body → pos ≤ par → Look cur goal pos par n
 look-past a k l body t cur goal pos par n m s b h =
     let f = m .filled in
@@ -94,11 +94,11 @@ look-into h rest t cur goal pos par n m s g =
     let bound : 6 + around t + f + n < 65536 = omega (arith, m .small, ap around s) in
     let zero-is : pos + 0 ≡ pos = omega arith in
     let par-is : par ≡ parent pos (pos + 6) t = m .at ∙ ap (λ (z : Spot). parent (m .outer) pos z) s ∙ ap (λ (z : ℕ). parent z (z + 6) t) zero-is in
-    let shape : cur ≡ m .pre ++ (header 1 (h .label) sz ++ before t f) = m .now ∙ ap (λ (z : Spot). m .pre ++ before z f) s in
+    let shape : cur ≡ m .pre ++ (header 1 h sz ++ before t f) = m .now ∙ ap (λ (z : Spot). m .pre ++ before z f) s in
     let grows : sz + n ≡ 6 + (around t + (f + n)) = omega arith in
     record {
       sz = sz;
-      is = rw shape (two-header (m .pre) (before t f) pos 1 (h .label) sz (m .len) (omega arith));
+      is = rw shape (two-header (m .pre) (before t f) pos 1 h sz (m .len) (omega arith));
       fits = omega (arith, m .len, simp length-append at (ap length shape));
       more = omega arith;
       small = omega arith;
@@ -106,12 +106,12 @@ look-into h rest t cur goal pos par n m s g =
       enter = λ g. record {
         spot = t;
         filled = f;
-        pre = m .pre ++ header 1 (h .label) (sz + n);
+        pre = m .pre ++ header 1 h (sz + n);
         outer = pos;
-        now = ap (over (pos + 4) (two (sz + n))) shape ∙ over-header (m .pre) (before t f) pos 1 (h .label) sz (sz + n) (m .len)
-            ∙ sym (append-assoc (m .pre) (header 1 (h .label) (sz + n)) (before t f));
-        then = m .then ∙ ap (λ (z : Spot). m .pre ++ before z (f + n)) s ∙ ap (λ (z : ℕ). m .pre ++ (header 1 (h .label) z ++ before t (f + n))) (sym grows)
-            ∙ sym (append-assoc (m .pre) (header 1 (h .label) (sz + n)) (before t (f + n)));
+        now = ap (over (pos + 4) (two (sz + n))) shape ∙ over-header (m .pre) (before t f) pos 1 h sz (sz + n) (m .len)
+            ∙ sym (append-assoc (m .pre) (header 1 h (sz + n)) (before t f));
+        then = m .then ∙ ap (λ (z : Spot). m .pre ++ before z (f + n)) s ∙ ap (λ (z : ℕ). m .pre ++ (header 1 h z ++ before t (f + n))) (sym grows)
+            ∙ sym (append-assoc (m .pre) (header 1 h (sz + n)) (before t (f + n)));
         len = simp length-append (omega (arith, m .len));
         low = omega arith;
         at = par-is;
@@ -120,12 +120,12 @@ look-into h rest t cur goal pos par n m s g =
     }
 
 -- each kind's bytes
-pub agg-bytes : (h : Head) (cs : Row) → bytes (agg h cs nil) ≡ header 1 (h .label) (size (agg h cs nil)) ++ bytes cs
+pub agg-bytes : (h : Head) (cs : Row) → bytes (agg h cs nil) ≡ header 1 h (size (agg h cs nil)) ++ bytes cs
 agg-bytes h cs =
     let e : 6 + size cs ≡ 6 + size cs + 0 = omega arith in
     rw (append-nil, ← e)
 
-pub lit-bytes : (h : Head) (c : List ℕ) → bytes (lit h c nil) ≡ header 2 (h .label) (size (lit h c nil)) ++ c
+pub lit-bytes : (h : Head) (c : List ℕ) → bytes (lit h c nil) ≡ header 2 h (size (lit h c nil)) ++ c
 lit-bytes h c =
     let e : 6 + length c ≡ 6 + length c + 0 = omega arith in
     rw (append-nil, ← e)
@@ -133,36 +133,36 @@ lit-bytes h c =
 pub look : (cur goal : List ℕ) (pos par n : ℕ) → Mid cur goal pos par n → pos ≤ par → Look cur goal pos par n
 look cur goal pos par n m h = go (m .spot) refl
   where
-    past : (a : Row) (k l : ℕ) (body : List ℕ) (t : Spot) → bytes a ≡ header k l (size a) ++ body → m .spot ≡ push a t → Look cur goal pos par n
+    past : (a : Row) (k : ℕ) (l : Head) (body : List ℕ) (t : Spot) → bytes a ≡ header k l (size a) ++ body → m .spot ≡ push a t → Look cur goal pos par n
     past a k l body t b s = look-past a k l body t cur goal pos par n m s b h
 
     go : (s : Spot) → m .spot ≡ s → Look cur goal pos par n
     go (here nil) s = absurd (omega (arith, m .low, m .at, ap (parent (m .outer) pos) s))
-    go (here (agg l cs left)) s = past (agg l cs nil) 1 (l .label) (bytes cs) (here left) (agg-bytes l cs) s
-    go (here (lit l c left)) s = past (lit l c nil) 2 (l .label) c (here left) (lit-bytes l c) s
-    go (here (rec p t r left)) s = past (rec p t r nil) 3 0 (two p) (here left) refl s
+    go (here (agg l cs left)) s = past (agg l cs nil) 1 l (bytes cs) (here left) (agg-bytes l cs) s
+    go (here (lit l c left)) s = past (lit l c nil) 2 l c (here left) (lit-bytes l c) s
+    go (here (rec p t r left)) s = past (rec p t r nil) 3 noHead (two p) (here left) refl s
     go (inside nil k rest u) s = look-into k rest u cur goal pos par n m s h
-    go (inside (agg l cs left) k rest u) s = past (agg l cs nil) 1 (l .label) (bytes cs) (inside left k rest u) (agg-bytes l cs) s
-    go (inside (lit l c left) k rest u) s = past (lit l c nil) 2 (l .label) c (inside left k rest u) (lit-bytes l c) s
-    go (inside (rec p t r left) k rest u) s = past (rec p t r nil) 3 0 (two p) (inside left k rest u) refl s
+    go (inside (agg l cs left) k rest u) s = past (agg l cs nil) 1 l (bytes cs) (inside left k rest u) (agg-bytes l cs) s
+    go (inside (lit l c left) k rest u) s = past (lit l c nil) 2 l c (inside left k rest u) (lit-bytes l c) s
+    go (inside (rec p t r left) k rest u) s = past (rec p t r nil) 3 noHead (two p) (inside left k rest u) refl s
 
 -- what the walk is called with: the bytes of a record before a filling; the node that holds the filling starts at par; the record grows by n
 pub record Cut (l : List ℕ) (par n : ℕ) : Type 0 where
   pub kind : ℕ
-  pub label : ℕ
+  pub head : Head
   pub spot : Spot
   pub filled : ℕ
-  pub is : l ≡ header kind label (6 + (around spot + filled)) ++ before spot filled
+  pub is : l ≡ header kind head (6 + (around spot + filled)) ++ before spot filled
   pub at : par ≡ parent 0 6 spot
   pub small : 6 + around spot + filled + n < 65536
 
 -- what it leaves
 abbrev pub grown : (l : List ℕ) (par n : ℕ) → Cut l par n → List ℕ
-grown l par n w = header (w .kind) (w .label) (6 + (around (w .spot) + (w .filled + n))) ++ before (w .spot) (w .filled + n)
+grown l par n w = header (w .kind) (w .head) (6 + (around (w .spot) + (w .filled + n))) ++ before (w .spot) (w .filled + n)
 
 module _ (l : List ℕ) (par n : ℕ) (w : Cut l par n) where
   pub cut-root : twoAt l 4 ≡ 6 + (around (w .spot) + w .filled)
-  cut-root = rw (w .is) (two-header [] (before (w .spot) (w .filled)) 0 (w .kind) (w .label) (6 + (around (w .spot) + w .filled)) refl (omega (arith, w .small)))
+  cut-root = rw (w .is) (two-header [] (before (w .spot) (w .filled)) 0 (w .kind) (w .head) (6 + (around (w .spot) + w .filled)) refl (omega (arith, w .small)))
 
   pub cut-small : twoAt l 4 + n < 65536
   cut-small = omega (arith, cut-root, w .small)
@@ -176,10 +176,10 @@ module _ (l : List ℕ) (par n : ℕ) (w : Cut l par n) where
       record {
         spot = w .spot;
         filled = w .filled;
-        pre = header (w .kind) (w .label) (6 + (around (w .spot) + (w .filled + n)));
+        pre = header (w .kind) (w .head) (6 + (around (w .spot) + (w .filled + n)));
         outer = 0;
         now = ap (λ (k : ℕ). over 4 (two k) l) z ∙ ap (over 4 (two (6 + (around (w .spot) + (w .filled + n))))) (w .is)
-            ∙ over-header [] (before (w .spot) (w .filled)) 0 (w .kind) (w .label) (6 + (around (w .spot) + w .filled)) (6 + (around (w .spot) + (w .filled + n))) refl;
+            ∙ over-header [] (before (w .spot) (w .filled)) 0 (w .kind) (w .head) (6 + (around (w .spot) + w .filled)) (6 + (around (w .spot) + (w .filled + n))) refl;
         then = refl;
         len = refl;
         low = omega arith;
@@ -188,13 +188,13 @@ module _ (l : List ℕ) (par n : ℕ) (w : Cut l par n) where
       }
 
 -- the walk's two steps, as the code takes them
-pub mid-enter : (cur goal next : List ℕ) (pos par n r : ℕ) → Mid cur goal pos par n → pos ≤ par → r ≡ twoAt cur (pos + 4) → par < pos + r → next ≡ over (pos + 4) (two (r + n)) cur → Mid next goal (pos + 6) par n
+pub mid-enter : (cur goal next : List ℕ) (pos par n r : ℕ) → Mid cur goal pos par n → pos ≤ par → r ≡ sizeAt cur pos → par < pos + r → next ≡ over (pos + 4) (two (r + n)) cur → Mid next goal (pos + 6) par n
 mid-enter cur goal next pos par n r m h e k q =
     let v = look cur goal pos par n m h in
     let z : r ≡ v .sz = e ∙ v .is in
     rw (q, z) (v .enter (omega arith))
 
-pub mid-skip : (cur goal : List ℕ) (pos par n r : ℕ) → Mid cur goal pos par n → pos ≤ par → r ≡ twoAt cur (pos + 4) → pos + r ≤ par → Mid cur goal (pos + r) par n
+pub mid-skip : (cur goal : List ℕ) (pos par n r : ℕ) → Mid cur goal pos par n → pos ≤ par → r ≡ sizeAt cur pos → pos + r ≤ par → Mid cur goal (pos + r) par n
 mid-skip cur goal pos par n r m h e k =
     let v = look cur goal pos par n m h in
     let z : r ≡ v .sz = e ∙ v .is in

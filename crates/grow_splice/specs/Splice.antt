@@ -6,7 +6,7 @@ use Prim.Native.Nat.{ℕ, _+_, _-_, _<_, _≤_}
 use native.Mathlib.Omega.{arith}
 use lib.ListN.{length, take, drop, length-append, length-take, length-drop}
 use lib.Seq.{take-at, drop-at, length-take-le, take-all}
-use Rattle.model.specs.Row.{Head, Row, nil, agg, lit, rec, _⊹_, size, nodeCount, lone, base, header, bytes, recordSize, recordBytes, count}
+use Rattle.model.specs.Row.{Head, Row, nil, agg, lit, rec, _⊹_, size, nodeCount, lone, base, header, bytes, recordSize, recordBytes, count, noHead}
 use Rattle.base_numbers.specs.Over.{over, over-then, over-front, over-again, take-over}
 use Rattle.theory_rows.specs.Laws.{length-bytes, size-⊹, bytes-⊹}
 use Rattle.theory_rows.specs.Bound.{isNil-⊹}
@@ -29,10 +29,10 @@ many-keeps s a b h k e = (lone-many (fill s a) h, lone-many (fill s b) k)
 -- A record's bytes with either filling are a header and a row, with a place in that row: the root's children, or a helper's.
 pub record Whole (s : Spot) (a b : Row) : Type 0 where
   pub kind : ℕ
-  pub label : ℕ
+  pub head : Head
   pub spot : Spot
-  pub was : recordBytes (fill s a) ≡ header kind label (6 + size (fill spot a)) ++ bytes (fill spot a)
-  pub is : recordBytes (fill s b) ≡ header kind label (6 + size (fill spot b)) ++ bytes (fill spot b)
+  pub was : recordBytes (fill s a) ≡ header kind head (6 + size (fill spot a)) ++ bytes (fill spot a)
+  pub is : recordBytes (fill s b) ≡ header kind head (6 + size (fill spot b)) ++ bytes (fill spot b)
   pub size-was : recordSize (fill s a) ≡ 6 + size (fill spot a)
   pub size-is : recordSize (fill s b) ≡ 6 + size (fill spot b)
   pub at-is : at (base (fill s a)) s ≡ at 6 spot
@@ -42,7 +42,7 @@ pub record Whole (s : Spot) (a b : Row) : Type 0 where
 whole-apart : (s : Spot) (a b : Row) → lone (fill s a) ≡ false → lone (fill s b) ≡ false → Whole s a b
 whole-apart s a b p q = record {
   kind = 4;
-  label = 0;
+  head = noHead;
   spot = s;
   was = rw p;
   is = rw q;
@@ -56,7 +56,7 @@ whole-apart s a b p q = record {
 whole-lone : (h : Head) (s : Spot) (a b : Row) → Whole (inside nil h nil s) a b
 whole-lone h s a b = record {
   kind = 1;
-  label = h .label;
+  head = h;
   spot = s;
   was = rw append-nil;
   is = rw append-nil;
@@ -99,10 +99,10 @@ abbrev pub spliced : (l : List ℕ) (pos par gone : ℕ) (new : List ℕ) → Pl
 spliced l pos par gone new w = fill (w .spot) (w .put ⊹ w .tail)
 
 -- the bytes of a record up to a filling of m bytes
-abbrev fore : (kind label : ℕ) (s : Spot) (m : ℕ) → List ℕ
+abbrev fore : (kind : ℕ) (head : Head) (s : Spot) (m : ℕ) → List ℕ
 fore k n s m = header k n (6 + (around s + m)) ++ before s m
 
-apart : (k n : ℕ) (s : Spot) (x y : Row)
+apart : (k : ℕ) (n : Head) (s : Spot) (x y : Row)
     → header k n (6 + size (fill s (x ⊹ y))) ++ bytes (fill s (x ⊹ y)) ≡ fore k n s (size (x ⊹ y)) ++ (bytes x ++ (bytes y ++ beyond s))
 apart k n s x y =
     (λ i. header k n (6 + size-around s (x ⊹ y) i) ++ bytes-fill s (x ⊹ y) i)
@@ -114,14 +114,14 @@ module _ (l : List ℕ) (pos par gone : ℕ) (new : List ℕ) (w : Place l pos p
 
   -- what stands in the record before the place, and past what goes
   front-bytes : List ℕ
-  front-bytes = fore (seen .kind) (seen .label) (seen .spot) (size (w .old ⊹ w .tail))
+  front-bytes = fore (seen .kind) (seen .head) (seen .spot) (size (w .old ⊹ w .tail))
 
   back-bytes : List ℕ
   back-bytes = bytes (w .tail) ++ beyond (seen .spot)
 
   parts : l ≡ front-bytes ++ (bytes (w .old) ++ back-bytes)
   unfolding front-bytes back-bytes
-  parts = w .is ∙ seen .was ∙ apart (seen .kind) (seen .label) (seen .spot) (w .old) (w .tail)
+  parts = w .is ∙ seen .was ∙ apart (seen .kind) (seen .head) (seen .spot) (w .old) (w .tail)
 
   front-length : length front-bytes ≡ pos
   unfolding front-bytes
@@ -153,7 +153,7 @@ module _ (l : List ℕ) (pos par gone : ℕ) (new : List ℕ) (w : Place l pos p
   unfolding front-bytes
   cut m n e h = record {
     kind = seen .kind;
-    label = seen .label;
+    head = seen .head;
     spot = seen .spot;
     filled = size (w .old ⊹ w .tail);
     is = e ∙ front;
@@ -176,12 +176,12 @@ module _ (l : List ℕ) (pos par gone : ℕ) (new : List ℕ) (w : Place l pos p
       let w2 : d ≡ over 0 ((g ++ new) ++ drop (pos + gone) l) o =
       over-then _ _ _ _ _ _ _ w1 pd (simp length-append (omega arith)) (simp (length-append, length-drop) (omega arith)) in
       let z : m + (n - gone) ≡ size (w .put ⊹ w .tail) = omega (arith, larger (omega arith)) in
-      let x : (g ++ new) ++ drop (pos + gone) l ≡ (fore (seen .kind) (seen .label) t (m + (n - gone)) ++ bytes (w .put)) ++ (bytes (w .tail) ++ beyond t) =
+      let x : (g ++ new) ++ drop (pos + gone) l ≡ (fore (seen .kind) (seen .head) t (m + (n - gone)) ++ bytes (w .put)) ++ (bytes (w .tail) ++ beyond t) =
       λ j. (pg j ++ w .comes j) ++ back j in
-      let y : (fore (seen .kind) (seen .label) t (m + (n - gone)) ++ bytes (w .put)) ++ (bytes (w .tail) ++ beyond t) ≡ recordBytes (spliced l pos par gone new w) =
-      ap (λ (v : ℕ). (fore (seen .kind) (seen .label) t v ++ bytes (w .put)) ++ (bytes (w .tail) ++ beyond t)) z
-      ∙ append-assoc (fore (seen .kind) (seen .label) t (size (w .put ⊹ w .tail))) (bytes (w .put)) (bytes (w .tail) ++ beyond t)
-      ∙ sym (seen .is ∙ apart (seen .kind) (seen .label) t (w .put) (w .tail)) in
+      let y : (fore (seen .kind) (seen .head) t (m + (n - gone)) ++ bytes (w .put)) ++ (bytes (w .tail) ++ beyond t) ≡ recordBytes (spliced l pos par gone new w) =
+      ap (λ (v : ℕ). (fore (seen .kind) (seen .head) t v ++ bytes (w .put)) ++ (bytes (w .tail) ++ beyond t)) z
+      ∙ append-assoc (fore (seen .kind) (seen .head) t (size (w .put ⊹ w .tail))) (bytes (w .put)) (bytes (w .tail) ++ beyond t)
+      ∙ sym (seen .is ∙ apart (seen .kind) (seen .head) t (w .put) (w .tail)) in
       w2 ∙ ap (λ (v : List ℕ). over 0 v o) (x ∙ y)
 
 -- the front, once copied, is the record's

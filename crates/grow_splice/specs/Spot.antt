@@ -32,7 +32,7 @@ around (inside left h rest s) = size left + (6 + around s + size rest)
 -- The bytes before a filling of m bytes, and those past its level.
 abbrev pub before : Spot → (m : ℕ) → List ℕ
 before (here left) m = bytes left
-before (inside left h rest s) m = bytes left ++ (header 1 (h .label) (6 + (around s + m)) ++ before s m)
+before (inside left h rest s) m = bytes left ++ (header 1 h (6 + (around s + m)) ++ before s m)
 
 abbrev pub beyond : Spot → List ℕ
 beyond (here left) = []

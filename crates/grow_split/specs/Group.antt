@@ -10,7 +10,8 @@ use borrow.Author.Tests.{ltb-true, ltb-false}
 use lib.Dec.{eqb, ltb}
 use lib.ListN.{length, take, drop, set}
 use lib.Seq.{take-at, getD-set-other}
-use Rattle.model.specs.Row.{Row, nil, agg, lit, rec, _⊹_, size, isNil, lone, loneRec, recordSize, two, header, bytes, recordBytes, Config}
+use Rattle.model.specs.Limits.{mostPages, pageSize, capacity}
+use Rattle.model.specs.Row.{Row, nil, agg, lit, rec, _⊹_, size, isNil, lone, loneRec, recordSize, two, header, bytes, recordBytes, Config, noHead}
 use Rattle.model.specs.Reading.{twoAt}
 use Rattle.model.specs.Growth.{freeFrom, goOn, stops}
 use Rattle.theory_rows.specs.Laws.{length-bytes, isNil-nil, cond-case}
@@ -25,7 +26,7 @@ use Rattle.grow_split.specs.Cutting.{Cutting, groupI, twoGroupsI, separa
 -- ── a proxy ──
 
 abbrev pub proxyBytes : ℕ → List ℕ
-proxyBytes q = header 3 0 8 ++ two q
+proxyBytes q = header 3 noHead 8 ++ two q
 
 pub proxy-written : (at q : ℕ) (o a b c d : List ℕ) → at + 8 ≤ length o → a ≡ over at (two 3) o → b ≡ over (at + 2) (two 0) a → c ≡ over (at + 4) (two 8) b → d ≡ over (at + 6) (two q) c
     → d ≡ over at (proxyBytes q) o
@@ -42,7 +43,7 @@ pub record Part (l : List ℕ) (n : ℕ) : Type 0 where
   pub is : l ≡ bytes row
   pub below : Below n row
   pub moves : (isNil row || loneRec row) ≡ false
-  pub small : recordSize row ≤ 4080
+  pub small : recordSize row ≤ capacity
 
 pub some-size : (r : Row) → (isNil r || loneRec r) ≡ false → 0 < size r
 some-size nil e = absurd (true≢false e)
@@ -79,7 +80,7 @@ module _ (l : List ℕ) (n : ℕ) (w : Part l n) where
   part-size : twoAt l 4 ≡ sizeOf (w .row)
   part-size = part-node .size-is
 
-  pub part-fits : (6 ≤ length l) × (length l ≤ 4080)
+  pub part-fits : (6 ≤ length l) × (length l ≤ capacity)
   part-fits = omega (arith, part-length, part-node .more, part-node .total, w .small)
 
   pub one-node : (k : ℕ) → k ≡ twoAt l 4 → k ≡ length l → l ≡ recordBytes (w .row)
@@ -92,9 +93,9 @@ module _ (l : List ℕ) (n : ℕ) (w : Part l n) where
       go true q = absurd (h (e ∙ part-size ∙ lone-size (w .row) q ∙ sym part-length))
       go false q = refl
 
-  pub part-room : (k : ℕ) → k ≡ twoAt l 4 → (k ≡ length l → ⊥) → 6 + length l ≤ 4080
+  pub part-room : (k : ℕ) → k ≡ twoAt l 4 → (k ≡ length l → ⊥) → 6 + length l ≤ capacity
   part-room k e h =
-      let z : 6 + size (w .row) ≤ 4080 = rw (not-lone k e h) at (w .small) in
+      let z : 6 + size (w .row) ≤ capacity = rw (not-lone k e h) at (w .small) in
       omega (arith, part-length)
 
   pub more-nodes : (k : ℕ) (z a b : List ℕ) → k ≡ twoAt l 4 → (k ≡ length l → ⊥) → length z ≡ 4076
@@ -102,7 +103,7 @@ module _ (l : List ℕ) (n : ℕ) (w : Part l n) where
   unfolding over
   more-nodes k z a b e h nz pa pb =
       let s : 6 + size (w .row) ≡ length l + 6 = omega (arith, part-length) in
-      let hd : List ℕ = header 4 0 (length l + 6) in
+      let hd : List ℕ = header 4 noHead (length l + 6) in
       let t : take (length l + 6) ((hd ++ l) ++ drop (length l) (drop 2 z)) ≡ hd ++ l = take-at (hd ++ l) (drop (length l) (drop 2 z)) (length l + 6) (omega arith) in
       let v : b ≡ (hd ++ l) ++ drop (length l) (drop 2 z) =
       pb ∙ ap (over 6 l) pa ∙ over-right 6 0 l hd (drop 2 z) refl ∙ rw (zero-add (length l)) in
@@ -119,12 +120,12 @@ page-with q x y img out e k = e ∙ ap (λ (z : List ℕ). setPage q (pageBytesO
 
 -- Pages from n on are marked as used.
 abbrev pub Past : (n : ℕ) → List ℕ → Type 0
-Past n u = (q : ℕ) → n ≤ q → q < 1024 → usedBy u q ≡ true
+Past n u = (q : ℕ) → n ≤ q → q < mostPages → usedBy u q ≡ true
 
 -- The numbers, the marks and the image that a split goes by.
 pub record Env (n near : ℕ) (u img : List ℕ) : Type 0 where
-  pub few : n ≤ 1024
-  pub image : 4096 * n ≤ length img
+  pub few : n ≤ mostPages
+  pub image : pageSize * n ≤ length img
   pub low : 1 ≤ near
   pub start : near < n
   pub past : Past n u
@@ -137,25 +138,25 @@ free-or st used (suc k) q =
     cond-case (λ (i : ℕ). (used i ≡ false) ⊎ (i ≡ 0)) (used q) (λ _. free-or st used k (cond (ltb (suc q) (st .pages)) (suc q) 2)) (λ e. inl e)
 
 -- A page is found inside the image, or it is 0.
-pub free-within : (st : Config) (n near : ℕ) (used : ℕ → Bool) → st .pages ≡ n → n ≤ 1024 → near < n → ((q : ℕ) → n ≤ q → q < 1024 → used q ≡ true) → (k : ℕ) → freeFrom st k used near < n
+pub free-within : (st : Config) (n near : ℕ) (used : ℕ → Bool) → st .pages ≡ n → n ≤ mostPages → near < n → ((q : ℕ) → n ≤ q → q < mostPages → used q ≡ true) → (k : ℕ) → freeFrom st k used near < n
 free-within st n near used e few start past k =
     let q = freeFrom st k used near in
-    let h : q < 1024 = free-below st (omega (arith, e)) used k near (omega arith) in
+    let h : q < mostPages = free-below st (omega (arith, e)) used k near (omega arith) in
     go q h (free-or st used k near) (ltb q n) refl
   where
-    go : (q : ℕ) → q < 1024 → (used q ≡ false) ⊎ (q ≡ 0) → (b : Bool) → ltb q n ≡ b → q < n
+    go : (q : ℕ) → q < mostPages → (used q ≡ false) ⊎ (q ≡ 0) → (b : Bool) → ltb q n ≡ b → q < n
     go q h f true g = ltb-true q n g
     go q h (inl f) false g = absurd (true≢false (sym (past q (ltb-false q n g) h) ∙ f))
     go q h (inr f) false g = omega arith
 
-pub free-inside : (st : Config) (n near : ℕ) (u : List ℕ) → st .pages ≡ n → n ≤ 1024 → near < n → Past n u → (k : ℕ) → freeFrom st k (usedBy u) near < n
+pub free-inside : (st : Config) (n near : ℕ) (u : List ℕ) → st .pages ≡ n → n ≤ mostPages → near < n → Past n u → (k : ℕ) → freeFrom st k (usedBy u) near < n
 free-inside st n near u e few start past k = free-within st n near (usedBy u) e few start past k
 
 pub set-past : (n q v : ℕ) (u : List ℕ) → q < n → Past n u → Past n (set u q v)
 unfolding usedBy
 set-past n q v u h past x k m = ap (λ (i : ℕ). not (eqb i 0)) (getD-set-other u q x v 0 (λ e. omega arith)) ∙ past x k m
 
-module _ (st : Config) (n near : ℕ) (dry : Bool) (e : st .pages ≡ n) (few : n ≤ 1024) (start : near < n) where
+module _ (st : Config) (n near : ℕ) (dry : Bool) (e : st .pages ≡ n) (few : n ≤ mostPages) (start : near < n) where
   pub group-past : (g : Row) (u img : List ℕ) → Past n u → Past n (groupI st near dry g u img .used)
   unfolding groupI
   group-past g u img h =
@@ -230,7 +231,7 @@ module _ (n near : ℕ) (dry : Bool) (l u img out : List ℕ) (at room : ℕ) (w
       rw (sym h) (record { used = refl; image = refl; filled = refl; written = q ∙ ap (λ (v : List ℕ). over at v out) (w .is); next = omega (arith, job-length) })
 
   module _ (h : false ≡ (isNil (w .row) || loneRec (w .row))) where
-    pub job-small : recordSize (w .row) ≤ 4080
+    pub job-small : recordSize (w .row) ≤ capacity
     unfolding groupI
     job-small = let f : Fits (rec (freeFrom (w .st) (w .st .pages) (usedBy u) near) false (w .row) nil) = rw (sym h) at (w .fits) in f .0 .fits
 

@@ -5,6 +5,7 @@ use mathlib.Core.List.{List}
 use Prim.Native.Nat.{ℕ, _+_, _*_, _<_, _≤_}
 use native.Mathlib.Omega.{arith}
 use lib.ListN.{length}
+use Rattle.model.specs.Limits.{mostPages, pageSize, capacity}
 use Rattle.model.specs.Row.{Row, nil, agg, lit, rec, _⊹_, size, isNil, loneRec, recordSize, Config}
 use Rattle.model.specs.Reading.{pageOf}
 use Rattle.model.specs.Growth.{Work, freeFrom, goOn, stops, group, separate}
@@ -37,14 +38,14 @@ after-then dry new mid old f m a b = record {
   pages = λ e. b .pages e ∙ ap f (a .pages e);
 }
 
-module _ (st : Config) (n near : ℕ) (dry : Bool) (e : st .pages ≡ n) (few : n ≤ 1024) (start : near < n) where
-  many : st .pages ≤ 1024
+module _ (st : Config) (n near : ℕ) (dry : Bool) (e : st .pages ≡ n) (few : n ≤ mostPages) (start : near < n) where
+  many : st .pages ≤ mostPages
   many = omega (arith, e)
 
-  inside : near < 1024
+  inside : near < mostPages
   inside = omega arith
 
-  own-mem : (d : Bool) (q : ℕ) (g : Row) (img : List ℕ) → q < n → recordSize g ≤ 4080 → Below n g → 4096 * n ≤ length img
+  own-mem : (d : Bool) (q : ℕ) (g : Row) (img : List ℕ) → q < n → recordSize g ≤ capacity → Below n g → pageSize * n ≤ length img
       → After d (cond d img (written q false 0 g img)) img (putMem q false 0 g (pageOf img))
   own-mem true q g img h k b room = record { long = refl; same = λ _. refl; pages = λ z. absurd (true≢false z) }
   own-mem false q g img h k b room = record {
@@ -53,7 +54,7 @@ module _ (st : Config) (n near : ℕ) (dry : Bool) (e : st .pages ≡ n) (few : 
     pages = λ _. mem-written n q 0 false g img b k room h;
   }
 
-  pub group-mem : (g : Row) (u img : List ℕ) (w : Work) → Marked u w → Past n u → 4096 * n ≤ length img → Below n g → Fits (groupI st near dry g u img .row)
+  pub group-mem : (g : Row) (u img : List ℕ) (w : Work) → Marked u w → Past n u → pageSize * n ≤ length img → Below n g → Fits (groupI st near dry g u img .row)
       → After dry (groupI st near dry g u img .img) img (groupMem st near g w (pageOf img))
   unfolding groupI groupMem
   group-mem g u img w m past room b f =
@@ -64,7 +65,7 @@ module _ (st : Config) (n near : ℕ) (dry : Bool) (e : st .pages ≡ n) (few : 
       (λ k. subst (λ (i : ℕ). After dry (cond dry img (written q false 0 g img)) img (putMem i false 0 g (pageOf img))) z (own-mem dry q g img h (k .0 .fits) b room))
 
   module _ (p : ℕ) where
-    two-mem : (left right : Row) (u img : List ℕ) (w : Work) → Marked u w → Past n u → 4096 * n ≤ length img → Below n left → Below n right
+    two-mem : (left right : Row) (u img : List ℕ) (w : Work) → Marked u w → Past n u → pageSize * n ≤ length img → Below n left → Below n right
         → Fits (twoGroupsI st near dry p left right u img .row) → After dry (twoGroupsI st near dry p left right u img .img) img (twoMem st near p left right w (pageOf img))
     unfolding twoGroupsI twoMem
     two-mem left right u img w m past room bl br f =
@@ -76,7 +77,7 @@ module _ (st : Config) (n near : ℕ) (dry : Bool) (e : st .pages ≡ n) (few : 
         after-then dry (d .img) (c .img) img (groupMem st near right (o .1)) (groupMem st near left w (pageOf img)) a
         (group-mem right (c .used) (c .img) (o .1) (group-same st many near inside dry left u img w m .used) (group-past st n near dry e few start left u img past) (omega (arith, a .long)) br (k .1))
 
-    pub separate-mem : (at : ℕ) (left row : Row) (u img : List ℕ) (w : Work) → Marked u w → Past n u → 4096 * n ≤ length img → Below n left → Below n row
+    pub separate-mem : (at : ℕ) (left row : Row) (u img : List ℕ) (w : Work) → Marked u w → Past n u → pageSize * n ≤ length img → Below n left → Below n row
         → Fits (separateI st near dry p at left row u img .row) → After dry (separateI st near dry p at left row u img .img) img (separateMem st near p at left row w (pageOf img))
     unfolding separateI separateMem
     separate-mem at left nil u img w m past room bl br f = group-mem left u img w m past room bl f

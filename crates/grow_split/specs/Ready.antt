@@ -4,6 +4,7 @@ use mathlib.Core.Bool.{Bool, true, false, cond}
 use mathlib.Core.List.{List, _++_}
 use Prim.Native.Nat.{ℕ, _+_, _<_, _≤_}
 use native.Mathlib.Omega.{arith}
+use Rattle.model.specs.Limits.{mostPages, capacity}
 use Rattle.model.specs.Row.{Row, nil, agg, lit, rec, size, lone, recordSize, recordBytes, Config}
 use Rattle.model.specs.Growth.{Work, splitPoint, rootRow, withRow, separate, separator}
 use Rattle.theory_rows.specs.Fits.{Fits}
@@ -28,8 +29,8 @@ good-by st most true (lit l c rest) new k f h = absurd (omega arith)
 good-by st most true (rec p s r rest) new k f h = absurd (omega arith)
 
 -- The first level of a record that is too large, which starts the bytes l; its separator has at most `most` bytes.
-module _ (st : Config) (near most room : ℕ) (dry : Bool) (l u img post : List ℕ) (w : Work) (many : st .pages ≤ 1024) (inside : near < 1024) (m : Marked u w) (r : Row)
-    (e : l ≡ recordBytes r ++ post) (f : Fits r) (big : 4080 < recordSize r) (small : recordSize r < 65536) (b : Below (st .pages) r)
+module _ (st : Config) (near most room : ℕ) (dry : Bool) (l u img post : List ℕ) (w : Work) (many : st .pages ≤ mostPages) (inside : near < mostPages) (m : Marked u w) (r : Row)
+    (e : l ≡ recordBytes r ++ post) (f : Fits r) (big : capacity < recordSize r) (small : recordSize r < 65536) (b : Below (st .pages) r)
     (g : Fits (separator st near r w .0)) (h : size (separator st near r w .0) ≤ most) (k : most ≤ cond (lone r) 6 0 + room) where
   abbrev pub root-level : Kids l 6 (recordSize r)
   root-level = root-kids st l post r e (root-some st r f big) small .0

@@ -6,6 +6,7 @@ use Prim.Native.Nat.{ℕ, _+_, _<_, _≤_}
 use native.Mathlib.Omega.{arith}
 use lib.Dec.{eqb}
 use lib.ListN.{length, set, length-set}
+use Rattle.model.specs.Limits.{mostPages}
 use Rattle.model.specs.Row.{Row, nil, agg, lit, rec, _⊹_, size, isNil, loneRec, Config}
 use Rattle.model.specs.Growth.{Work, Out, freeFrom, goOn, stops, taken, group, twoGroups, separate}
 use Rattle.grow_pages.specs.Write.{usedBy, used-set, free-same, free-below}
@@ -13,8 +14,8 @@ use Rattle.grow_split.specs.Cutting.{Cutting, groupI, twoGroupsI, separa
 
 -- The marks say of each page what growth carries along.
 pub record Marked (u : List ℕ) (w : Work) : Type 0 where
-  pub long : length u ≡ 1024
-  pub same : (x : ℕ) → x < 1024 → usedBy u x ≡ w .used x
+  pub long : length u ≡ mostPages
+  pub same : (x : ℕ) → x < mostPages → usedBy u x ≡ w .used x
 
 -- What a step gives is what the model's gives from w.
 pub record Alike (c : Cutting) (w : Work) (o : Out) : Type 0 where
@@ -47,7 +48,7 @@ alike-then c d w o v r r′ img e a b = record {
   lean = b .lean ∙ a .lean;
 }
 
-module _ (st : Config) (many : st .pages ≤ 1024) (near : ℕ) (inside : near < 1024) (dry : Bool) where
+module _ (st : Config) (many : st .pages ≤ mostPages) (near : ℕ) (inside : near < mostPages) (dry : Bool) where
   own-same : (g : Row) (u img : List ℕ) (w : Work) → Marked u w
       → let q = freeFrom st (st .pages) (usedBy u) near in
       let q′ = freeFrom st (st .pages) (w .used) near in

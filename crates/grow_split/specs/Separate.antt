@@ -5,8 +5,8 @@ use mathlib.Core.List.{List, _++_}
 use Prim.Native.Nat.{ℕ, _+_, _-_, _≤_}
 use native.Mathlib.Omega.{arith}
 use lib.ListN.{length, take, drop}
-use Rattle.model.specs.Row.{Row, nil, agg, lit, rec, _⊹_, size, two, header, bytes, Config}
-use Rattle.model.specs.Reading.{twoAt}
+use Rattle.model.specs.Row.{Row, nil, agg, lit, rec, _⊹_, size, two, header, bytes, Config, Head}
+use Rattle.model.specs.Reading.{sizeAt}
 use Rattle.theory_rows.specs.Bound.{fits-parts}
 use Rattle.theory_rows.specs.Laws.{length-bytes, size-⊹, bytes-⊹}
 use Rattle.theory_rows.specs.Fits.{Fits}
@@ -37,7 +37,7 @@ below-rest n (lit l c rest) h = h
 below-rest n (rec p s r rest) h = h .1
 
 -- A header's size put right.
-pub resized : (lb k v : ℕ) (b : List ℕ) → over 4 (two v) (header 1 lb k ++ b) ≡ header 1 lb v ++ b
+pub resized : (lb : Head) (k v : ℕ) (b : List ℕ) → over 4 (two v) (header 1 lb k ++ b) ≡ header 1 lb v ++ b
 unfolding over
 resized lb k v b = refl
 
@@ -215,7 +215,7 @@ module _ {n near p tol : ℕ} {dry : Bool} {l u img : List ℕ} {pos end room x 
     inside-within lf h m g = rw (lf .used, lf .image) (omega (arith, total, lf .next))
 
     -- The level inside it, after the left group and the header.
-    abbrev pub inner-sep : {at r : ℕ} {fa : Bool} {u₁ i₁ o₁ o₀ : List ℕ} → Left A at r fa u₁ i₁ o₁ o₀ → at + room ≤ length o₀ → (k : ℕ) → k ≡ twoAt l (x + 4) → (m : ℕ) → m ≡ length o₀
+    abbrev pub inner-sep : {at r : ℕ} {fa : Bool} {u₁ i₁ o₁ o₀ : List ℕ} → Left A at r fa u₁ i₁ o₁ o₀ → at + room ≤ length o₀ → (k : ℕ) → k ≡ sizeAt l x → (m : ℕ) → m ≡ length o₀
         → Sep n near p tol dry l u₁ i₁ (x + 6) (x + k) (m - (r + 6))
     inner-sep lf h k is m g = record {
       st = w .st;
@@ -253,7 +253,7 @@ module _ {n near p tol : ℕ} {dry : Bool} {l u img : List ℕ} {pos end room x 
       rest-within h m g = rw (ml-M .used, ml-M .image) (omega (arith, ml-M .next, total, lf .next))
 
       -- The group after it.
-      abbrev pub rest-job : at + room ≤ length o₀ → (k : ℕ) → k ≡ twoAt l (x + 4) → (m : ℕ) → m ≡ length o₀ → Job n near dry (take (end - (x + k)) (drop (x + k) l)) u₂ i₂ (m - s)
+      abbrev pub rest-job : at + room ≤ length o₀ → (k : ℕ) → k ≡ sizeAt l x → (m : ℕ) → m ≡ length o₀ → Job n near dry (take (end - (x + k)) (drop (x + k) l)) u₂ i₂ (m - s)
       rest-job h k is m g = record {
         st = w .st;
         pages = w .pages;
@@ -264,11 +264,11 @@ module _ {n near p tol : ℕ} {dry : Bool} {l u img : List ℕ} {pos end room x 
         within = rest-within h m g;
       }
 
-      pub done-inside : {f : ℕ} {fr : Bool} {u₃ i₃ o₄ o₅ : List ℕ} → (k y : ℕ) → k ≡ twoAt l (x + 4) → y ≡ x + 6 → o₂ ≡ over r (take (y - x) (drop x l)) o₁ → o₄ ≡ over (r + 4) (two (s - r)) o₃
+      pub done-inside : {f : ℕ} {fr : Bool} {u₃ i₃ o₄ o₅ : List ℕ} → (k y : ℕ) → k ≡ sizeAt l x → y ≡ x + 6 → o₂ ≡ over r (take (y - x) (drop x l)) o₁ → o₄ ≡ over (r + 4) (two (s - r)) o₃
           → Left (groupI (w .st) near dry (restOf F) u₂ i₂) s f fr u₃ i₃ o₅ o₄ → at + room ≤ length o₀ → length o₁ ≡ length o₀ → Left result at f ((fa || fm) || fr) u₃ i₃ o₅ o₀
       unfolding insideI
       done-inside {f} {fr} {u₃} {i₃} {o₄} {o₅} k y is ye p2 p4 rl h same =
-          let lb : ℕ = headOf F .label in
+          let lb : Head = headOf F in
           let C : List ℕ = bytes (M .row) in
           let ml′ = ml-M in
           let rl′ : Left R s f fr u₃ i₃ o₅ o₄ = moved (groupI (w .st) near dry (restOf F)) (ml′ .used) (ml′ .image) rl in

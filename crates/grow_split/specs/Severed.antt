@@ -5,7 +5,8 @@ use mathlib.Core.List.{List, [], _++_, append-nil}
 use Prim.Native.Nat.{ℕ, _+_, _<_, _≤_}
 use native.Mathlib.Omega.{arith}
 use lib.ListN.{length, take, getD}
-use Rattle.model.specs.Row.{Head, Row, nil, agg, lit, rec, size, lone, recordSize, two, header, bytes, recordBytes, Config}
+use Rattle.model.specs.Limits.{mostPages, capacity}
+use Rattle.model.specs.Row.{Head, Row, nil, agg, lit, rec, size, lone, recordSize, two, header, bytes, recordBytes, Config, noHead}
 use Rattle.model.specs.Reading.{pageOf}
 use Rattle.model.specs.Growth.{Work, Out, onRow, splitPoint, rootRow, withRow, separate, separator}
 use Rattle.theory_rows.specs.Laws.{length-bytes, isNil-nil}
@@ -31,7 +32,7 @@ pub record Large (n near p tolerance : ℕ) (l u : List ℕ) : Type 0 where
   pub row : Row
   pub is : l ≡ recordBytes row
   pub fits : Fits row
-  pub big : 4080 < recordSize row
+  pub big : capacity < recordSize row
   pub small : recordSize row < 65536
   pub point : p ≡ splitPoint st (recordSize row)
   pub below : Below n row
@@ -69,7 +70,7 @@ root-lone st (rec p s r rest) e h = absurd (false≢true e)
 root-kind : (st : Config) (r : Row) → 0 < size (rootRow st (lone r) r) → getD (recordBytes r) 0 0 ≡ cond (lone r) 1 4
 root-kind st r h = go (lone r) r refl h
   where
-    go : (b : Bool) (r : Row) → lone r ≡ b → 0 < size (rootRow st b r) → getD (cond b (bytes r) (header 4 0 (6 + size r) ++ bytes r)) 0 0 ≡ cond b 1 4
+    go : (b : Bool) (r : Row) → lone r ≡ b → 0 < size (rootRow st b r) → getD (cond b (bytes r) (header 4 noHead (6 + size r) ++ bytes r)) 0 0 ≡ cond b 1 4
     go false r e h = refl
     go true nil e h = absurd (false≢true e)
     go true (agg l cs rest) e h = refl
@@ -88,7 +89,7 @@ module _ {n near p tol : ℕ} {l u : List ℕ} (w : Large n near p tol l u) wher
   pub large-length : length l ≡ recordSize (w .row)
   large-length = ap length (w .is) ∙ length-record (w .row)
 
-  pub large-long : (4080 < length l) × (length l < 65536)
+  pub large-long : (capacity < length l) × (length l < 65536)
   large-long = omega (arith, large-length, w .big, w .small)
 
   some : 0 < size (rootRow (w .st) (lone (w .row)) (w .row))
@@ -111,10 +112,10 @@ module _ {n near p tol : ℕ} {l u : List ℕ} (w : Large n near p tol l u) wher
   helper-room room e h = rw e (omega arith)
 
   module _ {img : List ℕ} (dry : Bool) (env : Env n near u img) where
-    pub many : w .st .pages ≤ 1024
+    pub many : w .st .pages ≤ mostPages
     many = omega (arith, w .pages, env .few)
 
-    pub inside : near < 1024
+    pub inside : near < mostPages
     inside = omega (arith, env .few, env .start)
 
     module _ (room : ℕ) (k : 512 ≤ cond (lone (w .row)) 6 0 + room) where
@@ -222,7 +223,7 @@ module _ {n near p tol : ℕ} {l u : List ℕ} (w : Large n near p tol l u) wher
           → o₃ ≡ over 4 (two r) o₂ → Severed (w .st) near (w .row) (w .work) dry r full u′ img i′ o₀ o₃
       done-lone {r} {full} {u′} {i′} {o₀} {o₁} {o₂} {o₃} e h p1 lf p3 =
           let g = root-lone (w .st) (w .row) e (subst (λ (b : Bool). 0 < size (rootRow (w .st) b (w .row))) e some) in
-          let lb : ℕ = g .head .label in
+          let lb : Head = g .head in
           let N : Row = agg (g .head) (C .row) nil in
           let B : List ℕ = bytes (C .row) in
           let k₀ : ℕ = 6 + size (g .kids) in

@@ -1,17 +1,18 @@
 // The split of a record in its bytes: the groups become records on free pages, the separator's row is written out.
-use grow_split_point::child;
-use grow_split_point::enters;
-use grow_split_point::stays;
 use base_numbers::copy_in;
 use base_numbers::put16;
 use base_numbers::two;
 use grow_pages::first_free;
 use grow_pages::put_record;
 use grow_pages::relink;
+use grow_split_point::child;
+use grow_split_point::enters;
+use grow_split_point::stays;
 ghost use mathlib.Core.Path.{_≡_};
 ghost use mathlib.Core.Bool.{false};
 ghost use Prim.Native.Nat.{_+_, _-_, _*_, _≤_, _<_};
 ghost use lib.ListN.{length};
+ghost use Rattle.model.specs.Limits.{mostPages, pageSize};
 ghost use Rattle.model.specs.Row.{nil, recordBytes};
 ghost use Rattle.base_numbers.specs.Over.{over};
 ghost use Rattle.grow_pages.specs.Write.{setPage, pageBytesOf};
@@ -40,7 +41,7 @@ pub fn put_proxy(out: &mut [u8], at: usize, q: usize)
 
 // Writes a group's record to page q: the group itself if it is one node, else a helper with it. The holder is set later.
 pub fn put_content(image: &mut [u8], pages: usize, q: usize, part: &[u8])
-    requires { ⌜ (q < 1024) × ((4096 * q + 4096 ≤ length (now image)) × Part (now part) pages) ⌝ }
+    requires { ⌜ (q < mostPages) × ((pageSize * q + pageSize ≤ length (now image)) × Part (now part) pages) ⌝ }
     ensures { λ _. ⌜ ((w : Part (now (part .entry)) pages) → now (image .exit) ≡ setPage q (pageBytesOf (recordBytes (w .row)) 0 0) (now (image .entry))) ⌝ }
 {
     let n = part.len();
@@ -57,7 +58,7 @@ pub fn put_content(image: &mut [u8], pages: usize, q: usize, part: &[u8])
 
 // Writes a group's record to page q, and the back links of the records that it holds.
 pub fn put_nodes(image: &mut [u8], pages: usize, q: usize, part: &[u8])
-    requires { ⌜ (pages ≤ 1024) × ((4096 * pages ≤ length (now image)) × ((q < pages) × Part (now part) pages)) ⌝ }
+    requires { ⌜ (pages ≤ mostPages) × ((pageSize * pages ≤ length (now image)) × ((q < pages) × Part (now part) pages)) ⌝ }
     ensures { λ _. ⌜ ((w : Part (now (part .entry)) pages) → now (image .exit) ≡ written q false 0 (w .row) (now (image .entry))) ⌝ }
 {
     put_content(image, pages, q, part);

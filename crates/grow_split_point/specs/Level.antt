@@ -6,8 +6,9 @@ use Prim.Native.Nat.{ℕ, _+_, _-_, _<_, _≤_}
 use native.Mathlib.Omega.{arith}
 use lib.ListN.{length, take, drop}
 use lib.Seq.{take-at}
-use Rattle.model.specs.Row.{Row, nil, agg, lit, rec, _⊹_, size, lone, recordSize, header, bytes, recordBytes, Config}
-use Rattle.model.specs.Reading.{twoAt}
+use Rattle.model.specs.Limits.{capacity}
+use Rattle.model.specs.Row.{Row, nil, agg, lit, rec, _⊹_, size, lone, recordSize, header, bytes, recordBytes, Config, noHead}
+use Rattle.model.specs.Reading.{sizeAt}
 use Rattle.model.specs.Growth.{rootRow}
 use Rattle.theory_rows.specs.Laws.{length-bytes, size-⊹, isNil-nil, bytes-⊹}
 use Rattle.theory_rows.specs.Fits.{Fits}
@@ -39,7 +40,7 @@ pub root-kids : (st : Config) (l post : List ℕ) (r : Row) → l ≡ recordByte
     → (w : Kids l 6 (recordSize r)) × (w .row ≡ rootRow st (lone r) r)
 root-kids st l post r e h k = go (lone r) r refl e h k
   where
-    go : (b : Bool) (r : Row) → lone r ≡ b → l ≡ cond b (bytes r) (header 4 0 (6 + size r) ++ bytes r) ++ post → 0 < size (rootRow st b r) → cond b 0 6 + size r < 65536
+    go : (b : Bool) (r : Row) → lone r ≡ b → l ≡ cond b (bytes r) (header 4 noHead (6 + size r) ++ bytes r) ++ post → 0 < size (rootRow st b r) → cond b 0 6 + size r < 65536
         → (w : Kids l 6 (cond b 0 6 + size r)) × (w .row ≡ rootRow st b r)
     go false r q e h k = (record { row = r; stands = record { post = post; is = ap (drop 6) e }; some = h; ends = refl; small = k }, refl)
     go true nil q e h k = absurd (omega arith)
@@ -58,10 +59,10 @@ root-kids st l post r e h k = go (lone r) r refl e h k
     go true (rec p s x rest) q e h k = absurd (omega arith)
 
 -- A record that is too large has such children.
-pub root-some : (st : Config) (r : Row) → Fits r → 4080 < recordSize r → 0 < size (rootRow st (lone r) r)
+pub root-some : (st : Config) (r : Row) → Fits r → capacity < recordSize r → 0 < size (rootRow st (lone r) r)
 root-some st r f h = go (lone r) r refl f h
   where
-    go : (b : Bool) (r : Row) → lone r ≡ b → Fits r → 4080 < cond b 0 6 + size r → 0 < size (rootRow st b r)
+    go : (b : Bool) (r : Row) → lone r ≡ b → Fits r → capacity < cond b 0 6 + size r → 0 < size (rootRow st b r)
     go false r q f h = omega arith
     go true nil q f h = absurd (omega arith)
     go true (agg hd cs rest) q f h = omega (arith, ap size (isNil-nil rest q))
@@ -113,13 +114,13 @@ into-size-is st (agg h cs rest) e = refl
 into-size-is st (lit h c rest) e = absurd (false≢true e)
 into-size-is st (rec p s r rest) e = absurd (false≢true e)
 
-into-head : (l : List ℕ) (x : ℕ) (st : Config) (r : Row) → goesInto st r ≡ true → Stands l x r → take 6 (drop x l) ≡ header 1 (headOf r .label) (sizeOf r)
+into-head : (l : List ℕ) (x : ℕ) (st : Config) (r : Row) → goesInto st r ≡ true → Stands l x r → take 6 (drop x l) ≡ header 1 (headOf r) (sizeOf r)
 into-head l x st nil e s = absurd (false≢true e)
 into-head l x st (agg h cs rest) e s = ap (take 6) (s .is)
 into-head l x st (lit h c rest) e s = absurd (false≢true e)
 into-head l x st (rec p b r rest) e s = absurd (false≢true e)
 
-module _ {l : List ℕ} {x end : ℕ} (w : Kids l x end) (st : Config) (into : goesInto st (w .row) ≡ true) (n : ℕ) (is : n ≡ twoAt l (x + 4)) where
+module _ {l : List ℕ} {x end : ℕ} (w : Kids l x end) (st : Config) (into : goesInto st (w .row) ≡ true) (n : ℕ) (is : n ≡ sizeAt l x) where
   pub inner-size : n ≡ 6 + size (kidsOf (w .row))
   inner-size = is ∙ first w .size-is ∙ into-size-is st (w .row) into
 
@@ -137,7 +138,7 @@ module _ {l : List ℕ} {x end : ℕ} (w : Kids l x end) (st : Config) (into : g
   }
 
   -- Its header.
-  pub head-bytes : (y : ℕ) → y ≡ x + 6 → take (y - x) (drop x l) ≡ header 1 (headOf (w .row) .label) n
+  pub head-bytes : (y : ℕ) → y ≡ x + 6 → take (y - x) (drop x l) ≡ header 1 (headOf (w .row)) n
   head-bytes y e =
       let z : y - x ≡ 6 = omega arith in
       rw (z, is, first w .size-is) (into-head l x st (w .row) into (w .stands))

@@ -10,7 +10,7 @@ use borrow.Author.Tests.{lt-ltb, le-ltb, lt-leb, le-leb, ltb-true, ltb-false}
 use lib.Dec.{ltb, leb}
 use lib.ListN.{length, getD}
 use Rattle.model.specs.Row.{Row, nil, agg, lit, rec, _⊹_, size, isNil, loneRec, bytes, standing, mayStand, Config}
-use Rattle.model.specs.Reading.{twoAt}
+use Rattle.model.specs.Reading.{sizeAt}
 use Rattle.model.specs.Growth.{stops, startOf}
 use Rattle.theory_rows.specs.Laws.{length-bytes}
 use Rattle.theory_rows.specs.Bound.{not-nil}
@@ -91,7 +91,7 @@ pub record Sought (l : List ℕ) (st : Config) (p pos stop t : ℕ) : Type 0 whe
   pub kids : Kids l pos stop
   pub same : startOf st p pos (kids .row) ≡ t
 
-module _ (l : List ℕ) (st : Config) (p tol pos stop t n : ℕ) (te : st .tolerance ≡ tol) (w : Sought l st p pos stop t) (is : n ≡ twoAt l (pos + 4)) where
+module _ (l : List ℕ) (st : Config) (p tol pos stop t n : ℕ) (te : st .tolerance ≡ tol) (w : Sought l st p pos stop t) (is : n ≡ sizeAt l pos) where
   n-is : n ≡ sizeOf (w .kids .row)
   n-is = is ∙ first (w .kids) .size-is
 
@@ -155,7 +155,7 @@ pub record Going (l : List ℕ) (p pos end t : ℕ) : Type 0 where
   pub kids : Kids l pos end
   pub same : pos + size (passed p pos (kids .row)) ≡ t
 
-module _ (l : List ℕ) (p pos end t n : ℕ) (w : Going l p pos end t) (is : n ≡ twoAt l (pos + 4)) where
+module _ (l : List ℕ) (p pos end t n : ℕ) (w : Going l p pos end t) (is : n ≡ sizeAt l pos) where
   k-is : n ≡ sizeOf (w .kids .row)
   k-is = is ∙ first (w .kids) .size-is
 
@@ -185,7 +185,7 @@ module _ (l : List ℕ) (p pos end t n : ℕ) (w : Going l p pos end t) (is : n 
 
 -- ── whether the split goes on ──
 
-module _ (l : List ℕ) (x end : ℕ) (w : Kids l x end) (st : Config) (tol n : ℕ) (te : st .tolerance ≡ tol) (is : n ≡ twoAt l (x + 4)) where
+module _ (l : List ℕ) (x end : ℕ) (w : Kids l x end) (st : Config) (tol n : ℕ) (te : st .tolerance ≡ tol) (is : n ≡ sizeAt l x) where
   into-is : goesInto st (w .row) ≡ mayStand (getD l x 0) 1 && (ltb 6 n && leb tol n)
   into-is = rw (is, first w .size-is, first w .kind-is) (into-read st tol (w .row) (w .some) te)
 

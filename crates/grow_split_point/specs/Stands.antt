@@ -4,8 +4,8 @@ use mathlib.Core.List.{List, _++_, append-assoc}
 use Prim.Native.Nat.{ℕ, _+_, _-_, _<_, _≤_}
 use native.Mathlib.Omega.{arith}
 use lib.ListN.{length, getD, drop, length-append, length-drop}
-use Rattle.model.specs.Row.{Head, Row, nil, agg, lit, rec, size, two, header, bytes}
-use Rattle.model.specs.Reading.{twoAt}
+use Rattle.model.specs.Row.{Head, Row, nil, agg, lit, rec, size, two, header, bytes, noHead}
+use Rattle.model.specs.Reading.{sizeAt}
 use Rattle.theory_decoding.specs.At.{first-byte, number-at, past}
 use Rattle.theory_rows.specs.Laws.{length-bytes}
 
@@ -35,10 +35,10 @@ sizeOf (lit h c rest) = 6 + length c
 sizeOf (rec p s r rest) = 8
 
 abbrev pub headOf : Row → Head
-headOf nil = record { label = 0 }
+headOf nil = noHead
 headOf (agg h cs rest) = h
 headOf (lit h c rest) = h
-headOf (rec p s r rest) = record { label = 0 }
+headOf (rec p s r rest) = noHead
 
 abbrev pub kidsOf : Row → Row
 kidsOf nil = nil
@@ -54,7 +54,7 @@ restOf (rec p s r rest) = rest
 
 pub record Node (l : List ℕ) (pos : ℕ) (r : Row) : Type 0 where
   pub kind-is : getD l pos 0 ≡ kindOf r
-  pub size-is : twoAt l (pos + 4) ≡ sizeOf r
+  pub size-is : sizeAt l pos ≡ sizeOf r
   pub more : 6 ≤ sizeOf r
   pub total : size r ≡ sizeOf r + size (restOf r)
   pub within : pos + size r ≤ length l
@@ -62,11 +62,11 @@ pub record Node (l : List ℕ) (pos : ℕ) (r : Row) : Type 0 where
   pub rest : Stands l (pos + sizeOf r) (restOf r)
 
 -- a header, its body and what follows, read at pos
-module _ (l body post : List ℕ) (pos k lb n : ℕ) (r : Row) (e : drop pos l ≡ header k lb n ++ (body ++ (bytes r ++ post))) (b : n ≡ 6 + length body) (small : n < 65536) where
+module _ (l body post : List ℕ) (pos k : ℕ) (lb : Head) (n : ℕ) (r : Row) (e : drop pos l ≡ header k lb n ++ (body ++ (bytes r ++ post))) (b : n ≡ 6 + length body) (small : n < 65536) where
   at-kind : getD l pos 0 ≡ k
   at-kind = first-byte l pos _ e
 
-  at-size : twoAt l (pos + 4) ≡ n
+  at-size : sizeAt l pos ≡ n
   at-size = number-at l pos _ e 4 n small refl refl
 
   at-within : pos + (n + size r) ≤ length l
@@ -84,41 +84,41 @@ module _ (l body post : List ℕ) (pos k lb n : ℕ) (r : Row) (e : drop pos l �
 pub node : (l : List ℕ) (pos : ℕ) (r : Row) → 0 < size r → size r < 65536 → Stands l pos r → Node l pos r
 node l pos nil h k s = absurd (omega arith)
 node l pos (agg hd cs rest) h k s =
-    let e : drop pos l ≡ header 1 (hd .label) (6 + size cs) ++ (bytes cs ++ (bytes rest ++ s .post)) = s .is ∙ simp append-assoc in
+    let e : drop pos l ≡ header 1 hd (6 + size cs) ++ (bytes cs ++ (bytes rest ++ s .post)) = s .is ∙ simp append-assoc in
     let b : 6 + size cs ≡ 6 + length (bytes cs) = omega (arith, length-bytes cs) in
     let m : 6 + size cs < 65536 = omega arith in
     record {
-      kind-is = at-kind l (bytes cs) (s .post) pos 1 (hd .label) (6 + size cs) rest e b m;
-      size-is = at-size l (bytes cs) (s .post) pos 1 (hd .label) (6 + size cs) rest e b m;
+      kind-is = at-kind l (bytes cs) (s .post) pos 1 hd (6 + size cs) rest e b m;
+      size-is = at-size l (bytes cs) (s .post) pos 1 hd (6 + size cs) rest e b m;
       more = omega arith;
       total = refl;
-      within = at-within l (bytes cs) (s .post) pos 1 (hd .label) (6 + size cs) rest e b m;
-      kids = record { post = bytes rest ++ s .post; is = past l pos 6 (header 1 (hd .label) (6 + size cs)) (bytes cs ++ (bytes rest ++ s .post)) refl e };
-      rest = at-rest l (bytes cs) (s .post) pos 1 (hd .label) (6 + size cs) rest e b m;
+      within = at-within l (bytes cs) (s .post) pos 1 hd (6 + size cs) rest e b m;
+      kids = record { post = bytes rest ++ s .post; is = past l pos 6 (header 1 hd (6 + size cs)) (bytes cs ++ (bytes rest ++ s .post)) refl e };
+      rest = at-rest l (bytes cs) (s .post) pos 1 hd (6 + size cs) rest e b m;
     }
 node l pos (lit hd c rest) h k s =
-    let e : drop pos l ≡ header 2 (hd .label) (6 + length c) ++ (c ++ (bytes rest ++ s .post)) = s .is ∙ simp append-assoc in
+    let e : drop pos l ≡ header 2 hd (6 + length c) ++ (c ++ (bytes rest ++ s .post)) = s .is ∙ simp append-assoc in
     let m : 6 + length c < 65536 = omega arith in
     record {
-      kind-is = at-kind l c (s .post) pos 2 (hd .label) (6 + length c) rest e refl m;
-      size-is = at-size l c (s .post) pos 2 (hd .label) (6 + length c) rest e refl m;
+      kind-is = at-kind l c (s .post) pos 2 hd (6 + length c) rest e refl m;
+      size-is = at-size l c (s .post) pos 2 hd (6 + length c) rest e refl m;
       more = omega arith;
       total = refl;
-      within = at-within l c (s .post) pos 2 (hd .label) (6 + length c) rest e refl m;
+      within = at-within l c (s .post) pos 2 hd (6 + length c) rest e refl m;
       kids = record { post = drop (pos + 6) l; is = refl };
-      rest = at-rest l c (s .post) pos 2 (hd .label) (6 + length c) rest e refl m;
+      rest = at-rest l c (s .post) pos 2 hd (6 + length c) rest e refl m;
     }
 node l pos (rec p b r rest) h k s =
-    let e : drop pos l ≡ header 3 0 8 ++ (two p ++ (bytes rest ++ s .post)) = s .is ∙ simp append-assoc in
+    let e : drop pos l ≡ header 3 noHead 8 ++ (two p ++ (bytes rest ++ s .post)) = s .is ∙ simp append-assoc in
     let m : 8 < 65536 = omega arith in
     record {
-      kind-is = at-kind l (two p) (s .post) pos 3 0 8 rest e refl m;
-      size-is = at-size l (two p) (s .post) pos 3 0 8 rest e refl m;
+      kind-is = at-kind l (two p) (s .post) pos 3 noHead 8 rest e refl m;
+      size-is = at-size l (two p) (s .post) pos 3 noHead 8 rest e refl m;
       more = omega arith;
       total = refl;
-      within = at-within l (two p) (s .post) pos 3 0 8 rest e refl m;
+      within = at-within l (two p) (s .post) pos 3 noHead 8 rest e refl m;
       kids = record { post = drop (pos + 6) l; is = refl };
-      rest = at-rest l (two p) (s .post) pos 3 0 8 rest e refl m;
+      rest = at-rest l (two p) (s .post) pos 3 noHead 8 rest e refl m;
     }
 
 kind-low : (r : Row) → kindOf r < 5

@@ -6,7 +6,8 @@ use Prim.Native.Nat.{ℕ, _+_, _-_, _≤_}
 use native.Mathlib.Omega.{arith}
 use lib.ListN.{length, take, drop, getD}
 use lib.Seq.{take-all}
-use Rattle.model.specs.Row.{Row, nil, agg, lit, rec, size, isNil, lone, base, recordSize, header, bytes, recordBytes}
+use Rattle.model.specs.Limits.{capacity}
+use Rattle.model.specs.Row.{Row, nil, agg, lit, rec, size, isNil, lone, base, recordSize, header, bytes, recordBytes, noHead}
 use Rattle.theory_rows.specs.Laws.{length-bytes}
 use Rattle.theory_rows.specs.Image.{length-record}
 use Rattle.grow_split_point.specs.Chosen.{size-some}
@@ -19,7 +20,7 @@ pub record Content (l : List ℕ) (n : ℕ) : Type 0 where
   pub row : Row
   pub is : l ≡ recordBytes row
   pub below : Below n row
-  pub small : recordSize row ≤ 4080
+  pub small : recordSize row ≤ capacity
   pub some : isNil row ≡ false
 
 -- ── where its row starts ──
@@ -40,7 +41,7 @@ first-kind (rec p s r rest) e = refl
 other-kind : (r : Row) → (getD (recordBytes r) 0 0 ≡ 4 → ⊥) → lone r ≡ true
 other-kind r e = go (lone r) e
   where
-    go : (b : Bool) → (getD (cond b (bytes r) (header 4 0 (6 + size r) ++ bytes r)) 0 0 ≡ 4 → ⊥) → b ≡ true
+    go : (b : Bool) → (getD (cond b (bytes r) (header 4 noHead (6 + size r) ++ bytes r)) 0 0 ≡ 4 → ⊥) → b ≡ true
     go true e = refl
     go false e = absurd (e refl)
 
@@ -53,7 +54,7 @@ node-start l r is e = rw (other-kind r (λ k. e (ap (λ (z : List ℕ). getD z 0
 drop-base : (r : Row) → drop (base r) (recordBytes r) ≡ bytes r
 drop-base r = go (lone r)
   where
-    go : (b : Bool) → drop (cond b 0 6) (cond b (bytes r) (header 4 0 (6 + size r) ++ bytes r)) ≡ bytes r
+    go : (b : Bool) → drop (cond b 0 6) (cond b (bytes r) (header 4 noHead (6 + size r) ++ bytes r)) ≡ bytes r
     go true = refl
     go false = refl
 
@@ -61,7 +62,7 @@ module _ {l : List ℕ} {n : ℕ} (w : Content l n) where
   content-length : length l ≡ recordSize (w .row)
   content-length = ap length (w .is) ∙ length-record (w .row)
 
-  pub content-fits : (1 ≤ length l) × (length l ≤ 4080)
+  pub content-fits : (1 ≤ length l) × (length l ≤ capacity)
   content-fits = omega (arith, content-length, w .small, size-some (w .row) (w .some))
 
   pub start-inside : {from : ℕ} → from ≡ base (w .row) → from ≤ length l

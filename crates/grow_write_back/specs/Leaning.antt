@@ -6,6 +6,7 @@ use native.Mathlib.Omega.{arith}
 use native.Mathlib.Nat.{mul-le-mul-right}
 use lib.IntN.{subℕ}
 use lib.ListN.{length}
+use Rattle.model.specs.Limits.{capacity, mostNode}
 use Rattle.model.specs.Row.{Row, lone, recordSize, recordBytes, Config}
 use Rattle.model.specs.Growth.{noWork, splitPoint, startOf, startOfD, rootRow}
 use Rattle.theory_rows.specs.Fits.{Ranges, Fits}
@@ -24,8 +25,8 @@ pub record Leaning (l : List ℕ) (target tolerance : ℕ) : Type 0 where
   pub row : Row
   pub is : l ≡ recordBytes row
   pub fits : Fits row
-  pub big : 4080 < recordSize row
-  pub most : recordSize row ≤ 4606
+  pub big : capacity < recordSize row
+  pub most : recordSize row ≤ (capacity + mostNode)
   pub deep : depth (rootRow st (lone row) row) ≤ 23
 
 module _ {l : List ℕ} {target tol : ℕ} (w : Leaning l target tol) where

@@ -5,6 +5,7 @@ use mathlib.Core.List.{List}
 use Prim.Native.Nat.{ℕ, _+_, _<_, _≤_}
 use lib.Dec.{eqb}
 use lib.ListN.{length}
+use Rattle.model.specs.Limits.{mostPages}
 use Rattle.model.specs.Row.{Row, nil, agg, lit, rec, _⊹_, size, isNil, lone, loneRec, recordSize, Config}
 use Rattle.model.specs.Growth.{Work, Out, freeFrom, goOn, stops, splitPoint, rootRow, withRow, group, twoGroups, separate, separator}
 use Rattle.theory_rows.specs.Laws.{cond-case}
@@ -15,7 +16,7 @@ use Rattle.grow_split.specs.Ready.{below-root}
 
 -- Growth takes no page from n on.
 abbrev pub Beyond : (n : ℕ) → Work → Type 0
-Beyond n w = (q : ℕ) → n ≤ q → q < 1024 → w .used q ≡ true
+Beyond n w = (q : ℕ) → n ≤ q → q < mostPages → w .used q ≡ true
 
 pub marked-beyond : {n : ℕ} {u : List ℕ} {w : Work} → Marked u w → Past n u → Beyond n w
 marked-beyond m past q k h = sym (m .same q h) ∙ past q k h
@@ -35,7 +36,7 @@ below-with st n true (agg l cs rest) new h k = (k, h .1)
 below-with st n true (lit l c rest) new h k = h
 below-with st n true (rec p s r rest) new h k = h
 
-module _ (st : Config) (n near : ℕ) (e : st .pages ≡ n) (few : n ≤ 1024) (start : near < n) where
+module _ (st : Config) (n near : ℕ) (e : st .pages ≡ n) (few : n ≤ mostPages) (start : near < n) where
   group-named : (g : Row) (w : Work) → Below n g → Beyond n w → Named n (group st near g w)
   unfolding group
   group-named g w b h =
@@ -84,6 +85,6 @@ module _ (st : Config) (n near : ℕ) (e : st .pages ≡ n) (few : n ≤ 1024) (
       let a : Named n o = separate-named p 6 nil (rootRow st (lone r) r) w tt (below-root st n (lone r) r b) h in
       record { row = below-with st n (lone r) r (o .0) b (a .row); used = a .used }
 
-pub below-separator : (st : Config) (n near : ℕ) (u : List ℕ) (w : Work) → st .pages ≡ n → n ≤ 1024 → near < n → Marked u w → Past n u → (r : Row) → Below n r
+pub below-separator : (st : Config) (n near : ℕ) (u : List ℕ) (w : Work) → st .pages ≡ n → n ≤ mostPages → near < n → Marked u w → Past n u → (r : Row) → Below n r
     → Below n (separator st near r w .0)
 below-separator st n near u w e few start m past r b = separator-named st n near e few start r w b (marked-beyond m past) .row

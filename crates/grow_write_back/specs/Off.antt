@@ -6,6 +6,7 @@ use Prim.Native.Nat.{ℕ, _+_, _*_, _<_, _≤_}
 use native.Mathlib.Omega.{arith}
 use lib.Dec.{eqb}
 use lib.ListN.{length, set, length-set, length-replicate}
+use Rattle.model.specs.Limits.{mostPages, pageSize, capacity}
 use Rattle.model.specs.Row.{Row, size, recordSize, recordBytes, Config}
 use Rattle.model.specs.Growth.{Work, counted, freed, splitPoint, separator}
 use Rattle.theory_rows.specs.Fits.{Fits}
@@ -39,7 +40,7 @@ pub record Off (n near target tolerance settled : ℕ) (l u : List ℕ) : Type 0
   pub row : Row
   pub is : l ≡ recordBytes row
   pub fits : Fits row
-  pub big : 4080 < recordSize row
+  pub big : capacity < recordSize row
   pub small : recordSize row ≤ 4608
   pub below : Below n row
   pub work : Work
@@ -61,16 +62,16 @@ left-marked settled q dry u img b h pb true e = absurd (omega arith)
 left-marked settled q true u img b h pb false e = (refl, pb)
 left-marked settled q false u img b h pb false e = (refl, pb)
 
-length-left : (dry stays : Bool) (q : ℕ) (img : List ℕ) → 4096 * q + 4096 ≤ length img → length (leftImage dry stays q img) ≡ length img
+length-left : (dry stays : Bool) (q : ℕ) (img : List ℕ) → pageSize * q + pageSize ≤ length img → length (leftImage dry stays q img) ≡ length img
 length-left true stays q img h = refl
 length-left false true q img h = refl
-length-left false false q img h = length-setPage q blank img (length-replicate {A = ℕ} 4096 0) h
+length-left false false q img h = length-setPage q blank img (length-replicate {A = ℕ} pageSize 0) h
 
 past-left : (n q : ℕ) (stays : Bool) (u : List ℕ) → q < n → Past n u → Past n (cond stays u (set u q 0))
 past-left n q true u h past = past
 past-left n q false u h past = set-past n q 0 u h past
 
-marked-left : (st : Config) (q : ℕ) (stays : Bool) (u : List ℕ) (r : Row) (w : Work) → q < 1024 → Marked u w → Marked (cond stays u (set u q 0)) (leaves st stays q r w)
+marked-left : (st : Config) (q : ℕ) (stays : Bool) (u : List ℕ) (r : Row) (w : Work) → q < mostPages → Marked u w → Marked (cond stays u (set u q 0)) (leaves st stays q r w)
 marked-left st q true u r w h m = record { long = m .long; same = m .same }
 marked-left st q false u r w h m = record {
   long = length-set u q 0 ∙ m .long;
@@ -89,7 +90,7 @@ module _ {n near target tol settled : ℕ} {l u img : List ℕ} (w : Off n near 
   pub off-sizes : (target ≤ 192) × (length l ≤ 4608)
   off-sizes = (w .range, omega (arith, off-length, w .small))
 
-  pub off-page : (near < 1024) × (4096 * near + 4096 ≤ length img)
+  pub off-page : (near < mostPages) × (pageSize * near + pageSize ≤ length img)
   off-page = omega (arith, env .few, env .start, env .image)
 
   module _ (dry : Bool) {u′ i′ : List ℕ} (ue : u′ ≡ cond (w .stays) u (set u near 0)) (ie : i′ ≡ leftImage dry (w .stays) near img) where

@@ -1,17 +1,18 @@
 // What an insert does to the record that it changed: the record goes back to its page, or it is split.
-use grow_split_point::lean;
-use grow_split_point::split_point;
-use grow_split_point::start_of;
 use grow_pages::clear_page;
 use grow_pages::put_record;
 use grow_pages::relink;
 use grow_split::Put;
 use grow_split::separator;
+use grow_split_point::lean;
+use grow_split_point::split_point;
+use grow_split_point::start_of;
 ghost use mathlib.Core.Path.{_≡_};
 ghost use mathlib.Core.Bool.{Bool, cond};
 ghost use Prim.Native.Nat.{_+_, _*_, _≤_, _<_};
 ghost use lib.ListN.{length, set};
 ghost use lib.IntN.{subℕ};
+ghost use Rattle.model.specs.Limits.{mostPages, pageSize};
 ghost use Rattle.model.specs.Row.{Row, base, recordSize, recordBytes};
 ghost use Rattle.model.specs.Growth.{splitPoint, startOfD};
 ghost use Rattle.grow_pages.specs.Relinked.{written};
@@ -53,7 +54,7 @@ pub fn keep(
     holder: usize,
     dry: bool,
 )
-    requires { ⌜ (pages ≤ 1024) × ((4096 * pages ≤ length (now image)) × ((page < pages) × ((settled ≤ 1) × ((holder < 1024) × Content (now content) pages)))) ⌝ }
+    requires { ⌜ (pages ≤ mostPages) × ((pageSize * pages ≤ length (now image)) × ((page < pages) × ((settled ≤ 1) × ((holder < mostPages) × Content (now content) pages)))) ⌝ }
     ensures { λ _. ⌜ ((w : Content (now (content .entry)) pages) (s : Bool) → settled ≡ cond s 1 0
         → now (image .exit) ≡ cond dry (now (image .entry)) (written page s holder (w .row) (now (image .entry)))) ⌝ }
 {
@@ -67,7 +68,7 @@ pub fn keep(
 
 // Frees the page of a record that is split, unless the record is settled. A dry run leaves the image.
 pub fn leave(image: &mut [u8], used: &mut [u8; 1024], page: usize, settled: usize, dry: bool)
-    requires { ⌜ (page < 1024) × (4096 * page + 4096 ≤ length (now image)) ⌝ }
+    requires { ⌜ (page < mostPages) × (pageSize * page + pageSize ≤ length (now image)) ⌝ }
     ensures { λ _. ⌜ ((stays : Bool) → settled ≡ cond stays 1 0
         → (now (used .exit) ≡ cond stays (now (used .entry)) (set (now (used .entry)) page 0)) × (now (image .exit) ≡ leftImage dry stays page (now (image .entry)))) ⌝ }
 {

@@ -7,9 +7,10 @@ use native.Mathlib.Omega.{arith}
 use lib.ListN.{length, getD, take, drop, length-append}
 use lib.Dec.{eqb}
 use borrow.Author.Tests.{eq-eqb, ne-eqb}
+use Rattle.model.specs.Limits.{pageSize, mostBytes}
 use Rattle.model.specs.Row.{Head, Row, nil, agg, lit, rec, size, base}
 use Rattle.model.specs.Tree.{Tree, end, branch, leaf, _⊞_, shown, Node, nodes, below, further}
-use Rattle.model.specs.Reading.{twoAt}
+use Rattle.model.specs.Reading.{twoAt, sizeAt, nameAt}
 use Rattle.theory_layout.specs.Here.{PageIn, Here, agg-view, lit-view, rec-view}
 use Rattle.read_find.specs.Rowed.{startOn, endOn}
 use Rattle.listing_text.specs.Text.{lineOf, letterOf, linesOf}
@@ -97,7 +98,7 @@ pub record Lined (img : List ℕ) (pos end level depth : ℕ) : Type 0 where
 pub record At (img : List ℕ) (i next end level depth : ℕ) : Type 0 where
   pub lined : Lined img i end level depth
   pub some : i < end
-  pub long : next ≡ i + twoAt img (i + 4)
+  pub long : next ≡ i + sizeAt img i
 
 -- What a node at i that ends at next prints by itself, and the row that it holds.
 abbrev pub ownOf : (img : List ℕ) → (i next level : ℕ) → List ℕ
@@ -108,7 +109,7 @@ ownOf img i next level =
 
 abbrev pub insideOf : (img : List ℕ) → (i next level : ℕ) → RowAt
 insideOf img i next level =
-    let p = twoAt img (i + 6) in
+    let p = nameAt img i in
     let children : RowAt = record { start = i + 6; stop = next; level = level + 1 } in
     let under : RowAt = record { start = startOn img p; stop = endOn img p; level = level } in
     let none : RowAt = record { start = next; stop = next; level = level } in
@@ -119,15 +120,15 @@ pub record Step (img : List ℕ) (i next end level depth : ℕ) (x : RowAt) (own
   pub more : i + 6 ≤ next
   pub within : next ≤ end
   pub room : end + 16 ≤ length img
-  pub small : end < 4194304
+  pub small : end < mostBytes
   pub below : 1 ≤ depth
   pub sum : level + depth ≤ 4294967296
-  pub names : getD img i 0 ≡ 3 → PageIn img (twoAt img (i + 6)) × (i + 8 ≤ next)
+  pub names : getD img i 0 ≡ 3 → PageIn img (nameAt img i) × (i + 8 ≤ next)
   pub inside : Lined img (x .start) (x .stop) (x .level) (depth - 1)
   pub after : Lined img next end level depth
   pub text : rowText level row ≡ own ++ rowText (x .level) (inside .row) ++ rowText level (after .row)
 
-module _ (img : List ℕ) (i next end level depth : ℕ) (some : i < end) (long : next ≡ i + twoAt img (i + 4)) where
+module _ (img : List ℕ) (i next end level depth : ℕ) (some : i < end) (long : next ≡ i + sizeAt img i) where
   step-row : (page : ℕ) (row : Row) → Here img page i row → end ≡ i + size row → span row ≤ depth → level + depth ≤ 4294967296
       → Step img i next end level depth (insideOf img i next level) (ownOf img i next level) row
   unfolding rowText
@@ -189,8 +190,8 @@ module _ (img : List ℕ) (i next end level depth : ℕ) (some : i < end) (long 
       let v = rec-view img page i p s r rest h in
       let u = v .under in
       let z : i + 8 ≡ next = omega (arith, v .long) in
-      let a : startOn img (twoAt img (i + 6)) ≡ 4096 * p + base r = ap (startOn img) (v .name) ∙ ap (λ (n : ℕ). 4096 * p + n) (u .first) in
-      let b : endOn img (twoAt img (i + 6)) ≡ 4096 * p + (base r + size r) = ap (endOn img) (v .name) ∙ ap (λ (n : ℕ). 4096 * p + n) (u .used) in
+      let a : startOn img (nameAt img i) ≡ pageSize * p + base r = ap (startOn img) (v .name) ∙ ap (λ (n : ℕ). pageSize * p + n) (u .first) in
+      let b : endOn img (nameAt img i) ≡ pageSize * p + (base r + size r) = ap (endOn img) (v .name) ∙ ap (λ (n : ℕ). pageSize * p + n) (u .used) in
       rw (v .kind) record {
         more = omega (arith, v .long);
         within = omega (arith, v .long);
@@ -234,7 +235,7 @@ pub going-start : {img : List ℕ} {pos end level depth at : ℕ} {out : List �
 going-start {img} {pos} {end} {level} {depth} {at} {out} w =
     record { done = []; rest = w .lined; wrote = nothing at out (omega (arith, w .room .fits)); whole = refl; room = w .room }
 
-abbrev pub at-node : {img : List ℕ} {i end level depth : ℕ} (len : ℕ) → Lined img i end level depth → i < end → len ≡ twoAt img (i + 4) → At img i (i + len) end level depth
+abbrev pub at-node : {img : List ℕ} {i end level depth : ℕ} (len : ℕ) → Lined img i end level depth → i < end → len ≡ sizeAt img i → At img i (i + len) end level depth
 at-node {img} {i} len w h e = record { lined = w; some = h; long = ap (λ (n : ℕ). i + n) e }
 
 pub step-at : {img : List ℕ} {i next end level depth : ℕ} → (a : At img i next end level depth) → (x : RowAt) → x ≡ insideOf img i next level
@@ -279,7 +280,7 @@ module _ (img : List ℕ) (i next level : ℕ) where
   pub inside-aggregate : getD img i 0 ≡ 1 → record { start = i + 6; stop = next; level = level + 1 } ≡ insideOf img i next level
   inside-aggregate k = rw (eq-eqb (getD img i 0) 1 k)
 
-  pub inside-proxy : (p a b : ℕ) → (getD img i 0 ≡ 1 → ⊥) → getD img i 0 ≡ 3 → p ≡ twoAt img (i + 6) → a ≡ startOn img p → b ≡ endOn img p
+  pub inside-proxy : (p a b : ℕ) → (getD img i 0 ≡ 1 → ⊥) → getD img i 0 ≡ 3 → p ≡ nameAt img i → a ≡ startOn img p → b ≡ endOn img p
       → record { start = a; stop = b; level = level } ≡ insideOf img i next level
   inside-proxy p a b k m e f g = rw (ne-eqb (getD img i 0) 1 k, eq-eqb (getD img i 0) 3 m, f, g, e)
 
@@ -296,5 +297,5 @@ module _ (img : List ℕ) (i next level : ℕ) where
   pub own-none : (getD img i 0 ≡ 1 → ⊥) → (getD img i 0 ≡ 2 → ⊥) → ownOf img i next level ≡ []
   own-none k m = rw (ne-eqb (getD img i 0) 1 k, ne-eqb (getD img i 0) 2 m)
 
-pub named-page : {img : List ℕ} {i next end level depth : ℕ} (p : ℕ) → At img i next end level depth → getD img i 0 ≡ 3 → p ≡ twoAt img (i + 6) → PageIn img p
+pub named-page : {img : List ℕ} {i next end level depth : ℕ} (p : ℕ) → At img i next end level depth → getD img i 0 ≡ 3 → p ≡ nameAt img i → PageIn img p
 named-page {img} p a k e = subst (PageIn img) (sym e) (step a .names k .0)

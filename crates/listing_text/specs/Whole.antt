@@ -6,6 +6,7 @@ use Prim.Native.Nat.{ℕ, _+_, _*_, _-_, _/_, _≤_, _<_}
 use native.Mathlib.Omega.{arith}
 use borrow.Author.Tests.{lt-ltb, le-ltb}
 use lib.ListN.{length}
+use Rattle.model.specs.Limits.{pageSize, mostBytes}
 use Rattle.model.specs.Row.{Row, size, base, Config}
 use Rattle.model.specs.Reading.{Reads, lengthOk}
 use Rattle.model.specs.Calls.{checkOf, recordPages}
@@ -26,13 +27,13 @@ use Rattle.listing_text.specs.Bound.{row-bound, head-bound, span-steps}
 
 -- The head line of an image with n record pages.
 abbrev pub headOf : (img : List ℕ) → (n : ℕ) → List ℕ
-headOf img n = headLine (length img / 4096) (length img / 4096 - 1 - n) n
+headOf img n = headLine (length img / pageSize) (length img / pageSize - 1 - n) n
 
 -- What a listing of an image with n record pages needs to know.
 pub record Plan (img : List ℕ) (n : ℕ) : Type 0 where
   pub on : PageIn img 1
-  pub few : n < length img / 4096
-  pub lined : Lined img (startOn img 1) (endOn img 1) 1 4194304
+  pub few : n < length img / pageSize
+  pub lined : Lined img (startOn img 1) (endOn img 1) 1 mostBytes
   pub text : headOf img n ++ rowText 1 (lined .row) ≡ listingOn img
   pub most : length (headOf img n) + length (rowText 1 (lined .row)) ≤ 135168
 
@@ -42,10 +43,10 @@ module _ (img : List ℕ) (st : Config) (root : Row) (r : Reads img st root) (sh
   planned =
       let v = reads-valid img st root r in
       let o = root-page img st root r in
-      let pages : st .pages ≡ length img / 4096 = omega (arith, reads-length img st root r) in
-      let few : n < length img / 4096 = omega (arith, pages-few st root v) in
-      let a : 4096 * 1 + base root ≡ startOn img 1 = sym (ap (λ (k : ℕ). 4096 * 1 + k) (o .first)) in
-      let b : endOn img 1 ≡ 4096 * 1 + (base root + size root) = ap (λ (k : ℕ). 4096 * 1 + k) (o .used) in
+      let pages : st .pages ≡ length img / pageSize = omega (arith, reads-length img st root r) in
+      let few : n < length img / pageSize = omega (arith, pages-few st root v) in
+      let a : pageSize * 1 + base root ≡ startOn img 1 = sym (ap (λ (k : ℕ). pageSize * 1 + k) (o .first)) in
+      let b : endOn img 1 ≡ pageSize * 1 + (base root + size root) = ap (λ (k : ℕ). pageSize * 1 + k) (o .used) in
       record {
         on = o .here .on;
         few = few;
@@ -60,14 +61,14 @@ module _ (img : List ℕ) (st : Config) (root : Row) (r : Reads img st root) (sh
         text = rw (opens img st root r, pages, ← e, row-text 1 root);
         most = omega (
           arith,
-          head-bound (length img / 4096) (length img / 4096 - 1 - n) n (omega arith) (omega arith) (omega arith),
+          head-bound (length img / pageSize) (length img / pageSize - 1 - n) n (omega arith) (omega arith) (omega arith),
           row-bound 1 root (v .rows .1) (omega (arith, v .levels)),
           v .rows .0 .fits,
           few-records st root v,
         );
       }
 
-pub plan : (img : List ℕ) (n : ℕ) → checkOf img ≡ 0 → length img ≤ 61440 → n ≡ length (upFrom img (length img / 4096 - 1) 1) → Plan img n
+pub plan : (img : List ℕ) (n : ℕ) → checkOf img ≡ 0 → length img ≤ 61440 → n ≡ length (upFrom img (length img / pageSize - 1) 1) → Plan img n
 unfolding upPages
 plan img n z short e =
     let p = passing img z in
@@ -101,7 +102,7 @@ refused-room input out n e z h =
 
 module _ {img : List ℕ} {n : ℕ} (p : Plan img n) {a b : ℕ} (first : a ≡ startOn img 1) (last : b ≡ endOn img 1) {out mid : List ℕ} {k : ℕ}
     (w : Wrote (headOf img n) 0 out mid k) (long : 135168 ≤ length out) where
-  pub whole-fitting : Fitting img a b 1 4194304 k mid
+  pub whole-fitting : Fitting img a b 1 mostBytes k mid
   whole-fitting =
       let l = p .lined in
       record {

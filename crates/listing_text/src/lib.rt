@@ -1,9 +1,9 @@
 // The text that the listing program prints for an input, written to a lent buffer.
-use read_find::row_end;
-use read_find::row_start;
 use base_numbers::copy_in;
 use base_numbers::two;
 use base_numbers::wide;
+use read_find::row_end;
+use read_find::row_start;
 use read_records::count_pages;
 ghost use mathlib.Core.Path.{_≡_};
 ghost use mathlib.Core.List.{[], _∷_};

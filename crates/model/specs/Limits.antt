@@ -1,5 +1,5 @@
 -- The numbers of document 01 that limit an image, a record or a call, each under one name.
-use Prim.Native.Nat.{ℕ}
+use Prim.Native.Nat.{ℕ, _+_, _*_}
 
 -- The bytes of a page, and the most that a record may have: what the page's trailer of 16 bytes leaves.
 abbrev pub pageSize : ℕ
@@ -8,17 +8,25 @@ pageSize = 4096
 abbrev pub capacity : ℕ
 capacity = 4080
 
--- The most pages of an image, levels of the tree, content bytes of a literal.
+-- The most pages of an image,
 abbrev pub mostPages : ℕ
 mostPages = 1024
 
+-- so the most bytes of an image.
+abbrev pub mostBytes : ℕ
+mostBytes = pageSize * mostPages
+
+-- The most levels of the tree, content bytes of a literal, and bytes of a new node: its header has 6.
 abbrev pub mostLevels : ℕ
 mostLevels = 24
 
 abbrev pub mostContent : ℕ
 mostContent = 520
 
--- The settings: the range of the target, the largest tolerance, the form, the matrix entries.
+abbrev pub mostNode : ℕ
+mostNode = 6 + mostContent
+
+-- The settings: the range of the target, the largest tolerance, the form, the matrix entries, the length used.
 abbrev pub leastTarget : ℕ
 leastTarget = 64
 
@@ -33,6 +41,9 @@ theForm = 1
 
 abbrev pub matrixEntries : ℕ
 matrixEntries = 256
+
+abbrev pub settingsSize : ℕ
+settingsSize = 16 + matrixEntries
 
 -- The longest paths in bytes: 23 entries, and 22 for the parent of an insert.
 abbrev pub longestPath : ℕ

@@ -4,13 +4,17 @@ use mathlib.Core.List.{List, [], _∷_, _++_}
 use Prim.Native.Nat.{ℕ, zero, suc, _+_, _*_, _-_, _/_, _%_, max}
 use lib.ListN.{length, getD, replicate}
 use lib.Dec.{leb, ltb, eqb}
-use Rattle.model.specs.Limits.{pageSize, capacity, mostPages, mostLevels, mostContent, leastTarget, mostTarget, mostTolerance, theForm, matrixEntries}
+use Rattle.model.specs.Limits.{pageSize, capacity, mostPages, mostLevels, mostContent, leastTarget, mostTarget, mostTolerance, theForm, matrixEntries, settingsSize}
 
 -- ── the row ──
 
 -- What the header of an aggregate or a literal says besides its kind and size.
 pub record Head : Type 0 where
   pub label : ℕ
+
+-- Proxies and helpers have label 0.
+abbrev pub noHead : Head
+noHead = record { label = 0 }
 
 -- A row of nodes as they stand one after another: an aggregate with its children, a literal with its content, or a proxy,
 -- which carries the record that it stands for: its page, whether it is settled, and what it holds.
@@ -80,19 +84,19 @@ abbrev pub two : ℕ → List ℕ
 two n = n % 256 ∷ n / 256 % 256 ∷ []
 
 -- A node's header: kind, a zero byte, label, size with header and all inside it.
-abbrev pub header : (kind label size : ℕ) → List ℕ
-header k l n = k ∷ 0 ∷ two l ++ two n
+abbrev pub header : (kind : ℕ) → Head → (size : ℕ) → List ℕ
+header k h n = k ∷ 0 ∷ two (h .label) ++ two n
 
 -- Kind 1 aggregate, 2 literal, 3 proxy.
 abbrev pub bytes : Row → List ℕ
 bytes nil = []
-bytes (agg h cs rest) = header 1 (h .label) (6 + size cs) ++ bytes cs ++ bytes rest
-bytes (lit h c rest) = header 2 (h .label) (6 + length c) ++ c ++ bytes rest
-bytes (rec p s r rest) = header 3 0 8 ++ two p ++ bytes rest
+bytes (agg h cs rest) = header 1 h (6 + size cs) ++ bytes cs ++ bytes rest
+bytes (lit h c rest) = header 2 h (6 + length c) ++ c ++ bytes rest
+bytes (rec p s r rest) = header 3 noHead 8 ++ two p ++ bytes rest
 
 -- Kind 4 helper.
 abbrev pub recordBytes : Row → List ℕ
-recordBytes r = cond (lone r) (bytes r) (header 4 0 (6 + size r) ++ bytes r)
+recordBytes r = cond (lone r) (bytes r) (header 4 noHead (6 + size r) ++ bytes r)
 
 -- The fixed table of what may stand where: five entries a holder, one for each kind; holder 0 is a record's page.
 unfoldable pub standing : List ℕ
@@ -122,12 +126,15 @@ pub record Held : Type 0 where
   pub holder : ℕ
   pub row : Row
 
+abbrev pub recordOn : (page : ℕ) → (settled : Bool) → (holder : ℕ) → Row → Held
+recordOn p s q r = record { page = p; settled = s; holder = q; row = r }
+
 -- The records that a row's proxies stand for, each before those that it holds; the row is in the record of page `holder`.
 abbrev pub records : (holder : ℕ) → Row → List Held
 records holder nil = []
 records holder (agg h cs rest) = records holder cs ++ records holder rest
 records holder (lit h c rest) = records holder rest
-records holder (rec p s r rest) = record { page = p; settled = s; holder = holder; row = r } ∷ records p r ++ records holder rest
+records holder (rec p s r rest) = recordOn p s holder r ∷ records p r ++ records holder rest
 
 -- The settings with their split matrix.
 pub record Config : Type 0 where
@@ -147,7 +154,7 @@ recordPage h = recordBytes (h .row) ++ replicate (capacity - recordSize (h .row)
 
 abbrev pub settingsPage : Config → List ℕ
 settingsPage st = two (st .pages) ++ (st .target ∷ 0 ∷ two (st .tolerance)) ++ two (st .form) ++ replicate 8 0 ++ st .matrix
-    ++ replicate (capacity - 272) 0 ++ trailer 2 0 272 0
+    ++ replicate (capacity - settingsSize) 0 ++ trailer 2 0 settingsSize 0
 
 -- Page q: its record, or free, all zero.
 abbrev pub pageAt : List Held → ℕ → List ℕ

@@ -8,6 +8,7 @@ use native.Mathlib.Omega.{arith}
 use borrow.Author.Tests.{eqb-true, eqb-false, lt-ltb}
 use lib.ListN.{length}
 use lib.Dec.{ltb, eqb}
+use Rattle.model.specs.Limits.{mostPages, pageSize, mostBytes, longestPath}
 use Rattle.model.specs.Row.{Row, image, Config}
 use Rattle.model.specs.Tree.{shown, New, Node, nodes, placeOf, fromPlace}
 use Rattle.model.specs.Reading.{Reads}
@@ -42,8 +43,8 @@ use Rattle.store.specs.Part.{part-inside}
 
 -- A page below 1,024 and an offset below 4,096.
 pub record SmallPlace (x : Place) : Type 0 where
-  pub page : x .page < 1024
-  pub offset : x .offset < 4096
+  pub page : x .page < mostPages
+  pub offset : x .offset < pageSize
 
 abbrev pub SmallNext : Next → Type 0
 SmallNext (next-is.Node n) = SmallPlace (n .place)
@@ -83,7 +84,7 @@ module _ (img : List ℕ) (st : Config) (root : Row) (r : Reads img st root) whe
   unfolding findOf findIn
   found-small path =
       rw (opens img st root r)
-      (cond-case (λ (a : FindAnswer). SmallPlace (a .place)) (eqb (lowest ((4, ltb 92 (length path)) ∷ (7, isNone (namedBy (shown root) path)) ∷ [])) 0) (λ _. small-place (pathOf path))
+      (cond-case (λ (a : FindAnswer). SmallPlace (a .place)) (eqb (lowest ((4, ltb longestPath (length path)) ∷ (7, isNone (namedBy (shown root) path)) ∷ [])) 0) (λ _. small-place (pathOf path))
       (λ _. no-place))
 
   next-node-small : (x : Place) → SmallNext (nextOf img x .next)
@@ -95,17 +96,17 @@ module _ (img : List ℕ) (st : Config) (root : Row) (r : Reads img st root) whe
       go (n ∷ []) = tt
       go (n ∷ m ∷ ns) = small-place (m .path)
 
-  climbed-small : (x : Place) (buffer : List ℕ) → climbOf img x buffer .0 .written ≤ 92
+  climbed-small : (x : Place) (buffer : List ℕ) → climbOf img x buffer .0 .written ≤ longestPath
   unfolding climbOf climbIn
   climbed-small x buffer = rw (opens img st root r) (go (fromPlace (placeOf root) x (nodes (shown root))) refl)
     where
-      go : (ns : List Node) → fromPlace (placeOf root) x (nodes (shown root)) ≡ ns → climbFrom (shown root) (placeOf root) ns buffer .0 .written ≤ 92
+      go : (ns : List Node) → fromPlace (placeOf root) x (nodes (shown root)) ≡ ns → climbFrom (shown root) (placeOf root) ns buffer .0 .written ≤ longestPath
       go [] e = omega arith
       go (n ∷ ns) e =
           let v = reads-valid img st root r in
           let m = from-stands (placeOf root) x (nodes (shown root)) ns n e in
           let l = path-levels 0 (n .path) (shown root) n (in-tree (shown root) n (one-root st root v) (m .0)) in
-          write-small (pathBytes (n .path)) buffer 92 (omega (arith, length-path (n .path), height-shown root, v .levels))
+          write-small (pathBytes (n .path)) buffer longestPath (omega (arith, length-path (n .path), height-shown root, v .levels))
 
   listed-small : (buffer : List ℕ) → recordsOf (upPages img) img buffer .0 .written ≤ 2048
   unfolding recordsOf
@@ -114,7 +115,7 @@ module _ (img : List ℕ) (st : Config) (root : Row) (r : Reads img st root) whe
       let n = same-length (upPages img) (recordPages root) (up-order img st root r) in
       rw (opens img st root r) (write-small (pageBytes (upPages img)) buffer 2048 (omega (arith, length-pageBytes (upPages img), pages-few st root v, v .ranges .many)))
 
-  read-start-small : (x : Place) → readOf img x .start + readOf img x .len ≤ 4194304
+  read-start-small : (x : Place) → readOf img x .start + readOf img x .len ≤ mostBytes
   read-start-small x = omega (arith, part-inside img x, reads-length img st root r, reads-valid img st root r .ranges .many)
 
 module _ (img : List ℕ) (n : ℕ) (z : n ≡ 0 → ⊥) (e : checkOf img ≡ n) where
@@ -126,7 +127,7 @@ module _ (img : List ℕ) (n : ℕ) (z : n ≡ 0 → ⊥) (e : checkOf img ≡ n
   unfolding nextOf
   next-zero x = rw (refuses img n e z) tt
 
-  climb-zero : (x : Place) (buffer : List ℕ) → climbOf img x buffer .0 .written ≤ 92
+  climb-zero : (x : Place) (buffer : List ℕ) → climbOf img x buffer .0 .written ≤ longestPath
   unfolding climbOf
   climb-zero x buffer = rw (refuses img n e z) (omega arith)
 
@@ -134,7 +135,7 @@ module _ (img : List ℕ) (n : ℕ) (z : n ≡ 0 → ⊥) (e : checkOf img ≡ n
   unfolding recordsOf
   records-zero order buffer = rw (refuses img n e z) (omega arith)
 
-  read-zero : (x : Place) → readOf img x .start + readOf img x .len ≤ 4194304
+  read-zero : (x : Place) → readOf img x .start + readOf img x .len ≤ mostBytes
   unfolding readOf
   read-zero x = rw (refuses img n e z) (omega arith)
 
@@ -144,13 +145,13 @@ find-small img path = by-store _ img (λ n z e. find-zero img n z e path) (λ st
 pub next-small : (img : List ℕ) (x : Place) → SmallNext (nextOf img x .next)
 next-small img x = by-store _ img (λ n z e. next-zero img n z e x) (λ st root r. next-node-small img st root r x)
 
-pub climb-small : (img : List ℕ) (x : Place) (buffer : List ℕ) → climbOf img x buffer .0 .written ≤ 92
+pub climb-small : (img : List ℕ) (x : Place) (buffer : List ℕ) → climbOf img x buffer .0 .written ≤ longestPath
 climb-small img x buffer = by-store _ img (λ n z e. climb-zero img n z e x buffer) (λ st root r. climbed-small img st root r x buffer)
 
 pub records-small : (img buffer : List ℕ) → recordsOf (upPages img) img buffer .0 .written ≤ 2048
 records-small img buffer = by-store _ img (λ n z e. records-zero img n z e (upPages img) buffer) (λ st root r. listed-small img st root r buffer)
 
-pub read-small : (img : List ℕ) (x : Place) → readOf img x .start + readOf img x .len ≤ 4194304
+pub read-small : (img : List ℕ) (x : Place) → readOf img x .start + readOf img x .len ≤ mostBytes
 read-small img x = by-store _ img (λ n z e. read-zero img n z e x) (λ st root r. read-start-small img st root r x)
 
 -- ── insert ──

@@ -10,7 +10,7 @@ use lib.Dec.{eqb}
 use borrow.Author.Tests.{lt-ltb, eqb-true, eqb-false}
 use Rattle.model.specs.Row.{nil}
 use Rattle.model.specs.Tree.{width}
-use Rattle.model.specs.Reading.{twoAt}
+use Rattle.model.specs.Reading.{headAt}
 use Rattle.theory_check.specs.Tests.{sizeOf}
 use Rattle.theory_check.specs.Walk.{State, Decoded, asAgg, before, nodeOf, listOf}
 use Rattle.theory_check.specs.Widths.{widthsAfter}
@@ -86,12 +86,12 @@ list-only img s page holder level w e = go (eqb (w .left) 0) refl
         let f = aggregate-head s holder level e in
         let n = aggregate-size s holder level e in
         let d = listOf img (drop 6 s) page 1 (level + 1) w in
-        let one : nodeOf img (take (sizeOf s) s) page holder level w ≡ asAgg (twoAt s 2) d =
+        let one : nodeOf img (take (sizeOf s) s) page holder level w ≡ asAgg (headAt s 0) d =
         ap (λ (x : List ℕ). nodeOf img x page holder level w) (take-all (sizeOf s) s (omega (arith, n))) ∙ node-inner img s page holder level w e in
-        let all : listOf img s page holder level w ≡ before (asAgg (twoAt s 2) d) (record { row = nil; walk = d .walk }) =
+        let all : listOf img s page holder level w ≡ before (asAgg (headAt s 0) d) (record { row = nil; walk = d .walk }) =
         list-more img s page holder level w (λ z. omega (arith, f .0)) (eqb-false _ _ q) (λ z. omega (arith, f .0, n))
         ∙ ap (λ (x : Decoded). before x (listOf img (drop (sizeOf s) s) page holder level (x .walk))) one
-        ∙ ap (before (asAgg (twoAt s 2) d)) (list-none img (drop (sizeOf s) s) page holder level (d .walk) (omega (arith, length-drop (sizeOf s) s, n))) in
+        ∙ ap (before (asAgg (headAt s 0) d)) (list-none img (drop (sizeOf s) s) page holder level (d .walk) (omega (arith, length-drop (sizeOf s) s, n))) in
         alike-trans (alike-same all) (record { walk = refl; table = λ c. refl })
 
 module _ (img s : List ℕ) (page level : ℕ) (w : State) where
@@ -123,5 +123,5 @@ chain img s page holder level d w e o =
       low = g .1;
       same = λ r m old new c.
           let b = came-at (sym i) c in
-          came-agg (twoAt s 2) (node-inner img s page holder level w e) (record { walk = b .walk ∙ sym (k .walk); table = b .table ∙ sym (k .table old) });
+          came-agg (headAt s 0) (node-inner img s page holder level w e) (record { walk = b .walk ∙ sym (k .walk); table = b .table ∙ sym (k .table old) });
     }

@@ -8,6 +8,7 @@ use lib.ListN.{length, take, getD}
 use lib.Seq.{length-take-le, getD-take}
 use lib.Dec.{ltb, leb, eqb}
 use borrow.Author.Tests.{le-ltb, eq-eqb, le-leb, lt-leb, ltb-false, leb-false, eqb-true, eqb-false}
+use Rattle.model.specs.Limits.{mostNode}
 use Rattle.model.specs.Row.{mayStand}
 use Rattle.model.specs.Reading.{twoAt}
 use Rattle.theory_check.specs.Tests.{sizeOf, headOf, shapeOf}
@@ -38,9 +39,9 @@ module _ (s : List ℕ) (holder level : ℕ) where
       let b = then-true (eqb (twoAt s 4) n) (a .1) in
       (ltb-false (length s) 6 (a .0), eqb-true _ _ (b .0), stands-says s 1 holder level (b .1))
 
-  lit-says : literalOf s holder level ≡ true → (twoAt s 4 ≤ 526) × Stands s 2 holder level
+  lit-says : literalOf s holder level ≡ true → (twoAt s 4 ≤ mostNode) × Stands s 2 holder level
   unfolding literalOf
-  lit-says e = let a = else-true (ltb 526 (twoAt s 4)) e in (ltb-false 526 (twoAt s 4) (a .0), stands-says s 2 holder level (a .1))
+  lit-says e = let a = else-true (ltb mostNode (twoAt s 4)) e in (ltb-false mostNode (twoAt s 4) (a .0), stands-says s 2 holder level (a .1))
 
   -- the head of the bytes that a node is
   head-of : (kind : ℕ) → 6 ≤ length s → twoAt s 4 ≡ length s → kind ≤ 4 → shapeOf s kind ≡ true → Stands s kind holder level → kind ≡ headOf s holder
@@ -57,7 +58,7 @@ module _ (s : List ℕ) (holder level : ℕ) where
   unfolding shapeOf
   shape-1 = refl
 
-  shape-2 : length s ≤ 526 → shapeOf s 2 ≡ true
+  shape-2 : length s ≤ mostNode → shapeOf s 2 ≡ true
   unfolding shapeOf
   shape-2 h = le-leb _ _ h
 

@@ -8,6 +8,7 @@ use native.Mathlib.Numerals.{add-one}
 use lib.ListN.{length, take, drop, length-drop}
 use lib.Seq.{length-take-le}
 use borrow.Author.Tests.{eq-eqb, ne-eqb}
+use Rattle.model.specs.Limits.{pageSize}
 use Rattle.model.specs.Reading.{pageOf}
 use Rattle.theory_check.specs.Tests.{stateOf}
 use Rattle.theory_check.specs.Check.{scanFrom}
@@ -20,9 +21,9 @@ module _ (img : List ℕ) (pages p n : ℕ) where
   unfolding scanFrom
   scan-end h = let e : pages - p ≡ 0 = omega arith in rw (e, add-one)
 
-  module _ (k : ℕ) (is : k ≡ stateOf (take (4096 * p + 4096 - 4096 * p) (drop (4096 * p) img))) (h : p < pages) where
+  module _ (k : ℕ) (is : k ≡ stateOf (take (pageSize * p + pageSize - pageSize * p) (drop (pageSize * p) img))) (h : p < pages) where
     at-page : stateOf (pageOf img p) ≡ k
-    at-page = ap (λ (m : ℕ). stateOf (take m (drop (4096 * p) img))) (sym (add-sub-cancel-left (4096 * p) 4096)) ∙ sym is
+    at-page = ap (λ (m : ℕ). stateOf (take m (drop (pageSize * p) img))) (sym (add-sub-cancel-left (pageSize * p) pageSize)) ∙ sym is
 
     left : pages - p ≡ suc (pages - (p + 1))
     left = omega arith
@@ -39,5 +40,5 @@ module _ (img : List ℕ) (pages p n : ℕ) where
     unfolding scanFrom
     scan-free z e = rw (left, ne-eqb (stateOf (pageOf img p)) 0 (λ q. z (sym at-page ∙ q)), ne-eqb (stateOf (pageOf img p)) 2 (λ q. e (sym at-page ∙ q))) (ap (λ (q : ℕ). scanFrom img (pages - (p + 1)) q n) (sym (add-one p)))
 
-pub page-long : (img : List ℕ) (a : ℕ) → a + 4096 ≤ length img → length (take (a + 4096 - a) (drop a img)) ≡ 4096
-page-long img a h = length-take-le (a + 4096 - a) (drop a img) (omega (arith, length-drop a img)) ∙ add-sub-cancel-left a 4096
+pub page-long : (img : List ℕ) (a : ℕ) → a + pageSize ≤ length img → length (take (a + pageSize - a) (drop a img)) ≡ pageSize
+page-long img a h = length-take-le (a + pageSize - a) (drop a img) (omega (arith, length-drop a img)) ∙ add-sub-cancel-left a pageSize

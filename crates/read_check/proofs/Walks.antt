@@ -5,13 +5,14 @@ use mathlib.Core.Bool.{Bool, true, false, cond, not}
 use Prim.Native.Nat.{ℕ, _+_, _-_, _*_, _≤_, _<_}
 use native.Mathlib.Omega.{arith}
 use native.Mathlib.Nat.{add-sub-cancel-left}
-use lib.ListN.{length, getD, set, take, drop, length-take, length-drop}
+use lib.ListN.{length, set, take, drop, length-take, length-drop}
 use lib.Seq.{drop-drop, length-take-le}
 use lib.Dec.{ltb, leb, eqb}
 use borrow.Author.Tests.{lt-ltb, le-ltb, eq-eqb, ne-eqb, ltb-false, leb-false}
+use Rattle.model.specs.Limits.{mostPages, pageSize}
 use Rattle.model.specs.Row.{Head, nil, lit}
 use Rattle.model.specs.Tree.{width}
-use Rattle.model.specs.Reading.{twoAt}
+use Rattle.model.specs.Reading.{twoAt, usedAt, settledAt, headAt}
 use Rattle.theory_rows.specs.Laws.{width-⊹}
 use Rattle.theory_check.specs.Tests.{sizeOf, headOf, namesOf}
 use Rattle.theory_check.specs.Walk.{State, state, node, list, withMark, entersOf, Decoded, stop, recordOf, asAgg, asRec, before, proxyStep, nodeStep, moreStep, listStep, decode, nodeOf, listOf, proxyOf}
@@ -25,15 +26,15 @@ use Rattle.read_check.proofs.Calls.{passes}
 use Rattle.read_check.proofs.Leaves.{no-kind, aggregate-head, childless-head, literal-head}
 
 -- what a page that is named shows of itself
-pub named : (img : List ℕ) (p page : ℕ) → namesOf img p page ≡ true → (p < 1024) × (4096 * p + 4096 ≤ length img)
+pub named : (img : List ℕ) (p page : ℕ) → namesOf img p page ≡ true → (p < mostPages) × (pageSize * p + pageSize ≤ length img)
 unfolding namesOf
-named img p page e = go (ltb p 2) (leb 1024 p) refl (ltb (length img) (4096 * p + 4096)) refl _ e
+named img p page e = go (ltb p 2) (leb mostPages p) refl (ltb (length img) (pageSize * p + pageSize)) refl _ e
   where
-    go : (a b : Bool) → leb 1024 p ≡ b → (d : Bool) → ltb (length img) (4096 * p + 4096) ≡ d → (x : Bool) → cond a false (cond b false (cond d false x)) ≡ true → (p < 1024) × (4096 * p + 4096 ≤ length img)
+    go : (a b : Bool) → leb mostPages p ≡ b → (d : Bool) → ltb (length img) (pageSize * p + pageSize) ≡ d → (x : Bool) → cond a false (cond b false (cond d false x)) ≡ true → (p < mostPages) × (pageSize * p + pageSize ≤ length img)
     go true b q d r x e = no e
     go false true q d r x e = no e
     go false false q true r x e = no e
-    go false false q false r x e = (leb-false 1024 p q, ltb-false (length img) (4096 * p + 4096) r)
+    go false false q false r x e = (leb-false mostPages p q, ltb-false (length img) (pageSize * p + pageSize) r)
 
 -- what a page that is entered shows of itself; the test is made the other way round
 pub goes : (img : List ℕ) (p page : ℕ) (w : State) (r : Bool) → r ≡ entersOf img p page w → not r ≡ false → Entered img p w
@@ -104,11 +105,11 @@ module _ (img : List ℕ) (s : List ℕ) (page holder level : ℕ) (w : State) w
     unfolding nodeStep
     node-deep n3 n4 a = node-at _ (simp (ne-eqb _ _ n3, ne-eqb _ _ n4, lt-ltb _ _ a) (both (λ (d : Decoded). d ≡ stop w) (eqb kind 0) refl refl))
 
-    pub node-2 : kind ≡ 2 → level ≤ 24 → Is (record { row = lit (record { label = twoAt s 2 }) (drop 6 s) nil; walk = w })
+    pub node-2 : kind ≡ 2 → level ≤ 24 → Is (record { row = lit (headAt s 0) (drop 6 s) nil; walk = w })
     unfolding nodeStep
     node-2 a low = node-at _ (simp (a, le-ltb _ _ low))
 
-    node-1 : kind ≡ 1 → level ≤ 24 → Is (asAgg (twoAt s 2) (listOf img (drop 6 s) page 1 (level + 1) w))
+    node-1 : kind ≡ 1 → level ≤ 24 → Is (asAgg (headAt s 0) (listOf img (drop 6 s) page 1 (level + 1) w))
     unfolding nodeStep
     node-1 a low = node-at _ (simp (a, le-ltb _ _ low))
 
@@ -117,7 +118,7 @@ module _ (img : List ℕ) (s : List ℕ) (page holder level : ℕ) (w : State) w
     node-none n3 n4 low n2 e = node-0 (no-kind s holder level kind is low e n2 n3 n4)
 
   -- an aggregate, before its head is asked
-  pub node-inner : aggregateOf s (length s) holder level ≡ true → nodeOf img s page holder level w ≡ asAgg (twoAt s 2) (listOf img (drop 6 s) page 1 (level + 1) w)
+  pub node-inner : aggregateOf s (length s) holder level ≡ true → nodeOf img s page holder level w ≡ asAgg (headAt s 0) (listOf img (drop 6 s) page 1 (level + 1) w)
   node-inner e = let f = aggregate-head s holder level e in node-1 1 (f .1) refl (f .2)
 
 -- ── what the functions give ──
@@ -140,7 +141,7 @@ unfolding widthsAfter
 came-literal w l s c q = (came-at q (record { walk = refl; table = refl }), wide-at q refl)
 
 -- An aggregate is one node, and its children's records are those below it.
-pub came-agg : {d e : Decoded} (l : ℕ) {r : ℕ} {m old new : List ℕ} → d ≡ asAgg l e → Came e r m old new → Came d r m old new × (1 ≡ width (d .row))
+pub came-agg : {d e : Decoded} (l : Head) {r : ℕ} {m old new : List ℕ} → d ≡ asAgg l e → Came e r m old new → Came d r m old new × (1 ≡ width (d .row))
 unfolding widthsAfter
 came-agg l q c = (came-at q (record { walk = c .walk; table = c .table }), wide-at q refl)
 
@@ -149,17 +150,17 @@ module _ (img : List ℕ) (p page level : ℕ) (w : State) where
   unfolding proxyStep
   proxy-no e = simp e
 
-  proxy-yes : entersOf img p page w ≡ true → proxyOf img p page level w ≡ asRec p (eqb (getD img (4096 * p + 4081) 0) 1) (nodeOf img (recordOf img p) p 0 level (withMark w p))
+  proxy-yes : entersOf img p page w ≡ true → proxyOf img p page level w ≡ asRec p (eqb (settledAt img (pageSize * p)) 1) (nodeOf img (recordOf img p) p 0 level (withMark w p))
   unfolding proxyStep
   proxy-yes e = simp e
 
   -- the walk goes on in the record of page p, and its width is written down
-  pub proxy-done : entersOf img p page w ≡ true → (n : ℕ) (v : State) → n ≡ twoAt img (4096 * p + 4082) → v ≡ withMark w p
-      → (r z : ℕ) (m old new : List ℕ) → let d = nodeOf img (take (4096 * p + n - 4096 * p) (drop (4096 * p) img)) p 0 level v in Came d r m old new × (z ≡ width (d .row))
+  pub proxy-done : entersOf img p page w ≡ true → (n : ℕ) (v : State) → n ≡ usedAt img (pageSize * p) → v ≡ withMark w p
+      → (r z : ℕ) (m old new : List ℕ) → let d = nodeOf img (take (pageSize * p + n - pageSize * p) (drop (pageSize * p) img)) p 0 level v in Came d r m old new × (z ≡ width (d .row))
       → Came (proxyOf img p page level w) r m old (set new p z) × (z ≡ width (proxyOf img p page level w .row))
   unfolding widthsAfter
   proxy-done e n v a b r z m old new h =
-      let g : nodeOf img (recordOf img p) p 0 level (withMark w p) ≡ nodeOf img (take (4096 * p + n - 4096 * p) (drop (4096 * p) img)) p 0 level v = cc (add-sub-cancel-left (4096 * p) n) in
+      let g : nodeOf img (recordOf img p) p 0 level (withMark w p) ≡ nodeOf img (take (pageSize * p + n - pageSize * p) (drop (pageSize * p) img)) p 0 level v = cc (add-sub-cancel-left (pageSize * p) n) in
       let c = came-at g (h .0) in
       let k = wide-at g (h .1) in
       (came-at (proxy-yes e) (record { walk = c .walk; table = (λ i. set (c .table i) p (k i)) }), wide-at (proxy-yes e) (k ∙ omega arith))
@@ -236,7 +237,7 @@ module _ (img part : List ℕ) (page holder level : ℕ) (whole : Decoded) where
           let x = take 6 onward in
           let l = list-none img (drop 6 x) page 1 (level + 1) cur (omega (arith, length-drop 6 x, length-take 6 onward)) in
           let c : Came (listOf img (drop 6 x) page 1 (level + 1) cur) (cur .left) (cur .marks) new new = came-at l (record { walk = refl; table = refl }) in
-          let d = came-agg (twoAt x 2) (node-1 img x page holder level cur 1 (f .1) refl (f .2)) c in
+          let d = came-agg (headAt x 0) (node-1 img x page holder level cur 1 (f .1) refl (f .2)) c in
           (turn 6 (f .0) (λ q. omega arith) _ _ _ _ d, turn-count 6 (f .0) (λ q. omega arith) _ _ _ _ d)
 
       pub turn-literal : (size : ℕ) → size ≡ sizeOf onward → (size ≡ 0 → ⊥) → literalOf onward holder level ≡ true → Passed size
@@ -248,9 +249,9 @@ module _ (img part : List ℕ) (page holder level : ℕ) (whole : Decoded) where
 
 -- ── the widths are small ──
 
-pub node-small : (img s : List ℕ) (page holder level left : ℕ) (m : List ℕ) → length s < 65536 → left ≤ 1024 → width (nodeOf img s page holder level (state left m) .row) < 4294967296
+pub node-small : (img s : List ℕ) (page holder level left : ℕ) (m : List ℕ) → length s < 65536 → left ≤ mostPages → width (nodeOf img s page holder level (state left m) .row) < 4294967296
 node-small img s page holder level left m long few = omega (arith, decoded-wide img (node s page holder level (state left m)))
 
 pub count-small : (img part : List ℕ) (page holder level left : ℕ) (m : List ℕ) (n rest : ℕ) → width (listOf img part page holder level (state left m) .row) ≡ n + rest
-    → length part < 65536 → left ≤ 1024 → n < 4294967296
+    → length part < 65536 → left ≤ mostPages → n < 4294967296
 count-small img part page holder level left m n rest k long few = omega (arith, k, decoded-wide img (list part page holder level (state left m)))

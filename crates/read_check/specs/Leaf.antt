@@ -5,6 +5,7 @@ use mathlib.Core.Bool.{Bool, true, false, cond}
 use Prim.Native.Nat.{ℕ, _+_, _-_, _*_, _<_}
 use lib.ListN.{length, drop, getD}
 use lib.Dec.{ltb, leb, eqb}
+use Rattle.model.specs.Limits.{mostNode}
 use Rattle.model.specs.Row.{mayStand}
 use Rattle.model.specs.Reading.{twoAt}
 
@@ -18,7 +19,7 @@ aggregateOf s n holder level = cond (ltb (length s) 6) false (cond (eqb (twoAt s
 
 -- The bytes start with a literal, not too long, that may stand there.
 unfoldable pub literalOf : List ℕ → (holder level : ℕ) → Bool
-literalOf s holder level = cond (ltb 526 (twoAt s 4)) false (standsOf s 2 holder level)
+literalOf s holder level = cond (ltb mostNode (twoAt s 4)) false (standsOf s 2 holder level)
 
 -- After i + 1 headers the rest of the bytes is one aggregate that may stand in another, the level counted from the first header's child.
 abbrev pub innerOf : List ℕ → (level i : ℕ) → Bool

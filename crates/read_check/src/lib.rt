@@ -7,6 +7,7 @@ ghost use mathlib.Core.Bool.{true};
 ghost use Prim.Native.Nat.{_+_, _-_, _*_, _≤_, _<_};
 ghost use lib.ListN.{length};
 ghost use Rattle.model.specs.Tree as tree;
+ghost use Rattle.model.specs.Limits.{mostPages, pageSize};
 ghost use Rattle.model.specs.Reading.{lengthOk};
 ghost use Rattle.theory_check.specs.Tests.{sizeOf, twoChildren, shapeOf, headOf, isMarked, marked, namesOf, rootFits, allZero, matrixOk, stateOf, numbersOk, settingsOk, firstOk};
 ghost use Rattle.theory_check.specs.Walk.{state, entersOf, nodeOf, listOf, proxyOf};
@@ -154,7 +155,7 @@ pub fn only(part: &[u8], level: usize) -> usize
 // ── marks: a bit for each page ──
 
 pub fn is_marked(marks: &[u8; 128], p: usize) -> bool
-    requires { ⌜ p < 1024 ⌝ }
+    requires { ⌜ p < mostPages ⌝ }
     ensures { λ r. ⌜ r ≡ isMarked (now (marks .entry)) p ⌝ }
 {
     let i = p / 8;
@@ -163,7 +164,7 @@ pub fn is_marked(marks: &[u8; 128], p: usize) -> bool
 }
 
 pub fn set_mark(marks: &mut [u8; 128], p: usize)
-    requires { ⌜ p < 1024 ⌝ }
+    requires { ⌜ p < mostPages ⌝ }
     ensures { λ _. ⌜ now (marks .exit) ≡ marked (now (marks .entry)) p ⌝ }
 {
     let i = p / 8;
@@ -199,7 +200,7 @@ pub fn names(image: &[u8], p: usize, page: usize) -> bool
 
 // A settled record's root is no helper.
 pub fn root_fits(image: &[u8], p: usize) -> bool
-    requires { ⌜ (p < 1024) × (4096 * p + 4096 ≤ length (now image)) ⌝ }
+    requires { ⌜ (p < mostPages) × (pageSize * p + pageSize ≤ length (now image)) ⌝ }
     ensures { λ r. ⌜ r ≡ rootFits (now (image .entry)) p ⌝ }
 {
     if image[4096 * p + 4081] != 1 {
@@ -240,7 +241,7 @@ fn proxy_check<'a>(
     marks: &mut [u8; 128],
     widths: &mut [u32; 1024],
 ) -> Walked
-    requires { ⌜ (level ≤ 25) × (left ≤ 1024) ⌝ }
+    requires { ⌜ (level ≤ 25) × (left ≤ mostPages) ⌝ }
     ensures { λ r. ⌜ Came (proxyOf (now (image .entry)) p page level (state left (now (marks .entry)))) (r .left) (now (marks .exit)) (now (widths .entry)) (now (widths .exit))
         × (r .width ≡ tree.width (proxyOf (now (image .entry)) p page level (state left (now (marks .entry))) .row)) ⌝ }
 {
@@ -267,7 +268,7 @@ fn node_check<'a>(
     marks: &mut [u8; 128],
     widths: &mut [u32; 1024],
 ) -> Walked
-    requires { ⌜ (holder < 5) × (level ≤ 25) × (left ≤ 1024) × (length (now part) < 65536) ⌝ }
+    requires { ⌜ (holder < 5) × (level ≤ 25) × (left ≤ mostPages) × (length (now part) < 65536) ⌝ }
     ensures { λ r. ⌜ Came (nodeOf (now (image .entry)) (now (part .entry)) page holder level (state left (now (marks .entry)))) (r .left) (now (marks .exit)) (now (widths .entry)) (now (widths .exit))
         × (r .width ≡ tree.width (nodeOf (now (image .entry)) (now (part .entry)) page holder level (state left (now (marks .entry))) .row)) ⌝ }
 {
@@ -310,7 +311,7 @@ fn list_check<'a>(
     marks: &mut [u8; 128],
     widths: &mut [u32; 1024],
 ) -> usize
-    requires { ⌜ (level ≤ 25) × (left ≤ 1024) × (length (now part) < 65536) ⌝ }
+    requires { ⌜ (level ≤ 25) × (left ≤ mostPages) × (length (now part) < 65536) ⌝ }
     ensures { λ r. ⌜ Came (listOf (now (image .entry)) (now (part .entry)) page 1 level (state left (now (marks .entry)))) r (now (marks .exit)) (now (widths .entry)) (now (widths .exit)) ⌝ }
 {
     let mut cur = left;
@@ -349,7 +350,7 @@ fn helper_check<'a>(
     marks: &mut [u8; 128],
     widths: &mut [u32; 1024],
 ) -> Walked
-    requires { ⌜ (level ≤ 25) × (left ≤ 1024) × (length (now part) < 65536) ⌝ }
+    requires { ⌜ (level ≤ 25) × (left ≤ mostPages) × (length (now part) < 65536) ⌝ }
     ensures { λ r. ⌜ Came (listOf (now (image .entry)) (now (part .entry)) page 4 level (state left (now (marks .entry)))) (r .left) (now (marks .exit)) (now (widths .entry)) (now (widths .exit))
         × (r .width ≡ tree.width (listOf (now (image .entry)) (now (part .entry)) page 4 level (state left (now (marks .entry))) .row)) ⌝ }
 {
@@ -422,7 +423,7 @@ pub fn matrix_ok(s: &[u8]) -> bool
 
 // What a page by its trailer and its tail is: 0 against the rules, 1 free, 2 a record's.
 pub fn page_state(page: &[u8]) -> usize
-    requires { ⌜ length (now page) ≡ 4096 ⌝ }
+    requires { ⌜ length (now page) ≡ pageSize ⌝ }
     ensures { λ r. ⌜ r ≡ stateOf (now (page .entry)) ⌝ }
 {
     if page[4080] == 0 {
@@ -452,7 +453,7 @@ pub fn page_state(page: &[u8]) -> usize
 
 // The numbers of page 0: page count, target, a zero byte, tolerance, form.
 fn numbers_ok(page: &[u8], pages: usize) -> bool
-    requires { ⌜ length (now page) ≡ 4096 ⌝ }
+    requires { ⌜ length (now page) ≡ pageSize ⌝ }
     ensures { λ r. ⌜ r ≡ numbersOk (now (page .entry)) pages ⌝ }
 {
     if two(page, 0) != pages {
@@ -475,7 +476,7 @@ fn numbers_ok(page: &[u8], pages: usize) -> bool
 
 // Whether page 0 holds settings, for an image of so many pages.
 pub fn settings_ok(page: &[u8], pages: usize) -> bool
-    requires { ⌜ length (now page) ≡ 4096 ⌝ }
+    requires { ⌜ length (now page) ≡ pageSize ⌝ }
     ensures { λ r. ⌜ r ≡ settingsOk (now (page .entry)) pages ⌝ }
 {
     if !numbers_ok(page, pages) {
@@ -501,7 +502,7 @@ pub fn settings_ok(page: &[u8], pages: usize) -> bool
 
 // Whether page 1 holds a settled record with no holder.
 pub fn first_ok(page: &[u8]) -> bool
-    requires { ⌜ length (now page) ≡ 4096 ⌝ }
+    requires { ⌜ length (now page) ≡ pageSize ⌝ }
     ensures { λ r. ⌜ r ≡ firstOk (now (page .entry)) ⌝ }
 {
     if page_state(page) != 2 {
@@ -515,7 +516,7 @@ pub fn first_ok(page: &[u8]) -> bool
 
 // One more than the record pages from 2 on, 0 where one of the pages is against the rules.
 pub fn scan_pages(image: &[u8], pages: usize) -> usize
-    requires { ⌜ (4096 * pages ≤ length (now image)) × (2 ≤ pages) × (pages ≤ 1024) ⌝ }
+    requires { ⌜ (pageSize * pages ≤ length (now image)) × (2 ≤ pages) × (pages ≤ mostPages) ⌝ }
     ensures { λ r. ⌜ r ≡ scanFrom (now (image .entry)) (pages - 2) 2 0 ⌝ }
 {
     let mut n = 0;
@@ -554,7 +555,7 @@ pub fn trailers(image: &[u8]) -> usize
 
 // Whether the walk from page 1, whose root is an aggregate, reaches every record page one time.
 pub fn walk_ok(image: &[u8], left: usize, widths: &mut [u32; 1024]) -> bool
-    requires { ⌜ (lengthOk (length (now image)) ≡ true) × (trailersOf (now image) ≡ 0 → ⊥) × (left ≤ 1024) ⌝ }
+    requires { ⌜ (lengthOk (length (now image)) ≡ true) × (trailersOf (now image) ≡ 0 → ⊥) × (left ≤ mostPages) ⌝ }
     ensures { λ r. ⌜ (r ≡ walkOk (now (image .entry)) left) × (r ≡ true → now (widths .exit) ≡ widthsAfter (walkOf (now (image .entry)) left .row) (now (widths .entry))) ⌝ }
 {
     if image[4096] != 1 {

@@ -7,6 +7,7 @@ use native.Mathlib.Omega.{arith}
 use borrow.Author.Tests.{lt-ltb, le-ltb}
 use lib.ListN.{length, take, drop, length-drop}
 use lib.Seq.{take-all}
+use Rattle.model.specs.Limits.{pageSize, longestPath}
 use Rattle.model.specs.Row.{Row, Config}
 use Rattle.model.specs.Tree.{shown, Node, named, placeOf}
 use Rattle.model.specs.Reading.{Reads}
@@ -54,18 +55,18 @@ climb-none img x buffer pos ok l z =
 pub some-node : (img : List ℕ) (page offset pos : ℕ) → Located img page offset pos → (pos ≡ 0 → ⊥) → NodeOf img page offset pos
 some-node img page offset pos l k = l .found (omega arith)
 
-pub room : (img : List ℕ) (pos at : ℕ) (path : List ℕ) → NodeAt img pos → ((w : NodeAt img pos) → Rose (w .root) (placeAtByte pos) at path) × (length path ≡ 92) → at ≤ 92
+pub room : (img : List ℕ) (pos at : ℕ) (path : List ℕ) → NodeAt img pos → ((w : NodeAt img pos) → Rose (w .root) (placeAtByte pos) at path) × (length path ≡ longestPath) → at ≤ longestPath
 room img pos at path w r = omega (arith, r .0 w .ends)
 
 module _ (img : List ℕ) (x : Place) (buffer : List ℕ) (pos : ℕ) (n : NodeOf img (x .page) (x .offset) pos) (at : ℕ) (path : List ℕ)
-    (r : ((w : NodeAt img pos) → Rose (w .root) (placeAtByte pos) at path) × (length path ≡ 92)) where
+    (r : ((w : NodeAt img pos) → Rose (w .root) (placeAtByte pos) at path) × (length path ≡ longestPath)) where
   rose : Rose (n .node .root) (placeAtByte pos) at path
   rose = r .0 (n .node)
 
   place-is : placeAtByte pos ≡ x
   place-is =
-      let a : pos / 4096 ≡ x .page = omega (arith, n .is, n .short) in
-      let b : pos - 4096 * (pos / 4096) ≡ x .offset = omega (arith, n .is, n .short) in
+      let a : pos / pageSize ≡ x .page = omega (arith, n .is, n .short) in
+      let b : pos - pageSize * (pos / pageSize) ≡ x .offset = omega (arith, n .is, n .short) in
       λ i. record { page = a i; offset = b i }
 
   writes : climbOf img x buffer ≡ write (drop at path) buffer
@@ -73,15 +74,15 @@ module _ (img : List ℕ) (x : Place) (buffer : List ℕ) (pos : ℕ) (n : NodeO
       let w = n .node in
       climbs img (w .settings) (w .root) (w .reads) x (rose .names) buffer (rose .finds ∙ ap some place-is) ∙ ap (λ (b : List ℕ). write b buffer) (sym (rose .bytes))
 
-  size-is : length (drop at path) ≡ 92 - at
+  size-is : length (drop at path) ≡ longestPath - at
   size-is = length-drop at path ∙ ap (λ (k : ℕ). k - at) (r .1)
 
-  pub climb-short : length buffer < 92 - at → Answers img x buffer (writeRefused 11) buffer
-  climb-short h = answers img x buffer (writeRefused 11) buffer (writes ∙ rw (size-is, lt-ltb (length buffer) (92 - at) h))
+  pub climb-short : length buffer < longestPath - at → Answers img x buffer (writeRefused 11) buffer
+  climb-short h = answers img x buffer (writeRefused 11) buffer (writes ∙ rw (size-is, lt-ltb (length buffer) (longestPath - at) h))
 
-  pub climb-done : (new : List ℕ) → 92 - at ≤ length buffer → new ≡ over 0 (take (92 - at) (drop at path)) buffer → Answers img x buffer (record { number = 0; written = 92 - at }) new
+  pub climb-done : (new : List ℕ) → longestPath - at ≤ length buffer → new ≡ over 0 (take (longestPath - at) (drop at path)) buffer → Answers img x buffer (record { number = 0; written = longestPath - at }) new
   climb-done new h e =
-      let whole : take (92 - at) (drop at path) ≡ drop at path = take-all (92 - at) (drop at path) (omega (arith, size-is)) in
+      let whole : take (longestPath - at) (drop at path) ≡ drop at path = take-all (longestPath - at) (drop at path) (omega (arith, size-is)) in
       let same : new ≡ over 0 (drop at path) buffer = e ∙ ap (λ (b : List ℕ). over 0 b buffer) whole in
-      answers img x buffer (record { number = 0; written = 92 - at }) new
-      (writes ∙ rw (size-is, le-ltb (length buffer) (92 - at) h, over-front (92 - at) (drop at path) buffer size-is, same))
+      answers img x buffer (record { number = 0; written = longestPath - at }) new
+      (writes ∙ rw (size-is, le-ltb (length buffer) (longestPath - at) h, over-front (longestPath - at) (drop at path) buffer size-is, same))

@@ -7,9 +7,10 @@ use Prim.Native.Nat.{ℕ, suc, _+_, _*_, _-_, _/_, _≤_}
 use native.Mathlib.Omega.{arith}
 use lib.ListN.{length, getD, drop, length-append, drop-of-length-le}
 use lib.Dec.{eqb}
+use Rattle.model.specs.Limits.{mostPages, pageSize, mostBytes, longestPath}
 use Rattle.model.specs.Row.{Row, base, Config}
 use Rattle.model.specs.Tree.{width, placeAt, placeOf}
-use Rattle.model.specs.Reading.{Reads, twoAt}
+use Rattle.model.specs.Reading.{Reads, backAt}
 use Rattle.model.specs.Calls.{pathBytes}
 use Rattle.model.specs.declared.Place.{Place}
 use Rattle.theory_rows.specs.Laws.{breadth-shown}
@@ -31,7 +32,7 @@ in-within : {root row : Row} {page holder : ℕ} {before after : List ℕ} {dept
 in-within top = record { high = omega arith; many = omega arith }
 in-within (sub {page = page} {row = row} i xs ys pos p r e) =
     let w = in-within i in
-    let l = lower pos p r (4096 * page + base row) row (has-split (proxy pos p r) (4096 * page + base row) row xs ys e) in
+    let l = lower pos p r (pageSize * page + base row) row (has-split (proxy pos p r) (pageSize * page + base row) row xs ys e) in
     record { high = omega arith; many = omega arith }
 
 -- The record of `holder`, which has the proxy of the record `row` of `page` at byte pos.
@@ -45,7 +46,7 @@ pub record Parent (root : Row) (page : ℕ) (row : Row) (depth holder : ℕ) : T
   pub pos : ℕ
   pub xs : List Item
   pub ys : List Item
-  pub split : items (4096 * holder + base whole) whole ≡ xs ++ proxy pos page row ∷ ys
+  pub split : items (pageSize * holder + base whole) whole ≡ xs ++ proxy pos page row ∷ ys
   pub fewer : depth ≡ suc less
 
 pub parent : {root row : Row} {page holder : ℕ} {before after : List ℕ} {depth : ℕ} → In root page holder row before after depth → (page ≡ 1 → ⊥) → Parent root page row depth holder
@@ -97,19 +98,19 @@ pub record Climb (root : Row) (x : Place) (page target carry at left : ℕ) (pat
   pub is : In root page holder row before after depth
   pub item : Item
   pub starts : order.at item ≡ target
-  pub has : Has item (4096 * page + base row) row
+  pub has : Has item (pageSize * page + base row) row
   pub tail : List ℕ
   pub leads : Under page item carry tail x
   pub bytes : drop at path ≡ pathBytes tail
-  pub ends : at + 4 * length tail ≡ 92
-  pub small : carry ≤ 4194304
+  pub ends : at + 4 * length tail ≡ longestPath
+  pub small : carry ≤ mostBytes
   pub shallow : depth ≤ left
 
 -- The path of the node at x is written from byte `at` on.
 pub record Rose (root : Row) (x : Place) (at : ℕ) (path : List ℕ) : Type 0 where
   pub names : List ℕ
   pub finds : placeOf root names ≡ some x
-  pub ends : at + 4 * length names ≡ 92
+  pub ends : at + 4 * length names ≡ longestPath
   pub bytes : drop at path ≡ pathBytes names
 
 -- A trace from `start`, its number and way.
@@ -131,29 +132,29 @@ module _ (img : List ℕ) (st : Config) (root : Row) (reads : Reads img st root)
   on-page = order.in-page img st root reads (c .is)
 
   found : Finds page (base (c .row)) (c .row) (number carry (c .has)) (way carry (c .has) ++ c .tail) x
-  found = finds page carry (c .tail) x (c .item) (4096 * page + base (c .row)) (c .row) (c .has) (base (c .row)) refl (c .leads)
+  found = finds page carry (c .tail) x (c .item) (pageSize * page + base (c .row)) (c .row) (c .has) (base (c .row)) refl (c .leads)
 
-  few : steps (c .row) ≤ 4194304
+  few : steps (c .row) ≤ mostBytes
   few =
       let v = reads-valid img st root reads in
       omega (arith, in-within (c .is) .many, few-steps st root v, v .ranges .many)
 
   -- The record that holds the proxy, as its page's trailer names it.
-  pub parent-at : (holder : ℕ) → holder ≡ twoAt img (4096 * page + 4084) → (page ≡ 1 → ⊥) → Parent root page (c .row) (c .depth) holder
+  pub parent-at : (holder : ℕ) → holder ≡ backAt img (pageSize * page) → (page ≡ 1 → ⊥) → Parent root page (c .row) (c .depth) holder
   parent-at holder e k = subst (Parent root page (c .row) (c .depth)) (sym (e ∙ on-page .back)) (parent (c .is) k)
 
   pub above : (holder : ℕ) → Parent root page (c .row) (c .depth) holder → 1 ≤ left
   above holder p = omega (arith, c .shallow, p .fewer)
 
   -- What is asked of the trace of the record's row,
-  pub started : (start : ℕ) → start ≡ 4096 * page + cond (eqb (getD img (4096 * page) 0) 4) 6 0
+  pub started : (start : ℕ) → start ≡ pageSize * page + cond (eqb (getD img (pageSize * page) 0) 4) 6 0
       → Started img start target carry at (number carry (c .has)) (way carry (c .has))
   started start e =
       let v = reads-valid img st root reads in
       let w = in-within (c .is) in
       let l = place-levels page (base (c .row)) (number carry (c .has)) (way carry (c .has) ++ c .tail) (c .row) x (found .place) in
       let n = length-append (way carry (c .has)) (c .tail) in
-      let t : Tracing img (4096 * page + base (c .row)) target carry at = record {
+      let t : Tracing img (pageSize * page + base (c .row)) target carry at = record {
         search = record {
           page = page;
           row = c .row;
@@ -167,11 +168,11 @@ module _ (img : List ℕ) (st : Config) (root : Row) (reads : Reads img st root)
         high = omega (arith, c .ends);
         small = c .small;
       } in
-      subst (λ (z : ℕ). Started img z target carry at (number carry (c .has)) (way carry (c .has))) (sym (e ∙ ap (λ (n : ℕ). 4096 * page + n) (on-page .first)))
+      subst (λ (z : ℕ). Started img z target carry at (number carry (c .has)) (way carry (c .has))) (sym (e ∙ ap (λ (n : ℕ). pageSize * page + n) (on-page .first)))
       (record { trace = t; number-is = refl; way-is = refl })
 
   -- and what it leaves: the number and path of x in the record's row.
-  module _ (start : ℕ) (e : start ≡ 4096 * page + cond (eqb (getD img (4096 * page) 0) 4) 6 0) (index to : ℕ) (new : List ℕ)
+  module _ (start : ℕ) (e : start ≡ pageSize * page + cond (eqb (getD img (pageSize * page) 0) 4) 6 0) (index to : ℕ) (new : List ℕ)
       (t : Wrote (numberOf (started start e .trace)) (wayOf (started start e .trace)) at index to new path) where
     names : List ℕ
     names = way carry (c .has) ++ c .tail
@@ -179,7 +180,7 @@ module _ (img : List ℕ) (st : Config) (root : Row) (reads : Reads img st root)
     same : index ≡ number carry (c .has)
     same = t .is ∙ started start e .number-is
 
-    ends : to + 4 * length names ≡ 92
+    ends : to + 4 * length names ≡ longestPath
     unfolding names
     ends = omega (arith, t .ends, ap length (started start e .way-is), c .ends, length-append (way carry (c .has)) (c .tail))
 
@@ -216,7 +217,7 @@ module _ (img : List ℕ) (st : Config) (root : Row) (reads : Reads img st root)
       is = p .is;
       item = proxy (p .pos) page (c .row);
       starts = sym q;
-      has = has-split (proxy (p .pos) page (c .row)) (4096 * holder + base (p .whole)) (p .whole) (p .xs) (p .ys) (p .split);
+      has = has-split (proxy (p .pos) page (c .row)) (pageSize * holder + base (p .whole)) (p .whole) (p .xs) (p .ys) (p .split);
       tail = names;
       leads = rw same (found .low, found .place);
       bytes = bytes;
@@ -228,14 +229,14 @@ module _ (img : List ℕ) (st : Config) (root : Row) (reads : Reads img st root)
 -- ── where a climb starts ──
 
 abbrev pub placeAtByte : (pos : ℕ) → Place
-placeAtByte pos = record { page = pos / 4096; offset = pos - 4096 * (pos / 4096) }
+placeAtByte pos = record { page = pos / pageSize; offset = pos - pageSize * (pos / pageSize) }
 
-pub rise-start : (img : List ℕ) (pos page : ℕ) (path : List ℕ) (w : NodeAt img pos) → page ≡ pos / 4096 → length path ≡ 92 → Climb (w .root) (placeAtByte pos) page pos 0 92 1024 path
+pub rise-start : (img : List ℕ) (pos page : ℕ) (path : List ℕ) (w : NodeAt img pos) → page ≡ pos / pageSize → length path ≡ longestPath → Climb (w .root) (placeAtByte pos) page pos 0 longestPath mostPages path
 rise-start img pos page path w e n =
     let s = w .spot in
     let h = order.spot-header img (w .settings) (w .root) (w .reads) pos s in
     let same : s .page ≡ page = omega (arith, h .low, h .room) in
-    let r : Climb (w .root) (placeAtByte pos) (s .page) pos 0 92 1024 path = record {
+    let r : Climb (w .root) (placeAtByte pos) (s .page) pos 0 longestPath mostPages path = record {
       holder = s .holder;
       row = s .row;
       before = s .before;
@@ -244,12 +245,12 @@ rise-start img pos page path w e n =
       is = s .within;
       item = node pos;
       starts = refl;
-      has = has-split (node pos) (4096 * s .page + base (s .row)) (s .row) (s .left) (s .right) (s .split);
+      has = has-split (node pos) (pageSize * s .page + base (s .row)) (s .row) (s .left) (s .right) (s .split);
       tail = [];
       leads = (refl, refl, sym (same ∙ e), omega (arith, h .low, h .room));
-      bytes = drop-of-length-le path {i = 92} (omega arith);
+      bytes = drop-of-length-le path {i = longestPath} (omega arith);
       ends = refl;
       small = omega arith;
       shallow = order.in-deep img (w .settings) (w .root) (w .reads) (s .within);
     } in
-    subst (λ (q : ℕ). Climb (w .root) (placeAtByte pos) q pos 0 92 1024 path) same r
+    subst (λ (q : ℕ). Climb (w .root) (placeAtByte pos) q pos 0 longestPath mostPages path) same r

@@ -9,6 +9,7 @@ use native.Mathlib.Omega.{arith}
 use borrow.Author.Tests.{lt-ltb, le-ltb}
 use lib.ListN.{length}
 use lib.Dec.{ltb}
+use Rattle.model.specs.Limits.{pageSize}
 use Rattle.model.specs.Row.{Head, Row, nil, agg, lit, rec, size, base, height}
 use Rattle.model.specs.Tree.{width, placeAt}
 use Rattle.model.specs.declared.Place.{Place}
@@ -114,7 +115,7 @@ module _ {item : Item} where
 
 -- Node `carry` of what an item of the record of `page` shows, with the path `tail` from there on, stands at x.
 abbrev pub Under : (page : ℕ) → Item → (carry : ℕ) → (tail : List ℕ) → Place → Type 0
-Under page (node pos) carry tail x = (carry ≡ 0) × (tail ≡ []) × (x .page ≡ page) × (4096 * page + x .offset ≡ pos)
+Under page (node pos) carry tail x = (carry ≡ 0) × (tail ≡ []) × (x .page ≡ page) × (pageSize * page + x .offset ≡ pos)
 Under page (proxy pos p r) carry tail x = (carry < width r) × (placeAt p (base r) carry tail r ≡ some x)
 
 -- A number and a path from a row find a place.
@@ -123,13 +124,13 @@ pub record Finds (page at : ℕ) (row : Row) (i : ℕ) (path : List ℕ) (x : Pl
   pub place : placeAt page at i path row ≡ some x
 
 module _ (page carry : ℕ) (tail : List ℕ) (x : Place) where
-  here : (at pos : ℕ) → pos ≡ 4096 * page + at → Under page (node pos) carry tail x → (carry ≡ 0) × (tail ≡ []) × (some (record { page = page; offset = at }) ≡ some x)
+  here : (at pos : ℕ) → pos ≡ pageSize * page + at → Under page (node pos) carry tail x → (carry ≡ 0) × (tail ≡ []) × (some (record { page = page; offset = at }) ≡ some x)
   here at pos p u =
       let o : at ≡ x .offset = omega (arith, u .3) in
       (u .0, u .1, λ i. some (record { page = sym (u .2) i; offset = o i }))
 
   -- The number and way of an item lead to what the item leads to.
-  pub finds : (item : Item) (pos : ℕ) (row : Row) (h : Has item pos row) (at : ℕ) → pos ≡ 4096 * page + at → Under page item carry tail x → Finds page at row (number carry h) (way carry h ++ tail) x
+  pub finds : (item : Item) (pos : ℕ) (row : Row) (h : Has item pos row) (at : ℕ) → pos ≡ pageSize * page + at → Under page item carry tail x → Finds page at row (number carry h) (way carry h ++ tail) x
   unfolding placeAt
   finds item pos (agg l cs rest) (agg-here e) at p u =
       let k = here at pos p (subst (λ (z : Item). Under page z carry tail x) e u) in

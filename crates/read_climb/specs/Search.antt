@@ -5,9 +5,10 @@ use Prim.Native.Nat.{ℕ, suc, _+_, _*_, _-_, _≤_, _<_}
 use native.Mathlib.Omega.{arith}
 use lib.ListN.{length, getD, take, drop}
 use lib.Seq.{drop-at, length-take-le}
+use Rattle.model.specs.Limits.{mostBytes, longestPath}
 use Rattle.model.specs.Row.{Row, nil, agg, lit, rec, size}
 use Rattle.model.specs.Tree.{width}
-use Rattle.model.specs.Reading.{twoAt}
+use Rattle.model.specs.Reading.{sizeAt, nameAt}
 use Rattle.model.specs.Calls.{four, pathBytes}
 use Rattle.theory_decoding.specs.Steps.{steps}
 use Rattle.base_numbers.specs.Over.{over, over-is, length-over}
@@ -26,7 +27,7 @@ pub record Standing (img : List ℕ) (i : ℕ) : Type 0 where
   pub row : Row
   pub here : Here img page i row
   pub some : 6 ≤ size row
-  pub few : steps row ≤ 4194304
+  pub few : steps row ≤ mostBytes
 
 -- How many nodes the first of a row shows.
 abbrev pub first : Row → ℕ
@@ -35,19 +36,19 @@ first (agg h cs rest) = 1
 first (lit h c rest) = 1
 first (rec p s r rest) = width r
 
-pub header-inside : (img : List ℕ) (i : ℕ) → Standing img i → (i + 6 ≤ length img) × (i < 4194304)
+pub header-inside : (img : List ℕ) (i : ℕ) → Standing img i → (i + 6 ≤ length img) × (i < mostBytes)
 header-inside img i w =
     let h = w .here in
     let p = h .on in
     omega (arith, w .some, h .room)
 
-long-row : (img : List ℕ) (i page : ℕ) (row : Row) → Here img page i row → 6 ≤ size row → 6 ≤ twoAt img (i + 4)
+long-row : (img : List ℕ) (i page : ℕ) (row : Row) → Here img page i row → 6 ≤ size row → 6 ≤ sizeAt img i
 long-row img i page nil h n = absurd (omega arith)
 long-row img i page (agg l cs rest) h n = omega (arith, agg-view img page i l cs rest h .long)
 long-row img i page (lit l c rest) h n = omega (arith, lit-view img page i l c rest h .long)
 long-row img i page (rec p s r rest) h n = omega (arith, rec-view img page i p s r rest h .long)
 
-pub header-long : (img : List ℕ) (i : ℕ) → Standing img i → 6 ≤ twoAt img (i + 4)
+pub header-long : (img : List ℕ) (i : ℕ) → Standing img i → 6 ≤ sizeAt img i
 header-long img i w = long-row img i (w .page) (w .row) (w .here) (w .some)
 
 plain-row : (img : List ℕ) (i page : ℕ) (row : Row) → Here img page i row → 6 ≤ size row → (getD img i 0 ≡ 3 → ⊥) → 1 ≡ first row
@@ -62,10 +63,10 @@ plain img i w k = plain-row img i (w .page) (w .row) (w .here) (w .some) k
 -- A proxy: the page that it names, and how many nodes the table has for it.
 pub record Proxied (img : List ℕ) (p n : ℕ) : Type 0 where
   pub on : PageIn img p
-  pub few : n ≤ 4194304
+  pub few : n ≤ mostBytes
   pub told : (c : List ℕ) → Widths img c → getD c p 0 ≡ n
 
-proxied-row : (img : List ℕ) (i p page : ℕ) (row : Row) → p ≡ twoAt img (i + 6) → Here img page i row → 6 ≤ size row → steps row ≤ 4194304 → getD img i 0 ≡ 3 → Proxied img p (first row)
+proxied-row : (img : List ℕ) (i p page : ℕ) (row : Row) → p ≡ nameAt img i → Here img page i row → 6 ≤ size row → steps row ≤ mostBytes → getD img i 0 ≡ 3 → Proxied img p (first row)
 proxied-row img i p page nil named h n f k = absurd (omega arith)
 proxied-row img i p page (agg l cs rest) named h n f k = absurd (omega (arith, agg-view img page i l cs rest h .kind))
 proxied-row img i p page (lit l c rest) named h n f k = absurd (omega (arith, lit-view img page i l c rest h .kind))
@@ -78,7 +79,7 @@ proxied-row img i p page (rec q s r rest) named h n f k =
       told = λ c t. ap (λ (m : ℕ). getD c m 0) same ∙ t .told q page r (h .on .low) (v .under);
     }
 
-pub proxied : (img : List ℕ) (i p : ℕ) (w : Standing img i) → p ≡ twoAt img (i + 6) → getD img i 0 ≡ 3 → Proxied img p (first (w .row))
+pub proxied : (img : List ℕ) (i p : ℕ) (w : Standing img i) → p ≡ nameAt img i → getD img i 0 ≡ 3 → Proxied img p (first (w .row))
 proxied img i p w named k = proxied-row img i p (w .page) (w .row) named (w .here) (w .some) (w .few) k
 
 -- ── along the row ──
@@ -91,7 +92,7 @@ pub record Search (img : List ℕ) (pos target : ℕ) : Type 0 where
   pub item : Item
   pub starts : order.at item ≡ target
   pub has : Has item pos row
-  pub few : steps row ≤ 4194304
+  pub few : steps row ≤ mostBytes
 
 pub has-some : {item : Item} (pos : ℕ) (row : Row) → Has item pos row → 6 ≤ size row
 has-some pos (agg l cs rest) h = omega arith
@@ -114,9 +115,9 @@ pub record Turned (img : List ℕ) (i n target : ℕ) (at passed fst : ℕ) : Ty
   pub same : spot (after .has) ≡ at
   pub counts : fst + before (after .has) ≡ passed
 
-module _ (img : List ℕ) (i n target : ℕ) (long : n ≡ twoAt img (i + 4)) where
+module _ (img : List ℕ) (i n target : ℕ) (long : n ≡ sizeAt img i) where
   module _ (item : Item) (starts : order.at item ≡ target) where
-    turn-row : i + n ≤ target → (page : ℕ) (row : Row) → Here img page i row → (b : Has item i row) → steps row ≤ 4194304
+    turn-row : i + n ≤ target → (page : ℕ) (row : Row) → Here img page i row → (b : Has item i row) → steps row ≤ mostBytes
         → Turned img i n target (spot b) (before b) (first row)
     turn-row on page (agg l cs rest) h (agg-here e) f = let v = agg-view img page i l cs rest h in absurd (omega (arith, ap order.at e, v .long))
     turn-row on page (agg l cs rest) h (agg-in b) f = let v = agg-view img page i l cs rest h in absurd (omega (arith, has-high (i + 6) cs b, v .long))
@@ -178,13 +179,13 @@ pub record Going (img : List ℕ) (target i n at passed : ℕ) : Type 0 where
   pub same : spot (now .has) ≡ at
   pub counts : n + before (now .has) ≡ passed
 
-pub go-on : (img : List ℕ) (target i n at passed len k : ℕ) → (g : Going img target i n at passed) → len ≡ twoAt img (i + 4) → i + len ≤ target → k ≡ first (g .now .row)
+pub go-on : (img : List ℕ) (target i n at passed len k : ℕ) → (g : Going img target i n at passed) → len ≡ sizeAt img i → i + len ≤ target → k ≡ first (g .now .row)
     → Going img target (i + len) (n + k) at passed
 go-on img target i n at passed len k g long on e =
     let t = turn img i len target long (g .now) on in
     record { now = t .after; same = t .same ∙ g .same; counts = omega (arith, t .counts, g .counts) }
 
-pub go-end : (img : List ℕ) (target i n at passed len : ℕ) → (g : Going img target i n at passed) → len ≡ twoAt img (i + 4) → target < i + len → (i ≡ at) × (n ≡ passed)
+pub go-end : (img : List ℕ) (target i n at passed len : ℕ) → (g : Going img target i n at passed) → len ≡ sizeAt img i → target < i + len → (i ≡ at) × (n ≡ passed)
 go-end img target i n at passed len g long off =
     let s = stop img i len target long (g .now) off in
     (sym (s .0) ∙ g .same, omega (arith, s .1, g .counts))
@@ -198,7 +199,7 @@ before-steps pos (lit l c rest) (lit-past b) = omega (arith, before-steps (pos +
 before-steps pos (rec p s r rest) (rec-here e) = omega arith
 before-steps pos (rec p s r rest) (rec-past b) = omega (arith, before-steps (pos + 8) rest b, width-steps r)
 
-pub few-before : (img : List ℕ) (pos target : ℕ) (w : Search img pos target) → before (w .has) ≤ 4194304
+pub few-before : (img : List ℕ) (pos target : ℕ) (w : Search img pos target) → before (w .has) ≤ mostBytes
 few-before img pos target w = omega (arith, before-steps pos (w .row) (w .has), w .few)
 
 -- ── down ──
@@ -211,7 +212,7 @@ pub record Below (img : List ℕ) (target carry at : ℕ) (n passed : ℕ) (path
   pub leads : path ≡ number carry (under .has) ∷ way carry (under .has)
 
 module _ (img : List ℕ) (target carry : ℕ) (item : Item) (starts : order.at item ≡ target) where
-  below-row : (page pos : ℕ) (row : Row) → Here img page pos row → (b : Has item pos row) → steps row ≤ 4194304 → (spot b ≡ target → ⊥)
+  below-row : (page pos : ℕ) (row : Row) → Here img page pos row → (b : Has item pos row) → steps row ≤ mostBytes → (spot b ≡ target → ⊥)
       → Below img target carry (spot b) (number carry b) (before b) (way carry b)
   below-row page pos (agg l cs rest) h (agg-here e) f k = absurd (k (ap order.at (sym e) ∙ starts))
   below-row page pos (agg l cs rest) h (agg-in b) f k =
@@ -252,15 +253,15 @@ module _ (img : List ℕ) (target carry : ℕ) (item : Item) (starts : order.at 
 pub record Tracing (img : List ℕ) (pos target carry at : ℕ) : Type 0 where
   pub search : Search img pos target
   pub room : 4 * length (way carry (search .has)) ≤ at
-  pub high : at ≤ 92
-  pub small : carry ≤ 4194304
+  pub high : at ≤ longestPath
+  pub small : carry ≤ mostBytes
 
 -- The number i is handed back, and the path's entries are written before byte `at`, from byte `to` on.
 pub record Wrote (i : ℕ) (path : List ℕ) (at index to : ℕ) (new old : List ℕ) : Type 0 where
   pub is : index ≡ i
   pub ends : to + 4 * length path ≡ at
   pub bytes : drop to new ≡ pathBytes path ++ drop at old
-  pub long : length new ≡ 92
+  pub long : length new ≡ longestPath
 
 -- the way of a tracing, and its number
 abbrev pub wayOf : {img : List ℕ} {pos target carry at : ℕ} → Tracing img pos target carry at → List ℕ
@@ -274,7 +275,7 @@ drop-over at xs l h = ap (drop at) (over-is at xs l) ∙ drop-at (take at l) (xs
 
 module _ (img : List ℕ) (pos target carry at : ℕ) (w : Tracing img pos target carry at) (c : ℕ) (found : c ≡ spot (w .search .has)) where
   -- The item is at its node's start,
-  pub wrote-here : (passed : ℕ) (path : List ℕ) → passed ≡ before (w .search .has) → c ≡ target → length path ≡ 92 → Wrote (numberOf w) (wayOf w) at (passed + carry) at path path
+  pub wrote-here : (passed : ℕ) (path : List ℕ) → passed ≡ before (w .search .has) → c ≡ target → length path ≡ longestPath → Wrote (numberOf w) (wayOf w) at (passed + carry) at path path
   wrote-here passed path e k n =
       let s = w .search in
       let r = at-row img target carry (s .item) (s .starts) pos (s .row) (s .has) (sym found ∙ k) in
@@ -301,7 +302,7 @@ module _ (img : List ℕ) (pos target carry at : ℕ) (w : Tracing img pos targe
       record { search = b .under; room = omega (arith, w .room, ap length (b .leads)); high = w .high; small = w .small }
 
   module _ (k : c ≡ target → ⊥) (index to : ℕ) (old new : List ℕ) (t : Wrote (numberOf (trace-below k)) (wayOf (trace-below k)) at index to new old) where
-    pub room-below : (4 ≤ to) × (to ≤ 92)
+    pub room-below : (4 ≤ to) × (to ≤ longestPath)
     unfolding trace-below
     room-below =
         let b = below k in

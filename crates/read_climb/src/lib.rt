@@ -1,15 +1,16 @@
 // The path of a node, from its place up to the root.
-use read_find::row_start;
-use read_next::find_proxy;
-use read_next::node_at;
-use model::Place;
-use model::WriteAnswer;
 use base_numbers::copy_in;
 use base_numbers::put32;
 use base_numbers::two;
+use model::Place;
+use model::WriteAnswer;
+use read_find::row_start;
+use read_next::find_proxy;
+use read_next::node_at;
 ghost use mathlib.Core.Path.{_≡_};
 ghost use Prim.Native.Nat.{_+_, _<_};
 ghost use lib.ListN.{length};
+ghost use Rattle.model.specs.Limits.{longestPath};
 ghost use Rattle.model.specs.Calls.{checkOf, climbOf};
 ghost use Rattle.theory_layout.specs.Widths.{Widths};
 ghost use Rattle.read_next.specs.Scan.{NodeAt};
@@ -66,7 +67,7 @@ fn trace(
     path: &mut [u8; 92],
     at: usize,
 ) -> Traced
-    requires { ⌜ Tracing (now image) pos target carry at × Widths (now image) (now widths) × (length (now path) ≡ 92) ⌝ }
+    requires { ⌜ Tracing (now image) pos target carry at × Widths (now image) (now widths) × (length (now path) ≡ longestPath) ⌝ }
     ensures { λ r. ⌜ ((w : Tracing (now (image .entry)) pos target carry at) →
         Wrote (numberOf w) (wayOf w) at (r .index) (r .at) (now (path .exit)) (now (path .entry))) ⌝ }
 {
@@ -87,8 +88,8 @@ fn trace(
 
 // Writes the path of the node at byte pos to the end of `path`, and gives where it starts. At most `left` records are above.
 fn climb_path(image: &[u8], widths: &[u32; 1024], pos: usize, path: &mut [u8; 92]) -> usize
-    requires { ⌜ NodeAt (now image) pos × Widths (now image) (now widths) × (length (now path) ≡ 92) ⌝ }
-    ensures { λ r. ⌜ ((w : NodeAt (now (image .entry)) pos) → Rose (w .root) (placeAtByte pos) r (now (path .exit))) × (length (now (path .exit)) ≡ 92) ⌝ }
+    requires { ⌜ NodeAt (now image) pos × Widths (now image) (now widths) × (length (now path) ≡ longestPath) ⌝ }
+    ensures { λ r. ⌜ ((w : NodeAt (now (image .entry)) pos) → Rose (w .root) (placeAtByte pos) r (now (path .exit))) × (length (now (path .exit)) ≡ longestPath) ⌝ }
 {
     let mut page = pos / 4096;
     let mut target = pos;

@@ -8,9 +8,10 @@ use native.Mathlib.Omega.{arith}
 use borrow.Author.Tests.{ltb-true, ltb-false, lt-ltb, le-ltb}
 use lib.ListN.{length, getD, drop, drop-of-length-le}
 use lib.Dec.{ltb}
+use Rattle.model.specs.Limits.{mostPages, pageSize, mostBytes, longestPath}
 use Rattle.model.specs.Row.{Row, nil, agg, lit, rec, size, base, isAgg, Config}
 use Rattle.model.specs.Tree.{shown, width, Node, named, placeAt, placeOf}
-use Rattle.model.specs.Reading.{Reads, twoAt}
+use Rattle.model.specs.Reading.{Reads, sizeAt}
 use Rattle.model.specs.Answers.{findRefused}
 use Rattle.model.specs.Calls.{entries, namedIf, orEmpty, isNone, findIn, findOf, checkOf}
 use Rattle.model.specs.declared.Place.{Place}
@@ -27,7 +28,7 @@ use Rattle.read_find.specs.Entries.{fourAt, never, whole, broken, NextEn
 
 -- The place of byte pos of the image, and the answer that names it.
 abbrev pub placeOn : (pos : ℕ) → Place
-placeOn pos = record { page = pos / 4096; offset = pos % 4096 }
+placeOn pos = record { page = pos / pageSize; offset = pos % pageSize }
 
 abbrev pub foundOn : (pos : ℕ) → FindAnswer
 foundOn pos = record { number = 0; place = placeOn pos }
@@ -44,17 +45,17 @@ pub record Leads (img : List ℕ) (pos : ℕ) (path : List ℕ) (t : Option Plac
   pub off : ℕ
   pub row : Row
   pub here : Here img page pos row
-  pub at : pos ≡ 4096 * page + off
+  pub at : pos ≡ pageSize * page + off
   pub node : isNode row ≡ true
-  pub deep : nesting row ≤ 1024
-  pub few : steps row ≤ 4194304
+  pub deep : nesting row ≤ mostPages
+  pub few : steps row ≤ mostBytes
   pub to : placeAt page off 0 path row ≡ t
 
 -- ── one entry ──
 
 -- From a row, the node that the entry names leads on.
-pub reach : (img : List ℕ) (page pos off k : ℕ) (path : List ℕ) (row : Row) → Here img page pos row → pos ≡ 4096 * page + off
-    → nesting row ≤ 1024 → steps row ≤ 4194304 → nthOf pos row k .found ≡ true → Leads img (nthOf pos row k .at) path (placeAt page off k path row)
+pub reach : (img : List ℕ) (page pos off k : ℕ) (path : List ℕ) (row : Row) → Here img page pos row → pos ≡ pageSize * page + off
+    → nesting row ≤ mostPages → steps row ≤ mostBytes → nthOf pos row k .found ≡ true → Leads img (nthOf pos row k .at) path (placeAt page off k path row)
 unfolding nthOf placeAt
 reach img page pos off k path nil h e d f y = absurd (false≢true y)
 reach img page pos off zero path (agg l cs rest) h e d f y =
@@ -68,11 +69,11 @@ reach img page pos off (suc k) path (lit l c rest) h e d f y =
 reach img page pos off k path (rec p s r rest) h e d f y =
     let v = rec-view img page pos p s r rest h in
     go (ltb k (width r)) refl
-    (reach img p (4096 * p + base r) (base r) k path r (v .under .here) refl (omega arith) (omega arith))
+    (reach img p (pageSize * p + base r) (base r) k path r (v .under .here) refl (omega arith) (omega arith))
     (reach img page (pos + 8) (off + 8) (k - width r) path rest (v .after) (omega arith) (omega arith) (omega arith))
   where
     go : (b : Bool) → ltb k (width r) ≡ b
-        → (nthOf (4096 * p + base r) r k .found ≡ true → Leads img (nthOf (4096 * p + base r) r k .at) path (placeAt p (base r) k path r))
+        → (nthOf (pageSize * p + base r) r k .found ≡ true → Leads img (nthOf (pageSize * p + base r) r k .at) path (placeAt p (base r) k path r))
         → (nthOf (pos + 8) rest (k - width r) .found ≡ true → Leads img (nthOf (pos + 8) rest (k - width r) .at) path (placeAt page (off + 8) (k - width r) path rest))
         → Leads img (nthOf pos (rec p s r rest) k .at) path (cond b (placeAt p (base r) k path r) (placeAt page (off + 8) (k - width r) path rest))
     go true b within beyond =
@@ -92,7 +93,7 @@ pub record Finds (img bytes : List ℕ) (pos i : ℕ) (t : Option Place) : Type 
 
 -- What the node at pos holds, if it is an aggregate, and where the entry at i leads.
 pub record Down (img bytes : List ℕ) (pos i len k : ℕ) (t : Option Place) : Type 0 where
-  pub kids : Rowed img (pos + 6) (pos + len) 1024
+  pub kids : Rowed img (pos + 6) (pos + len) mostPages
   pub found : (r : NthNode) → r ≡ nthOf (pos + 6) (kids .row) k → r .found ≡ true → Finds img bytes (r .at) (i + 4) t
   pub missing : (r : NthNode) → r ≡ nthOf (pos + 6) (kids .row) k → r .found ≡ false → t ≡ none
 
@@ -112,9 +113,9 @@ literal img page pos off j path (agg l cs rest) h n k = absurd (k (agg-view img 
 literal img page pos off j path (lit l c rest) h n k = refl
 literal img page pos off j path (rec p s r rest) h n k = absurd (false≢true n)
 
-module _ (img bytes : List ℕ) (page pos off i len k : ℕ) (path : List ℕ) (t : Option Place) (a : pos ≡ 4096 * page + off)
-    (kind : getD img pos 0 ≡ 1) (long : len ≡ twoAt img (pos + 4)) (spelled : entries (drop (i + 4) bytes) ≡ some path) where
-  into : (row : Row) → Here img page pos row → isNode row ≡ true → nesting row ≤ 1024 → steps row ≤ 4194304
+module _ (img bytes : List ℕ) (page pos off i len k : ℕ) (path : List ℕ) (t : Option Place) (a : pos ≡ pageSize * page + off)
+    (kind : getD img pos 0 ≡ 1) (long : len ≡ sizeAt img pos) (spelled : entries (drop (i + 4) bytes) ≡ some path) where
+  into : (row : Row) → Here img page pos row → isNode row ≡ true → nesting row ≤ mostPages → steps row ≤ mostBytes
       → placeAt page off 0 (k ∷ path) row ≡ t → Down img bytes pos i len k t
   unfolding placeAt
   into nil h n d f y = absurd (false≢true n)
@@ -136,7 +137,7 @@ module _ (img bytes : List ℕ) (page pos off i len k : ℕ) (path : List ℕ) (
   into (rec p s r rest) h n d f y = absurd (false≢true n)
 
 module _ (img bytes : List ℕ) (pos i : ℕ) (t : Option Place) (w : Finds img bytes pos i t) where
-  pub place-room : (pos + 16 ≤ length img) × (pos < 4194304)
+  pub place-room : (pos + 16 ≤ length img) × (pos < mostBytes)
   place-room =
       let h = w .leads .here in
       let p = h .on in
@@ -149,8 +150,8 @@ module _ (img bytes : List ℕ) (pos i : ℕ) (t : Option Place) (w : Finds img 
       let e : entries (drop i bytes) ≡ some [] = ap entries (drop-of-length-le bytes {i = i} h) in
       let s = w .spelled in
       let z : w .path ≡ [] = cc in
-      let p : g .page ≡ pos / 4096 = omega (arith, g .at, g .here .room) in
-      let q : g .off ≡ pos % 4096 = omega (arith, g .at, g .here .room) in
+      let p : g .page ≡ pos / pageSize = omega (arith, g .at, g .here .room) in
+      let q : g .off ≡ pos % pageSize = omega (arith, g .at, g .here .room) in
       sym (g .to) ∙ ap (λ (x : List ℕ). placeAt (g .page) (g .off) 0 x (g .row)) z ∙ no-entry (g .page) (g .off) (g .row) (g .node)
       ∙ (λ j. some (record { page = p j; offset = q j }))
 
@@ -165,7 +166,7 @@ module _ (img bytes : List ℕ) (pos i : ℕ) (t : Option Place) (w : Finds img 
     pub ends-here : (getD img pos 0 ≡ 1 → ⊥) → t ≡ none
     ends-here k = let g = w .leads in sym onward ∙ literal img (g .page) pos (g .off) (fourAt bytes i) (entry .rest) (g .row) (g .here) (g .node) k
 
-    pub down : (len k : ℕ) → getD img pos 0 ≡ 1 → len ≡ twoAt img (pos + 4) → k ≡ fourAt bytes i → Down img bytes pos i len k t
+    pub down : (len k : ℕ) → getD img pos 0 ≡ 1 → len ≡ sizeAt img pos → k ≡ fourAt bytes i → Down img bytes pos i len k t
     down len k kind long e =
         let g = w .leads in
         into img bytes (g .page) pos (g .off) i len k (entry .rest) t (g .at) kind long (entry .more) (g .row) (g .here) (g .node) (g .deep) (g .few)
@@ -209,7 +210,7 @@ module _ (img bytes : List ℕ) (ok : checkOf img ≡ 0) where
   goal = placeIf root (entries bytes)
 
   -- It leads there from the root.
-  pub starting : length bytes % 4 ≡ 0 → Finds img bytes 4096 0 goal
+  pub starting : length bytes % 4 ≡ 0 → Finds img bytes pageSize 0 goal
   unfolding goal
   starting h =
       let (p, e) = whole bytes h in
@@ -236,20 +237,20 @@ module _ (img bytes : List ℕ) (ok : checkOf img ≡ 0) where
       top (lit l c rest) e = absurd (false≢true e)
       top (rec p s r rest) e = absurd (false≢true e)
 
-  pub too-long : 92 < length bytes → findRefused 4 ≡ findOf img bytes
+  pub too-long : longestPath < length bytes → findRefused 4 ≡ findOf img bytes
   unfolding findOf findIn
-  too-long h = rw (opens img st root reads, lt-ltb 92 (length bytes) h)
+  too-long h = rw (opens img st root reads, lt-ltb longestPath (length bytes) h)
 
-  pub nowhere : length bytes ≤ 92 → goal ≡ none → findRefused 7 ≡ findOf img bytes
+  pub nowhere : length bytes ≤ longestPath → goal ≡ none → findRefused 7 ≡ findOf img bytes
   unfolding findOf findIn goal
-  nowhere h e = rw (opens img st root reads, le-ltb 92 (length bytes) h, unnamed root (entries bytes) e)
+  nowhere h e = rw (opens img st root reads, le-ltb longestPath (length bytes) h, unnamed root (entries bytes) e)
 
-  pub not-whole : length bytes ≤ 92 → (length bytes % 4 ≡ 0 → ⊥) → findRefused 7 ≡ findOf img bytes
+  pub not-whole : length bytes ≤ longestPath → (length bytes % 4 ≡ 0 → ⊥) → findRefused 7 ≡ findOf img bytes
   unfolding goal
   not-whole h e = nowhere h (ap (placeIf root) (broken bytes e))
 
-  pub there : length bytes ≤ 92 → (pos : ℕ) → goal ≡ some (placeOn pos) → foundOn pos ≡ findOf img bytes
+  pub there : length bytes ≤ longestPath → (pos : ℕ) → goal ≡ some (placeOn pos) → foundOn pos ≡ findOf img bytes
   unfolding findOf findIn goal
   there h pos e =
       let n = is-named root (entries bytes) (placeOn pos) e in
-      rw (opens img st root reads, le-ltb 92 (length bytes) h, n .0, n .1)
+      rw (opens img st root reads, le-ltb longestPath (length bytes) h, n .0, n .1)

@@ -9,6 +9,7 @@ use native.Mathlib.Nat.{sub-zero, suc-sub-suc}
 use borrow.Author.Tests.{le-ltb, ltb-true, ltb-false}
 use lib.ListN.{length}
 use lib.Dec.{ltb}
+use Rattle.model.specs.Limits.{pageSize}
 use Rattle.model.specs.Row.{Row, nil, agg, lit, rec, size, base}
 use Rattle.model.specs.Tree.{width, placeAt}
 use Rattle.read_find.specs.declared.NthNode.{NthNode}
@@ -27,7 +28,7 @@ nthOf pos (agg h cs rest) (suc k) = nthOf (pos + (6 + size cs)) rest k
 nthOf pos (lit h c rest) zero = foundAt pos
 nthOf pos (lit h c rest) (suc k) = nthOf (pos + (6 + length c)) rest k
 nthOf pos (rec p s r rest) k =
-    let inside = nthOf (4096 * p + base r) r k in
+    let inside = nthOf (pageSize * p + base r) r k in
     let beyond = nthOf (pos + 8) rest (inside .at) in
     cond (inside .found) inside beyond
 
@@ -45,7 +46,7 @@ nth-left pos (lit l c rest) zero h = absurd (omega arith)
 nth-left pos (lit l c rest) (suc k) h = rw suc-sub-suc (nth-left (pos + (6 + length c)) rest k (omega arith))
 nth-left pos (rec p s r rest) k h =
     let e : k - width r - width rest ≡ k - (width r + width rest) = omega arith in
-    rw (nth-left (4096 * p + base r) r k (omega arith), nth-left (pos + 8) rest (k - width r) (omega arith), e)
+    rw (nth-left (pageSize * p + base r) r k (omega arith), nth-left (pos + 8) rest (k - width r) (omega arith), e)
 
 -- It is found exactly if the row shows more than k.
 pub nth-found : (pos : ℕ) (row : Row) (k : ℕ) → k < width row → nthOf pos row k .found ≡ true
@@ -56,12 +57,12 @@ nth-found pos (agg l cs rest) (suc k) h = nth-found (pos + (6 + size cs)) rest k
 nth-found pos (lit l c rest) zero h = refl
 nth-found pos (lit l c rest) (suc k) h = nth-found (pos + (6 + length c)) rest k (omega arith)
 nth-found pos (rec p s r rest) k h =
-    go (ltb k (width r)) refl (nth-found (4096 * p + base r) r k) (nth-found (pos + 8) rest (k - width r))
+    go (ltb k (width r)) refl (nth-found (pageSize * p + base r) r k) (nth-found (pos + 8) rest (k - width r))
   where
-    go : (b : Bool) → ltb k (width r) ≡ b → (k < width r → nthOf (4096 * p + base r) r k .found ≡ true)
+    go : (b : Bool) → ltb k (width r) ≡ b → (k < width r → nthOf (pageSize * p + base r) r k .found ≡ true)
         → (k - width r < width rest → nthOf (pos + 8) rest (k - width r) .found ≡ true) → nthOf pos (rec p s r rest) k .found ≡ true
     go true e f g = let a = f (ltb-true k (width r) e) in ap (λ (x : NthNode). x .found) (pick-true _ _ _ a) ∙ a
-    go false e f g = let a = ltb-false k (width r) e in rw (nth-left (4096 * p + base r) r k a) (g (omega arith))
+    go false e f g = let a = ltb-false k (width r) e in rw (nth-left (pageSize * p + base r) r k a) (g (omega arith))
 
 pub nth-none : (pos : ℕ) (row : Row) (k : ℕ) → nthOf pos row k .found ≡ false → width row ≤ k
 nth-none pos row k e = go (ltb k (width row)) refl
@@ -72,13 +73,13 @@ nth-none pos row k e = go (ltb k (width row)) refl
 
 -- In a record, or behind its proxy.
 module _ (pos p : ℕ) (s : Bool) (r rest : Row) (k : ℕ) where
-  pub nth-inside : k < width r → nthOf pos (rec p s r rest) k ≡ nthOf (4096 * p + base r) r k
+  pub nth-inside : k < width r → nthOf pos (rec p s r rest) k ≡ nthOf (pageSize * p + base r) r k
   unfolding nthOf
-  nth-inside h = pick-true _ _ _ (nth-found (4096 * p + base r) r k h)
+  nth-inside h = pick-true _ _ _ (nth-found (pageSize * p + base r) r k h)
 
   pub nth-after : width r ≤ k → nthOf pos (rec p s r rest) k ≡ nthOf (pos + 8) rest (k - width r)
   unfolding nthOf
-  nth-after h = rw (nth-left (4096 * p + base r) r k h)
+  nth-after h = rw (nth-left (pageSize * p + base r) r k h)
 
 -- ── the places that paths find ──
 

@@ -6,9 +6,10 @@ use Prim.Native.Nat.{ℕ, suc, _+_, _*_, _-_, _≤_, _<_}
 use native.Mathlib.Omega.{arith}
 use lib.ListN.{length, getD}
 use lib.Dec.{eqb}
+use Rattle.model.specs.Limits.{pageSize, mostBytes}
 use Rattle.model.specs.Row.{Row, nil, agg, lit, rec, size, base}
 use Rattle.model.specs.Tree.{width}
-use Rattle.model.specs.Reading.{twoAt}
+use Rattle.model.specs.Reading.{sizeAt, nameAt, usedAt}
 use Rattle.theory_decoding.specs.Steps.{steps}
 use Rattle.theory_layout.specs.Here.{nesting, PageIn, Here, agg-view, lit-view, rec-view}
 use Rattle.theory_layout.specs.Widths.{Widths}
@@ -22,7 +23,7 @@ pub record Rowed (img : List ℕ) (pos end depth : ℕ) : Type 0 where
   pub here : Here img page pos row
   pub ends : end ≡ pos + size row
   pub deep : nesting row ≤ depth
-  pub few : steps row ≤ 4194304
+  pub few : steps row ≤ mostBytes
 
 pub width-steps : (r : Row) → width r ≤ steps r
 width-steps nil = omega arith
@@ -31,10 +32,10 @@ width-steps (lit h c rest) = omega (arith, width-steps rest)
 width-steps (rec p s r rest) = omega (arith, width-steps r, width-steps rest)
 
 -- A row is shorter than a page.
-pub short : (img : List ℕ) (pos end depth : ℕ) → Rowed img pos end depth → end - pos < 4096
+pub short : (img : List ℕ) (pos end depth : ℕ) → Rowed img pos end depth → end - pos < pageSize
 short img pos end depth w = omega (arith, w .ends, w .here .room, w .here .start)
 
-pub room : (img : List ℕ) (pos end depth : ℕ) → Rowed img pos end depth → (end + 16 ≤ length img) × (end < 4194304)
+pub room : (img : List ℕ) (pos end depth : ℕ) → Rowed img pos end depth → (end + 16 ≤ length img) × (end < mostBytes)
 room img pos end depth w =
     let h = w .here in
     let p = h .on in
@@ -42,10 +43,10 @@ room img pos end depth w =
 
 -- Where a record's row starts and ends, as it is read on its page.
 abbrev pub startOn : (img : List ℕ) → (page : ℕ) → ℕ
-startOn img p = 4096 * p + cond (eqb (getD img (4096 * p) 0) 4) 6 0
+startOn img p = pageSize * p + cond (eqb (getD img (pageSize * p) 0) 4) 6 0
 
 abbrev pub endOn : (img : List ℕ) → (page : ℕ) → ℕ
-endOn img p = 4096 * p + twoAt img (4096 * p + 4082)
+endOn img p = pageSize * p + usedAt img (pageSize * p)
 
 -- ── past a node ──
 
@@ -56,8 +57,8 @@ pub record Passed (img : List ℕ) (i end depth len : ℕ) (row : Row) : Type 0 
   pub first : foundAt i ≡ nthOf i row 0
   pub later : (k : ℕ) → nthOf (i + len) (after .row) k ≡ nthOf i row (suc k)
 
-module _ (img : List ℕ) (i end depth len : ℕ) (some : i < end) (long : len ≡ twoAt img (i + 4)) (kind : getD img i 0 ≡ 3 → ⊥) where
-  pass-row : (page : ℕ) (row : Row) → Here img page i row → end ≡ i + size row → nesting row ≤ depth → steps row ≤ 4194304 → Passed img i end depth len row
+module _ (img : List ℕ) (i end depth len : ℕ) (some : i < end) (long : len ≡ sizeAt img i) (kind : getD img i 0 ≡ 3 → ⊥) where
+  pass-row : (page : ℕ) (row : Row) → Here img page i row → end ≡ i + size row → nesting row ≤ depth → steps row ≤ mostBytes → Passed img i end depth len row
   unfolding nthOf
   pass-row page nil h e d f = absurd (omega arith)
   pass-row page (agg l cs rest) h e d f =
@@ -91,7 +92,7 @@ module _ (img : List ℕ) (i end depth len : ℕ) (some : i < end) (long : len �
 pub record Proxied (img : List ℕ) (i depth p : ℕ) : Type 0 where
   pub on : PageIn img p
   pub below : 1 ≤ depth
-  pub long : 8 ≡ twoAt img (i + 4)
+  pub long : 8 ≡ sizeAt img i
 
 -- What the row inside the record and the row behind the proxy are to the whole row.
 pub record Entered (img : List ℕ) (i end depth len p start stop : ℕ) (row : Row) : Type 0 where
@@ -107,7 +108,7 @@ module _ (img : List ℕ) (i end depth : ℕ) (some : i < end) (kind : getD img 
   never : {A : Type 0} → (k : ℕ) → getD img i 0 ≡ k → (k ≡ 3 → ⊥) → A
   never k e f = absurd (f (sym e ∙ kind))
 
-  proxy-row : (p page : ℕ) → p ≡ twoAt img (i + 6) → (row : Row) → Here img page i row → end ≡ i + size row → nesting row ≤ depth → Proxied img i depth p
+  proxy-row : (p page : ℕ) → p ≡ nameAt img i → (row : Row) → Here img page i row → end ≡ i + size row → nesting row ≤ depth → Proxied img i depth p
   proxy-row p page named nil h e d = absurd (omega arith)
   proxy-row p page named (agg l cs rest) h e d = never 1 (agg-view img page i l cs rest h .kind) (λ z. omega arith)
   proxy-row p page named (lit l c rest) h e d = never 2 (lit-view img page i l c rest h .kind) (λ z. omega arith)
@@ -115,11 +116,11 @@ module _ (img : List ℕ) (i end depth : ℕ) (some : i < end) (kind : getD img 
       let v = rec-view img page i q s r rest h in
       record { on = subst (PageIn img) (sym (named ∙ v .name)) (v .under .here .on); below = omega arith; long = sym (v .long) }
 
-  pub proxied : (p : ℕ) → p ≡ twoAt img (i + 6) → Rowed img i end depth → Proxied img i depth p
+  pub proxied : (p : ℕ) → p ≡ nameAt img i → Rowed img i end depth → Proxied img i depth p
   proxied p named w = proxy-row p (w .page) named (w .row) (w .here) (w .ends) (w .deep)
 
-  module _ (len p start stop : ℕ) (long : len ≡ twoAt img (i + 4)) (named : p ≡ twoAt img (i + 6)) (starts : start ≡ startOn img p) (stops : stop ≡ endOn img p) where
-    enter-row : (page : ℕ) (row : Row) → Here img page i row → end ≡ i + size row → nesting row ≤ depth → steps row ≤ 4194304 → Entered img i end depth len p start stop row
+  module _ (len p start stop : ℕ) (long : len ≡ sizeAt img i) (named : p ≡ nameAt img i) (starts : start ≡ startOn img p) (stops : stop ≡ endOn img p) where
+    enter-row : (page : ℕ) (row : Row) → Here img page i row → end ≡ i + size row → nesting row ≤ depth → steps row ≤ mostBytes → Entered img i end depth len p start stop row
     enter-row page nil h e d f = absurd (omega arith)
     enter-row page (agg l cs rest) h e d f = never 1 (agg-view img page i l cs rest h .kind) (λ z. omega arith)
     enter-row page (lit l c rest) h e d f = never 2 (lit-view img page i l c rest h .kind) (λ z. omega arith)
@@ -128,8 +129,8 @@ module _ (img : List ℕ) (i end depth : ℕ) (some : i < end) (kind : getD img 
         let u = v .under in
         let same : p ≡ q = named ∙ v .name in
         let z : i + 8 ≡ i + len = omega (arith, v .long) in
-        let a : start ≡ 4096 * q + base r = starts ∙ ap (startOn img) same ∙ ap (λ (n : ℕ). 4096 * q + n) (u .first) in
-        let b : stop ≡ 4096 * q + (base r + size r) = stops ∙ ap (endOn img) same ∙ ap (λ (n : ℕ). 4096 * q + n) (u .used) in
+        let a : start ≡ pageSize * q + base r = starts ∙ ap (startOn img) same ∙ ap (λ (n : ℕ). pageSize * q + n) (u .first) in
+        let b : stop ≡ pageSize * q + (base r + size r) = stops ∙ ap (endOn img) same ∙ ap (λ (n : ℕ). pageSize * q + n) (u .used) in
         record {
           more = omega (arith, v .long);
           inside = record { page = q; row = r; here = subst (λ (n : ℕ). Here img q n r) (sym a) (u .here); ends = omega arith; deep = omega arith; few = omega arith };

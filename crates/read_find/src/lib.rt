@@ -1,12 +1,13 @@
 // Down the tree of an image that passes the check: how many nodes a row shows, the k-th of them, and the node that a path names.
+use base_numbers::two;
 use model::FindAnswer;
 use model::Place;
-use base_numbers::two;
 ghost use mathlib.Core.Path.{_≡_};
 ghost use mathlib.Core.Bool.{cond};
 ghost use Prim.Native.Nat.{_+_, _*_, _<_};
 ghost use lib.ListN.{length, getD};
 ghost use lib.Dec.{eqb};
+ghost use Rattle.model.specs.Limits.{mostPages, pageSize};
 ghost use Rattle.model.specs.Reading.{twoAt};
 ghost use Rattle.model.specs.Tree as tree;
 ghost use Rattle.model.specs.Answers.{findRefused};
@@ -21,7 +22,7 @@ ghost use Rattle.read_find.specs.Find.{foundOn};
 // Where the row of the record on page p starts: past the helper's header, if there is a helper.
 pub fn row_start(image: &[u8], p: usize) -> usize
     requires { ⌜ PageIn (now image) p ⌝ }
-    ensures { λ r. ⌜ r ≡ 4096 * p + cond (eqb (getD (now (image .entry)) (4096 * p) 0) 4) 6 0 ⌝ }
+    ensures { λ r. ⌜ r ≡ pageSize * p + cond (eqb (getD (now (image .entry)) (pageSize * p) 0) 4) 6 0 ⌝ }
 {
     let a = 4096 * p;
     if image[a] == 4 { a + 6 } else { a }
@@ -30,7 +31,7 @@ pub fn row_start(image: &[u8], p: usize) -> usize
 // Where it ends.
 pub fn row_end(image: &[u8], p: usize) -> usize
     requires { ⌜ PageIn (now image) p ⌝ }
-    ensures { λ r. ⌜ r ≡ 4096 * p + twoAt (now (image .entry)) (4096 * p + 4082) ⌝ }
+    ensures { λ r. ⌜ r ≡ pageSize * p + twoAt (now (image .entry)) (pageSize * p + 4082) ⌝ }
 {
     let a = 4096 * p;
     a + two(image, a + 4082)
@@ -38,8 +39,8 @@ pub fn row_end(image: &[u8], p: usize) -> usize
 
 // How many nodes the row from pos to end shows. `widths` has how many each record shows.
 pub fn width(image: &[u8], widths: &[u32; 1024], pos: usize, end: usize) -> usize
-    requires { ⌜ Rowed (now image) pos end 1024 × Widths (now image) (now widths) ⌝ }
-    ensures { λ r. ⌜ ((w : Rowed (now (image .entry)) pos end 1024) → r ≡ tree.width (w .row)) ⌝ }
+    requires { ⌜ Rowed (now image) pos end mostPages × Widths (now image) (now widths) ⌝ }
+    ensures { λ r. ⌜ ((w : Rowed (now (image .entry)) pos end mostPages) → r ≡ tree.width (w .row)) ⌝ }
 {
     let mut n = 0;
     let mut i = pos;

@@ -8,8 +8,9 @@ use Prim.Native.Nat.{ℕ, suc, _+_, _*_, _-_, _/_, _%_, _≤_, _<_}
 use native.Mathlib.Omega.{arith}
 use lib.ListN.{length, getD}
 use lib.Dec.{eqb}
+use Rattle.model.specs.Limits.{mostPages, pageSize, mostBytes}
 use Rattle.model.specs.Row.{Row, nil, agg, lit, rec, size, base, Config}
-use Rattle.model.specs.Reading.{Reads, twoAt}
+use Rattle.model.specs.Reading.{Reads, nameAt, usedAt, backAt}
 use Rattle.model.specs.Tree.{Node, shown, nodes, placeOf}
 use Rattle.model.specs.Answers.{nextRefused}
 use Rattle.model.specs.Calls.{checkOf, nextOf, kindOf}
@@ -33,7 +34,7 @@ pub record Going (img : List ℕ) (pos page n : ℕ) : Type 0 where
   pub split : all on ≡ left ++ right
   pub flat : Flat img page n (close on) right
   pub seen : List ℕ
-  pub order : spots (4096 + base (on .root)) (on .root) ≡ seen ++ pos ∷ (expand right ++ on .after)
+  pub order : spots (pageSize + base (on .root)) (on .root) ≡ seen ++ pos ∷ (expand right ++ on .after)
 
 -- No node comes after the one at pos.
 pub record Last (img : List ℕ) (pos : ℕ) : Type 0 where
@@ -41,7 +42,7 @@ pub record Last (img : List ℕ) (pos : ℕ) : Type 0 where
   pub root : Row
   pub reads : Reads img settings root
   pub seen : List ℕ
-  pub order : spots (4096 + base root) root ≡ seen ++ pos ∷ []
+  pub order : spots (pageSize + base root) root ≡ seen ++ pos ∷ []
 
 -- The node at n comes after the one at pos.
 pub record Follows (img : List ℕ) (pos n : ℕ) : Type 0 where
@@ -50,7 +51,7 @@ pub record Follows (img : List ℕ) (pos n : ℕ) : Type 0 where
   pub reads : Reads img settings root
   pub seen : List ℕ
   pub later : List ℕ
-  pub order : spots (4096 + base root) root ≡ seen ++ pos ∷ n ∷ later
+  pub order : spots (pageSize + base root) root ≡ seen ++ pos ∷ n ∷ later
 
 -- The item at n comes after the node at pos: a node, or a proxy for those in its record.
 pub record Ahead (img : List ℕ) (pos n : ℕ) : Type 0 where
@@ -62,7 +63,7 @@ pub record Ahead (img : List ℕ) (pos n : ℕ) : Type 0 where
   pub split : all on ≡ left ++ first ∷ right
   pub flat : Flat img page n (close on) (first ∷ right)
   pub seen : List ℕ
-  pub order : spots (4096 + base (on .root)) (on .root) ≡ seen ++ pos ∷ (expand (first ∷ right) ++ on .after)
+  pub order : spots (pageSize + base (on .root)) (on .root) ≡ seen ++ pos ∷ (expand (first ∷ right) ++ on .after)
 
 -- ── up ──
 
@@ -80,9 +81,9 @@ pub node-head : {img : List ℕ} {pos : ℕ} (a : NodeAt img pos) → Head img (
 node-head {img} {pos} a =
     let s = a .spot in
     head-of img (s .page) pos (node pos)
-    (item-at img (s .page) (4096 * s .page + base (s .row)) (s .row) (in-page img (a .settings) (a .root) (a .reads) (s .within) .here) (s .left) (s .right) (node pos) (s .split) .0)
+    (item-at img (s .page) (pageSize * s .page + base (s .row)) (s .row) (in-page img (a .settings) (a .root) (a .reads) (s .within) .here) (s .left) (s .right) (node pos) (s .split) .0)
 
-pub climb-start : {img : List ℕ} {pos : ℕ} (a : NodeAt img pos) (page n : ℕ) → page ≡ pos / 4096 → n ≡ step img pos → Climb img pos page n 1024
+pub climb-start : {img : List ℕ} {pos : ℕ} (a : NodeAt img pos) (page n : ℕ) → page ≡ pos / pageSize → n ≡ step img pos → Climb img pos page n mostPages
 climb-start {img} {pos} a page n p e =
     let s = a .spot in
     let st = a .settings in
@@ -91,7 +92,7 @@ climb-start {img} {pos} a page n p e =
     let h = spot-header img st root r pos s in
     let same : s .page ≡ page = omega (arith, h .low, h .room) in
     let on : OnRecord img (s .page) = record { settings = st; root = root; reads = r; holder = s .holder; row = s .row; before = s .before; after = s .after; depth = s .depth; within = s .within } in
-    let f = item-at img (s .page) (4096 * s .page + base (s .row)) (s .row) (in-page img st root r (s .within) .here) (s .left) (s .right) (node pos) (s .split) .1 in
+    let f = item-at img (s .page) (pageSize * s .page + base (s .row)) (s .row) (in-page img st root r (s .within) .here) (s .left) (s .right) (node pos) (s .split) .1 in
     let g : Going img pos (s .page) n = record {
       on = on;
       left = s .left ++ node pos ∷ [];
@@ -101,27 +102,27 @@ climb-start {img} {pos} a page n p e =
       seen = s .before ++ expand (s .left);
       order = spot-split s;
     } in
-    subst (λ (q : ℕ). Climb img pos q n 1024) same (record { going = g; deep = in-deep img st root r (s .within) })
+    subst (λ (q : ℕ). Climb img pos q n mostPages) same (record { going = g; deep = in-deep img st root r (s .within) })
 
 module _ {img : List ℕ} {pos page n left : ℕ} (c : Climb img pos page n left) where
   -- Where the record's end is not reached, an item comes next,
-  pub climb-ahead : (n ≡ 4096 * page + twoAt img (4096 * page + 4082) → ⊥) → Ahead img pos n
+  pub climb-ahead : (n ≡ pageSize * page + usedAt img (pageSize * page) → ⊥) → Ahead img pos n
   climb-ahead f = go (c .going .right) (c .going .split) (c .going .flat) (c .going .order)
     where
       on : OnRecord img page
       on = c .going .on
 
-      go : (right : List Item) → all on ≡ c .going .left ++ right → Flat img page n (close on) right → spots (4096 + base (on .root)) (on .root) ≡ c .going .seen ++ pos ∷ (expand right ++ on .after) → Ahead img pos n
+      go : (right : List Item) → all on ≡ c .going .left ++ right → Flat img page n (close on) right → spots (pageSize + base (on .root)) (on .root) ≡ c .going .seen ++ pos ∷ (expand right ++ on .after) → Ahead img pos n
       go [] q g o = absurd (f (g ∙ sym (known on .end)))
       go (i ∷ right) q g o = record { page = page; on = on; first = i; left = c .going .left; right = right; split = q; flat = g; seen = c .going .seen; order = o }
 
-  none-right : n ≡ 4096 * page + twoAt img (4096 * page + 4082) → c .going .right ≡ []
+  none-right : n ≡ pageSize * page + usedAt img (pageSize * page) → c .going .right ≡ []
   none-right e =
       let on = c .going .on in
       flat-end img page (c .going .right) n (close on) (c .going .flat) (omega (arith, known on .end))
 
   -- at the end of page 1's record nothing does,
-  pub climb-last : n ≡ 4096 * page + twoAt img (4096 * page + 4082) → page ≡ 1 → Last img pos
+  pub climb-last : n ≡ pageSize * page + usedAt img (pageSize * page) → page ≡ 1 → Last img pos
   climb-last e p =
       let on = c .going .on in
       let a = last-page img (on .settings) (on .root) (on .reads) (on .within) p in
@@ -130,24 +131,24 @@ module _ {img : List ℕ} {pos page n left : ℕ} (c : Climb img pos page n left
 -- and at the end of another's it goes on behind its proxy.
 pub record Above (img : List ℕ) (pos page n left : ℕ) : Type 0 where
   pub holder : ℕ
-  pub back : twoAt img (4096 * page + 4084) ≡ holder
+  pub back : backAt img (pageSize * page) ≡ holder
   pub held : HeldBy img holder page
-  pub small : held .pos < 4194304
+  pub small : held .pos < mostBytes
   pub some : 1 ≤ left
   pub up : (m : ℕ) → m ≡ held .pos + 8 → (l : ℕ) → l ≡ left - 1 → Climb img pos holder m l
 
-pub climb-above : {img : List ℕ} {pos page n left : ℕ} (c : Climb img pos page n left) → n ≡ 4096 * page + twoAt img (4096 * page + 4082) → (page ≡ 1 → ⊥) → Above img pos page n left
+pub climb-above : {img : List ℕ} {pos page n left : ℕ} (c : Climb img pos page n left) → n ≡ pageSize * page + usedAt img (pageSize * page) → (page ≡ 1 → ⊥) → Above img pos page n left
 climb-above {img} {pos} {page} {n} {left} c e f =
     let on = c .going .on in
     go (on .settings) (on .root) (on .reads) (on .within) (view on .back) (c .deep) (c .going .seen)
     (c .going .order ∙ ap (λ (l : List Item). c .going .seen ++ pos ∷ (expand l ++ on .after)) (none-right c e)) f
   where
     go : (st : Config) (root : Row) (r : Reads img st root) {q holder : ℕ} {row : Row} {before after : List ℕ} {d : ℕ} → In root q holder row before after d
-        → twoAt img (4096 * q + 4084) ≡ holder → d ≤ left → (seen : List ℕ) → spots (4096 + base root) root ≡ seen ++ pos ∷ after → (q ≡ 1 → ⊥) → Above img pos q n left
+        → backAt img (pageSize * q) ≡ holder → d ≤ left → (seen : List ℕ) → spots (pageSize + base root) root ≡ seen ++ pos ∷ after → (q ≡ 1 → ⊥) → Above img pos q n left
     go st root r top b k seen o f = absurd (f refl)
     go st root r (sub {page = page} {holder = over} {row = row} {before = before} {after = after} {depth = d} w xs ys at p x e) b k seen o f =
         let on : OnRecord img page = record { settings = st; root = root; reads = r; holder = over; row = row; before = before; after = after; depth = d; within = w } in
-        let i = item-at img page (4096 * page + base row) row (view on .here) xs ys (proxy at p x) e in
+        let i = item-at img page (pageSize * page + base row) row (view on .here) xs ys (proxy at p x) e in
         let y = proxy-of img page at at p x (i .0) in
         let h = head-of img page at (proxy at p x) (i .0) in
         record {
@@ -171,7 +172,7 @@ climb-above {img} {pos} {page} {n} {left} c e f =
         }
 
 -- The same, as the code finds it: h is the page in the back link, and p where the proxy is found.
-module _ {img : List ℕ} {pos page n left : ℕ} (c : Climb img pos page n left) (e : n ≡ 4096 * page + twoAt img (4096 * page + 4082)) (f : page ≡ 1 → ⊥) (h : ℕ) (b : h ≡ twoAt img (4096 * page + 4084)) where
+module _ {img : List ℕ} {pos page n left : ℕ} (c : Climb img pos page n left) (e : n ≡ pageSize * page + usedAt img (pageSize * page)) (f : page ≡ 1 → ⊥) (h : ℕ) (b : h ≡ backAt img (pageSize * page)) where
   above : Above img pos page n left
   above = climb-above c e f
 
@@ -188,7 +189,7 @@ module _ {img : List ℕ} {pos page n left : ℕ} (c : Climb img pos page n left
     its-proxy : p ≡ above .held .pos
     its-proxy = subst (λ (q : ℕ). ((w : HeldBy img q page) → p ≡ w .pos) → p ≡ above .held .pos) its-holder (λ g. g (above .held)) at
 
-    pub climb-small : p < 4194304
+    pub climb-small : p < mostBytes
     climb-small = rw its-proxy (above .small)
 
     pub climb-up : (m l : ℕ) → m ≡ p + 8 → l ≡ left - 1 → Climb img pos h m l
@@ -198,7 +199,7 @@ module _ {img : List ℕ} {pos page n left : ℕ} (c : Climb img pos page n left
 
 pub record Enter (img : List ℕ) (pos n left : ℕ) : Type 0 where
   pub ahead : Ahead img pos n
-  pub deep : 1024 ≤ ahead .on .depth + left
+  pub deep : mostPages ≤ ahead .on .depth + left
 
 pub ahead-head : {img : List ℕ} {pos n : ℕ} (a : Ahead img pos n) → Head img (a .page) n
 ahead-head {img} {pos} {n} a = head-of img (a .page) n (a .first) (a .flat .0)
@@ -221,10 +222,10 @@ ahead-node {img} {pos} {n} a f = go (which img (a .page) n (a .first) (a .flat .
 -- A proxy's nodes are those of its record.
 pub record Under (img : List ℕ) (pos n left : ℕ) : Type 0 where
   pub page : ℕ
-  pub name : twoAt img (n + 6) ≡ page
+  pub name : nameAt img n ≡ page
   pub on : PageIn img page
   pub some : 1 ≤ left
-  pub down : (m : ℕ) → m ≡ 4096 * page + cond (eqb (getD img (4096 * page) 0) 4) 6 0 → (l : ℕ) → l ≡ left - 1 → Enter img pos m l
+  pub down : (m : ℕ) → m ≡ pageSize * page + cond (eqb (getD img (pageSize * page) 0) 4) 6 0 → (l : ℕ) → l ≡ left - 1 → Enter img pos m l
 
 -- a row that is not empty has a first item
 first-of : (pos : ℕ) (row : Row) → 1 ≤ size row → (i : Item) × (is : List Item) × (items pos row ≡ i ∷ is)
@@ -264,8 +265,8 @@ enter-under {img} {pos} {n} {left} c k = go (which img (a .page) n (a .first) (a
           depth = suc (on .depth);
           within = w;
         } in
-        let f = first-of (4096 * p + base r) r (y .some) in
-        let shown-all : spots (4096 * p + base r) r ≡ expand (f .0 ∷ f .1) = sym (expand-items (4096 * p + base r) r) ∙ ap expand (f .2) in
+        let f = first-of (pageSize * p + base r) r (y .some) in
+        let shown-all : spots (pageSize * p + base r) r ≡ expand (f .0 ∷ f .1) = sym (expand-items (pageSize * p + base r) r) ∙ ap expand (f .2) in
         let deep = in-deep img (on .settings) (on .root) (on .reads) w in
         record {
           page = p;
@@ -280,10 +281,10 @@ enter-under {img} {pos} {n} {left} c k = go (which img (a .page) n (a .first) (a
               left = [];
               right = f .1;
               split = f .2;
-              flat = subst (λ (k : ℕ). Flat img p k (close new) (f .0 ∷ f .1)) (sym (e ∙ known new .start)) (subst (Flat img p (4096 * p + base r) (close new)) (f .2) (flat-all new));
+              flat = subst (λ (k : ℕ). Flat img p k (close new) (f .0 ∷ f .1)) (sym (e ∙ known new .start)) (subst (Flat img p (pageSize * p + base r) (close new)) (f .2) (flat-all new));
               seen = a .seen;
               order = a .order ∙ ap (λ (i : Item). a .seen ++ pos ∷ (expand (i ∷ a .right) ++ on .after)) (q .2)
-                  ∙ ap (λ (k : List ℕ). a .seen ++ pos ∷ k) (append-assoc (spots (4096 * p + base r) r) (expand (a .right)) (on .after) ∙ ap (λ (k : List ℕ). k ++ (expand (a .right) ++ on .after)) shown-all);
+                  ∙ ap (λ (k : List ℕ). a .seen ++ pos ∷ k) (append-assoc (spots (pageSize * p + base r) r) (expand (a .right)) (on .after) ∙ ap (λ (k : List ℕ). k ++ (expand (a .right) ++ on .after)) shown-all);
             };
             deep = omega (arith, c .deep);
           };
@@ -293,7 +294,7 @@ pub ahead-low : {img : List ℕ} {pos n : ℕ} → Ahead img pos n → 1 ≤ n
 ahead-low a = omega (arith, ahead-head a .low, known (a .on) .on .low)
 
 -- The same, as the code finds it: q is the page that the proxy names.
-module _ {img : List ℕ} {pos n left : ℕ} (c : Enter img pos n left) (k : getD img n 0 ≡ 3) (q : ℕ) (e : q ≡ twoAt img (n + 6)) where
+module _ {img : List ℕ} {pos n left : ℕ} (c : Enter img pos n left) (k : getD img n 0 ≡ 3) (q : ℕ) (e : q ≡ nameAt img n) where
   under : Under img pos n left
   under = enter-under c k
 
@@ -306,8 +307,8 @@ module _ {img : List ℕ} {pos n left : ℕ} (c : Enter img pos n left) (k : get
   pub enter-some : 1 ≤ left
   enter-some = under .some
 
-  pub enter-down : (m l : ℕ) → m ≡ 4096 * q + cond (eqb (getD img (4096 * q) 0) 4) 6 0 → l ≡ left - 1 → Enter img pos m l
-  enter-down m l = subst (λ (q : ℕ). m ≡ 4096 * q + cond (eqb (getD img (4096 * q) 0) 4) 6 0 → l ≡ left - 1 → Enter img pos m l) its-page (λ u v. under .down m u l v)
+  pub enter-down : (m l : ℕ) → m ≡ pageSize * q + cond (eqb (getD img (pageSize * q) 0) 4) 6 0 → l ≡ left - 1 → Enter img pos m l
+  enter-down m l = subst (λ (q : ℕ). m ≡ pageSize * q + cond (eqb (getD img (pageSize * q) 0) 4) 6 0 → l ≡ left - 1 → Enter img pos m l) its-page (λ u v. under .down m u l v)
 
 -- ── the answers ──
 
@@ -320,8 +321,8 @@ module _ (img : List ℕ) (x : Place) (pos : ℕ) (a : NodeOf img (x .page) (x .
   -- A node at the position has the place.
   pub its-place : (st : Config) (root : Row) → Reads img st root → (n : Node) → PlacedAt root n pos → placeOf root (n .path) ≡ some x
   its-place st root r n p =
-      let b : pos / 4096 ≡ x .page = omega (arith, a .is, a .short) in
-      let c : pos % 4096 ≡ x .offset = omega (arith, a .is, a .short) in
+      let b : pos / pageSize ≡ x .page = omega (arith, a .is, a .short) in
+      let c : pos % pageSize ≡ x .offset = omega (arith, a .is, a .short) in
       place-at img st root r n pos p ∙ (λ j. some (record { page = b j; offset = c j }))
 
   pub answer-end : Last img pos → nextOf img x ≡ record { number = 0; next = next-is.End }
@@ -335,13 +336,13 @@ module _ (img : List ℕ) (x : Place) (pos : ℕ) (a : NodeOf img (x .page) (x .
       go xs (n ∷ m ∷ ys) e b = absurd (b .1)
 
   pub answer-node : (n : ℕ) → Follows img pos n
-      → nextOf img x ≡ record { number = 0; next = next-is.Node (record { place = record { page = n / 4096; offset = n % 4096 }; kind = kindOf (getD img n 0) }) }
+      → nextOf img x ≡ record { number = 0; next = next-is.Node (record { place = record { page = n / pageSize; offset = n % pageSize }; kind = kindOf (getD img n 0) }) }
   answer-node n l =
       let s = nodes-split img (l .settings) (l .root) (l .reads) (l .seen) (pos ∷ n ∷ l .later) (l .order) in
       go (s .0) (s .1) (s .2) (s .3)
     where
       go : (xs ys : List Node) → nodes (shown (l .root)) ≡ xs ++ ys → All (Both img (l .root)) ys (pos ∷ n ∷ l .later)
-          → nextOf img x ≡ record { number = 0; next = next-is.Node (record { place = record { page = n / 4096; offset = n % 4096 }; kind = kindOf (getD img n 0) }) }
+          → nextOf img x ≡ record { number = 0; next = next-is.Node (record { place = record { page = n / pageSize; offset = n % pageSize }; kind = kindOf (getD img n 0) }) }
       go xs [] e b = absurd b
       go xs (k ∷ []) e b = absurd (b .1)
       go xs (k ∷ m ∷ ys) e b =
@@ -357,11 +358,11 @@ answer-stray img x r z l e =
 -- A node that follows is in the image.
 pub follows-inside : {img : List ℕ} {pos n : ℕ} → Follows img pos n → n < length img
 follows-inside {img} {pos} {n} l =
-    let m = split-mem n (spots (4096 + base (l .root)) (l .root)) (l .seen ++ pos ∷ []) (l .later) (l .order ∙ sym (append-assoc (l .seen) (pos ∷ []) (n ∷ l .later))) in
+    let m = split-mem n (spots (pageSize + base (l .root)) (l .root)) (l .seen ++ pos ∷ []) (l .later) (l .order ∙ sym (append-assoc (l .seen) (pos ∷ []) (n ∷ l .later))) in
     let h = spot-header img (l .settings) (l .root) (l .reads) n (spot-of (l .root) n m) in
     omega (arith, h .room, h .on .inside)
 
 -- The answer with the kind that is read.
 pub answer-kind : (img : List ℕ) (x : Place) (pos n : ℕ) (k : Kind) → NodeOf img (x .page) (x .offset) pos → Follows img pos n → k ≡ kindOf (getD img n 0)
-    → record { number = 0; next = next-is.Node (record { place = record { page = n / 4096; offset = n % 4096 }; kind = k }) } ≡ nextOf img x
+    → record { number = 0; next = next-is.Node (record { place = record { page = n / pageSize; offset = n % pageSize }; kind = k }) } ≡ nextOf img x
 answer-kind img x pos n k a f e = rw e (sym (answer-node img x pos a n f))

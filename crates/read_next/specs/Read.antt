@@ -7,8 +7,9 @@ use Prim.Native.Nat.{ℕ, _+_, _-_, _≤_}
 use native.Mathlib.Omega.{arith}
 use lib.ListN.{length, getD}
 use lib.Dec.{eqb}
+use Rattle.model.specs.Limits.{mostPages, mostBytes}
 use Rattle.model.specs.Row.{Row, nil, agg, lit, rec, size, Config}
-use Rattle.model.specs.Reading.{Reads, twoAt}
+use Rattle.model.specs.Reading.{Reads, twoAt, sizeAt}
 use Rattle.model.specs.Tree.{Node, shown, nodes, placeOf, fromPlace, width}
 use Rattle.model.specs.Answers.{readRefused}
 use Rattle.model.specs.Calls.{checkOf, readOf, readIn, asRead}
@@ -76,18 +77,18 @@ abbrev pub aggRead : (img : List ℕ) (pos : ℕ) → Row → ReadNode
 aggRead img pos row = record { number = 0; kind = 1; label = twoAt img (pos + 2); children = width row; start = 0; len = 0 }
 
 abbrev pub litRead : (img : List ℕ) (pos : ℕ) → ReadNode
-litRead img pos = record { number = 0; kind = 2; label = twoAt img (pos + 2); children = 0; start = cond (eqb (twoAt img (pos + 4) - 6) 0) 0 (pos + 6); len = twoAt img (pos + 4) - 6 }
+litRead img pos = record { number = 0; kind = 2; label = twoAt img (pos + 2); children = 0; start = cond (eqb (sizeAt img pos - 6) 0) 0 (pos + 6); len = sizeAt img pos - 6 }
 
 -- The row of an aggregate's children.
 abbrev pub Inner : (img : List ℕ) (pos : ℕ) → Type 0
-Inner img pos = Rowed img (pos + 6) (pos + twoAt img (pos + 4)) 1024
+Inner img pos = Rowed img (pos + 6) (pos + sizeAt img pos) mostPages
 
 pub record AggTold (img : List ℕ) (x : Place) (pos : ℕ) : Type 0 where
   pub inner : Inner img pos
   pub is : aggRead img pos (inner .row) ≡ readOf img x
 
 pub record LitTold (img : List ℕ) (x : Place) (pos : ℕ) : Type 0 where
-  pub long : 6 ≤ twoAt img (pos + 4)
+  pub long : 6 ≤ sizeAt img pos
   pub is : litRead img pos ≡ readOf img x
 
 module _ (img : List ℕ) (x : Place) (pos : ℕ) (a : NodeOf img (x .page) (x .offset) pos) where
@@ -97,7 +98,7 @@ module _ (img : List ℕ) (x : Place) (pos : ℕ) (a : NodeOf img (x .page) (x .
   pub agg-told : getD img pos 0 ≡ 1 → AggTold img x pos
   agg-told k = go (t .read .row) (t .read .here) (t .read .leads) (t .read .deep) (t .read .few)
     where
-      go : (row : Row) → Here img (t .read .page) pos row → Leads row (t .node) → nesting row ≤ 1024 → steps row ≤ 4194304 → AggTold img x pos
+      go : (row : Row) → Here img (t .read .page) pos row → Leads row (t .node) → nesting row ≤ mostPages → steps row ≤ mostBytes → AggTold img x pos
       go nil v l d f = absurd l
       go (agg h cs rest) v l d f =
           let w = agg-view img (t .read .page) pos h cs rest v in
@@ -124,10 +125,10 @@ module _ (img : List ℕ) (x : Place) (pos : ℕ) (a : NodeOf img (x .page) (x .
       go (rec p s r rest) v l = absurd l
 
 -- The children's row, with an end that is read.
-abbrev pub inner-to : (img : List ℕ) (pos end : ℕ) → end ≡ pos + twoAt img (pos + 4) → Inner img pos → Rowed img (pos + 6) end 1024
+abbrev pub inner-to : (img : List ℕ) (pos end : ℕ) → end ≡ pos + sizeAt img pos → Inner img pos → Rowed img (pos + 6) end mostPages
 inner-to img pos end e w = record { page = w .page; row = w .row; here = w .here; ends = e ∙ w .ends; deep = w .deep; few = w .few }
 
-pub inner-few : (img : List ℕ) (pos : ℕ) (w : Inner img pos) → width (w .row) ≤ 4194304
+pub inner-few : (img : List ℕ) (pos : ℕ) (w : Inner img pos) → width (w .row) ≤ mostBytes
 inner-few img pos w = omega (arith, width-steps (w .row), w .few)
 
 -- The answers with the numbers that are read.
@@ -135,6 +136,6 @@ pub agg-is : (img : List ℕ) (pos label n : ℕ) (row : Row) → label ≡ twoA
     → record { number = 0; kind = 1; label = label; children = n; start = 0; len = 0 } ≡ aggRead img pos row
 agg-is img pos label n row e f = rw (e, f)
 
-pub lit-is : (img : List ℕ) (pos label size start : ℕ) → label ≡ twoAt img (pos + 2) → size ≡ twoAt img (pos + 4) → start ≡ cond (eqb (size - 6) 0) 0 (pos + 6)
+pub lit-is : (img : List ℕ) (pos label size start : ℕ) → label ≡ twoAt img (pos + 2) → size ≡ sizeAt img pos → start ≡ cond (eqb (size - 6) 0) 0 (pos + 6)
     → record { number = 0; kind = 2; label = label; children = 0; start = start; len = size - 6 } ≡ litRead img pos
 lit-is img pos label size start e f g = rw (e, g, f)

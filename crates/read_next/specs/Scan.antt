@@ -9,8 +9,9 @@ use native.Mathlib.Omega.{arith}
 use borrow.Author.Tests.{eqb-true, eq-eqb, ne-eqb}
 use lib.ListN.{length, getD}
 use lib.Dec.{eqb}
+use Rattle.model.specs.Limits.{mostPages, pageSize, capacity, mostBytes}
 use Rattle.model.specs.Row.{Row, size, base, recordSize, Config}
-use Rattle.model.specs.Reading.{Reads, twoAt}
+use Rattle.model.specs.Reading.{Reads, sizeAt, nameAt, usedAt, stateAt}
 use Rattle.model.specs.Calls.{checkOf}
 use Rattle.model.specs.Tree.{Node, shown, nodes, placeOf}
 use Rattle.model.specs.declared.Place.{Place}
@@ -43,33 +44,33 @@ module _ {img : List ℕ} {page : ℕ} (w : OnRecord img page) where
   -- What is known of the page's numbers.
   pub record Known : Type 0 where
     pub on : PageIn img page
-    pub start : 4096 * page + cond (eqb (getD img (4096 * page) 0) 4) 6 0 ≡ 4096 * page + base (w .row)
-    pub end : 4096 * page + twoAt img (4096 * page + 4082) ≡ 4096 * page + base (w .row) + size (w .row)
+    pub start : pageSize * page + cond (eqb (getD img (pageSize * page) 0) 4) 6 0 ≡ pageSize * page + base (w .row)
+    pub end : pageSize * page + usedAt img (pageSize * page) ≡ pageSize * page + base (w .row) + size (w .row)
 
   pub known : Known
   known = record {
     on = view .here .on;
-    start = ap (λ (n : ℕ). 4096 * page + n) (view .first);
+    start = ap (λ (n : ℕ). pageSize * page + n) (view .first);
     end = omega (arith, view .used);
   }
 
   -- The record's items, and where they end.
   abbrev pub all : List Item
-  all = items (4096 * page + base (w .row)) (w .row)
+  all = items (pageSize * page + base (w .row)) (w .row)
 
   abbrev pub close : ℕ
-  close = 4096 * page + base (w .row) + size (w .row)
+  close = pageSize * page + base (w .row) + size (w .row)
 
-  pub flat-all : Flat img page (4096 * page + base (w .row)) close all
-  flat-all = flat-row img page (4096 * page + base (w .row)) (w .row) (view .here)
+  pub flat-all : Flat img page (pageSize * page + base (w .row)) close all
+  flat-all = flat-row img page (pageSize * page + base (w .row)) (w .row) (view .here)
 
 -- What is read where a header stands.
 pub record Head (img : List ℕ) (page pos : ℕ) : Type 0 where
-  pub low : 4096 * page ≤ pos
+  pub low : pageSize * page ≤ pos
   pub inside : pos + 16 < length img
-  pub small : pos < 4194304
+  pub small : pos < mostBytes
   pub further : pos + 6 ≤ step img pos
-  pub within : step img pos ≤ 4096 * page + 4080
+  pub within : step img pos ≤ pageSize * page + capacity
 
 pub head-of : (img : List ℕ) (page pos : ℕ) (i : Item) → Stood img page pos i → Head img page pos
 head-of img page pos i s =
@@ -92,9 +93,9 @@ pub record Scan (img : List ℕ) (page : ℕ) (w : OnRecord img page) (target po
   pub from : List·Memᴰ (node target) ahead → List·Memᴰ (node target) (all w)
 
 module _ {img : List ℕ} {page : ℕ} (w : OnRecord img page) (target : ℕ) where
-  pub scan-start : (pos : ℕ) → pos ≡ 4096 * page + cond (eqb (getD img (4096 * page) 0) 4) 6 0 → Scan img page w target pos
+  pub scan-start : (pos : ℕ) → pos ≡ pageSize * page + cond (eqb (getD img (pageSize * page) 0) 4) 6 0 → Scan img page w target pos
   scan-start pos e =
-      let z : 4096 * page + base (w .row) ≡ pos = sym (e ∙ known w .start) in
+      let z : pageSize * page + base (w .row) ≡ pos = sym (e ∙ known w .start) in
       record { ahead = all w; flat = subst (λ (n : ℕ). Flat img page n (close w) (all w)) z (flat-all w); keeps = λ m. m; from = λ m. m }
 
   -- Before the record's end a header stands.
@@ -166,8 +167,8 @@ pub record NodeAt (img : List ℕ) (pos : ℕ) : Type 0 where
 
 -- The node of a place.
 pub record NodeOf (img : List ℕ) (page offset pos : ℕ) : Type 0 where
-  pub is : pos ≡ 4096 * page + offset
-  pub short : offset < 4096
+  pub is : pos ≡ pageSize * page + offset
+  pub short : offset < pageSize
   pub node : NodeAt img pos
 
 -- Where the node of a place stands, or 0.
@@ -180,8 +181,8 @@ pub record Store (img : List ℕ) : Type 0 where
   pub settings : Config
   pub root : Row
   pub reads : Reads img settings root
-  pub long : length img ≡ 4096 * settings .pages
-  pub many : settings .pages ≤ 1024
+  pub long : length img ≡ pageSize * settings .pages
+  pub many : settings .pages ≤ mostPages
 
 pub store-of : (img : List ℕ) → checkOf img ≡ 0 → Store img
 store-of img z =
@@ -205,17 +206,17 @@ module _ (img : List ℕ) (page offset : ℕ) where
   pub no-page : page ≡ 0 → Located img page offset 0
   no-page e = none (λ st root r n m p. omega (arith, node-spot img st root r n m x p .1 .low))
 
-  pub past-pages : length img / 4096 ≤ page → Located img page offset 0
+  pub past-pages : length img / pageSize ≤ page → Located img page offset 0
   past-pages h = none (λ st root r n m p. omega (arith, reads-length img st root r, node-spot img st root r n m x p .1 .high))
 
   -- The record that a place's node is in is its page's.
   module _ (st : Config) (root : Row) (r : Reads img st root) (n : Node) (m : Mem n (nodes (shown root))) (p : placeOf root (n .path) ≡ some x) where
-    the-spot : Spot root (4096 * page + offset)
-    the-spot = spot-of root (4096 * page + offset) (node-spot img st root r n m x p .0)
+    the-spot : Spot root (pageSize * page + offset)
+    the-spot = spot-of root (pageSize * page + offset) (node-spot img st root r n m x p .0)
 
     its-page : the-spot .page ≡ page
     its-page =
-        let h = spot-header img st root r (4096 * page + offset) the-spot in
+        let h = spot-header img st root r (pageSize * page + offset) the-spot in
         omega (arith, h .low, h .room, node-spot img st root r n m x p .1 .fits)
 
     its-record : OnRecord img page
@@ -223,40 +224,40 @@ module _ (img : List ℕ) (page offset : ℕ) where
         subst (OnRecord img) its-page
         (record { settings = st; root = root; reads = r; holder = the-spot .holder; row = the-spot .row; before = the-spot .before; after = the-spot .after; depth = the-spot .depth; within = the-spot .within })
 
-    its-state : getD img (4096 * page + 4080) 0 ≡ 1
+    its-state : stateAt img (pageSize * page) ≡ 1
     its-state = view its-record .state
 
-    its-item : (w : OnRecord img page) → w .root ≡ root → List·Memᴰ (node (4096 * page + offset)) (all w)
+    its-item : (w : OnRecord img page) → w .root ≡ root → List·Memᴰ (node (pageSize * page + offset)) (all w)
     its-item w b =
         let i = node-spot img st root r n m x p in
         let v : Reads img (w .settings) (w .root) = w .reads in
-        spot-item img (w .settings) (w .root) v (w .within) (4096 * page + offset) (omega arith) (omega (arith, i .1 .fits)) (rw b (i .0))
+        spot-item img (w .settings) (w .root) v (w .within) (pageSize * page + offset) (omega arith) (omega (arith, i .1 .fits)) (rw b (i .0))
 
-    its-end : 4096 * page + offset < 4096 * page + twoAt img (4096 * page + 4082)
+    its-end : pageSize * page + offset < pageSize * page + usedAt img (pageSize * page)
     its-end =
         let s = the-spot in
         let v = in-page img st root r (s .within) in
-        let i = item-at img (s .page) (4096 * s .page + base (s .row)) (s .row) (v .here) (s .left) (s .right) (node (4096 * page + offset)) (s .split) in
-        let h = header-of img (s .page) (4096 * page + offset) (node (4096 * page + offset)) (i .0) in
-        let e = flat-le img (s .page) (s .right) (step img (4096 * page + offset)) (4096 * s .page + base (s .row) + size (s .row)) (i .1) in
-        let u : twoAt img (4096 * page + 4082) ≡ recordSize (s .row) = subst (λ (q : ℕ). twoAt img (4096 * q + 4082) ≡ recordSize (s .row)) its-page (v .used) in
+        let i = item-at img (s .page) (pageSize * s .page + base (s .row)) (s .row) (v .here) (s .left) (s .right) (node (pageSize * page + offset)) (s .split) in
+        let h = header-of img (s .page) (pageSize * page + offset) (node (pageSize * page + offset)) (i .0) in
+        let e = flat-le img (s .page) (s .right) (step img (pageSize * page + offset)) (pageSize * s .page + base (s .row) + size (s .row)) (i .1) in
+        let u : usedAt img (pageSize * page) ≡ recordSize (s .row) = subst (λ (q : ℕ). usedAt img (pageSize * q) ≡ recordSize (s .row)) its-page (v .used) in
         omega (arith, h .further, e, its-page, u)
 
-  pub no-record : (getD img (4096 * page + 4080) 0 ≡ 1 → ⊥) → Located img page offset 0
+  pub no-record : (stateAt img (pageSize * page) ≡ 1 → ⊥) → Located img page offset 0
   no-record f = none (λ st root r n m p. f (its-state st root r n m p))
 
-  pub past-end : twoAt img (4096 * page + 4082) ≤ offset → Located img page offset 0
+  pub past-end : usedAt img (pageSize * page) ≤ offset → Located img page offset 0
   past-end h = none (λ st root r n m p. omega (arith, its-end st root r n m p))
 
-  record-in : (st : Config) (root : Row) → Reads img st root → 1 ≤ page → page < length img / 4096 → getD img (4096 * page + 4080) 0 ≡ 1 → OnRecord img page
+  record-in : (st : Config) (root : Row) → Reads img st root → 1 ≤ page → page < length img / pageSize → stateAt img (pageSize * page) ≡ 1 → OnRecord img page
   record-in st root r low high e =
       let (holder, row, before, after, d, w) = page-in img st root r page (omega (arith, reads-length img st root r)) low e in
       record { settings = st; root = root; reads = r; holder = holder; row = row; before = before; after = after; depth = d; within = w }
 
-  pub its-page-in : checkOf img ≡ 0 → 1 ≤ page → page < length img / 4096 → getD img (4096 * page + 4080) 0 ≡ 1 → OnRecord img page
+  pub its-page-in : checkOf img ≡ 0 → 1 ≤ page → page < length img / pageSize → stateAt img (pageSize * page) ≡ 1 → OnRecord img page
   its-page-in z low high e = let s = store-of img z in record-in (s .settings) (s .root) (s .reads) low high e
 
-  pub located : (r : ℕ) → checkOf img ≡ 0 → 1 ≤ page → page < length img / 4096 → getD img (4096 * page + 4080) 0 ≡ 1 → Standing img page (4096 * page + offset) r → Located img page offset r
+  pub located : (r : ℕ) → checkOf img ≡ 0 → 1 ≤ page → page < length img / pageSize → stateAt img (pageSize * page) ≡ 1 → Standing img page (pageSize * page + offset) r → Located img page offset r
   unfolding record-in item-spot its-page-in
   located r z low high e s = record {
     stray = λ q st root reads n m p.
@@ -265,10 +266,10 @@ module _ (img : List ℕ) (page offset : ℕ) where
     found = λ q.
         let w = its-page-in z low high e in
         let i = s .found q in
-        let here : Spot (w .root) (4096 * page + offset) = item-spot img (w .settings) (w .root) (w .reads) (w .within) (4096 * page + offset) (i .1 w) in
+        let here : Spot (w .root) (pageSize * page + offset) = item-spot img (w .settings) (w .root) (w .reads) (w .within) (pageSize * page + offset) (i .1 w) in
         record {
           is = i .0;
-          short = omega (arith, spot-header img (w .settings) (w .root) (w .reads) (4096 * page + offset) here .room);
+          short = omega (arith, spot-header img (w .settings) (w .root) (w .reads) (pageSize * page + offset) here .room);
           node = record { settings = w .settings; root = w .root; reads = w .reads; spot = subst (Spot (w .root)) (sym (i .0)) here };
         };
   }
@@ -295,30 +296,30 @@ pub record Sought (img : List ℕ) (holder page target pos : ℕ) : Type 0 where
 
 -- A proxy to the page stands at pos.
 abbrev pub names : (img : List ℕ) (pos page : ℕ) → Bool
-names img pos page = cond (eqb (getD img pos 0) 3) (eqb (twoAt img (pos + 6)) page) false
+names img pos page = cond (eqb (getD img pos 0) 3) (eqb (nameAt img pos) page) false
 
-names-true : (img : List ℕ) (pos page : ℕ) → names img pos page ≡ true → (getD img pos 0 ≡ 3) × (twoAt img (pos + 6) ≡ page)
+names-true : (img : List ℕ) (pos page : ℕ) → names img pos page ≡ true → (getD img pos 0 ≡ 3) × (nameAt img pos ≡ page)
 names-true img pos page e = go (eqb (getD img pos 0) 3) refl e
   where
-    go : (b : Bool) → eqb (getD img pos 0) 3 ≡ b → cond b (eqb (twoAt img (pos + 6)) page) false ≡ true → (getD img pos 0 ≡ 3) × (twoAt img (pos + 6) ≡ page)
-    go true k e = (eqb-true (getD img pos 0) 3 k, eqb-true (twoAt img (pos + 6)) page e)
+    go : (b : Bool) → eqb (getD img pos 0) 3 ≡ b → cond b (eqb (nameAt img pos) page) false ≡ true → (getD img pos 0 ≡ 3) × (nameAt img pos ≡ page)
+    go true k e = (eqb-true (getD img pos 0) 3 k, eqb-true (nameAt img pos) page e)
     go false k e = absurd (true≢false (sym e))
 
-true-names : (img : List ℕ) (pos page : ℕ) → getD img pos 0 ≡ 3 → twoAt img (pos + 6) ≡ page → names img pos page ≡ true
-true-names img pos page k n = rw (eq-eqb (getD img pos 0) 3 k) (eq-eqb (twoAt img (pos + 6)) page n)
+true-names : (img : List ℕ) (pos page : ℕ) → getD img pos 0 ≡ 3 → nameAt img pos ≡ page → names img pos page ≡ true
+true-names img pos page k n = rw (eq-eqb (getD img pos 0) 3 k) (eq-eqb (nameAt img pos) page n)
 
 module _ {img : List ℕ} {holder page : ℕ} where
-  pub sought-start : (w : HeldBy img holder page) (pos : ℕ) → pos ≡ 4096 * holder + cond (eqb (getD img (4096 * holder) 0) 4) 6 0 → Sought img holder page (w .pos) pos
+  pub sought-start : (w : HeldBy img holder page) (pos : ℕ) → pos ≡ pageSize * holder + cond (eqb (getD img (pageSize * holder) 0) 4) 6 0 → Sought img holder page (w .pos) pos
   sought-start w pos e =
       let a = w .above in
-      let z : 4096 * holder + base (a .row) ≡ pos = sym (e ∙ known a .start) in
+      let z : pageSize * holder + base (a .row) ≡ pos = sym (e ∙ known a .start) in
       record {
         end = close a;
         left = w .left;
         right = w .right;
         row = w .row;
-        flat = subst (λ (n : ℕ). Flat img holder n (close a) (w .left ++ proxy (w .pos) page (w .row) ∷ w .right)) z (subst (Flat img holder (4096 * holder + base (a .row)) (close a)) (w .split) (flat-all a));
-        once = rw (← w .split) (omega (arith, named-items page (4096 * holder + base (a .row)) (a .row), in-once img (a .settings) (a .root) (a .reads) (a .within) page));
+        flat = subst (λ (n : ℕ). Flat img holder n (close a) (w .left ++ proxy (w .pos) page (w .row) ∷ w .right)) z (subst (Flat img holder (pageSize * holder + base (a .row)) (close a)) (w .split) (flat-all a));
+        once = rw (← w .split) (omega (arith, named-items page (pageSize * holder + base (a .row)) (a .row), in-once img (a .settings) (a .root) (a .reads) (a .within) page));
       }
 
   module _ {target pos : ℕ} (s : Sought img holder page target pos) where
@@ -337,7 +338,7 @@ module _ {img : List ℕ} {holder page : ℕ} where
         go [] f o = sym (header-of img holder pos (proxy target page (s .row)) (f .0) .is-at)
         go (i ∷ left) f o = kinds (which img holder pos i (f .0))
           where
-            k : (getD img pos 0 ≡ 3) × (twoAt img (pos + 6) ≡ page)
+            k : (getD img pos 0 ≡ 3) × (nameAt img pos ≡ page)
             k = names-true img pos page t
 
             no-node : (getD img pos 0 ≡ 1) ⊎ (getD img pos 0 ≡ 2) → ⊥
@@ -372,11 +373,11 @@ pub step-one : (img : List ℕ) (pos : ℕ) → getD img pos 0 ≡ 1 → pos + 6
 unfolding step
 step-one img pos k = rw k
 
-pub step-more : (img : List ℕ) (pos n : ℕ) → (getD img pos 0 ≡ 1 → ⊥) → n ≡ twoAt img (pos + 4) → pos + n ≡ step img pos
+pub step-more : (img : List ℕ) (pos n : ℕ) → (getD img pos 0 ≡ 1 → ⊥) → n ≡ sizeAt img pos → pos + n ≡ step img pos
 unfolding step
 step-more img pos n k e = rw (ne-eqb (getD img pos 0) 1 k, e)
 
-pub names-some : (img : List ℕ) (pos page n : ℕ) → getD img pos 0 ≡ 3 → n ≡ twoAt img (pos + 6) → eqb n page ≡ names img pos page
+pub names-some : (img : List ℕ) (pos page n : ℕ) → getD img pos 0 ≡ 3 → n ≡ nameAt img pos → eqb n page ≡ names img pos page
 names-some img pos page n k e = rw (k, e)
 
 pub names-none : (img : List ℕ) (pos page : ℕ) → (getD img pos 0 ≡ 3 → ⊥) → false ≡ names img pos page
@@ -391,7 +392,7 @@ module _ (img : List ℕ) (page target r : ℕ) (s : Reached img page target r) 
   pub standing-proxy : r ≡ target → getD img r 0 ≡ 3 → Standing img page target 0
   standing-proxy e k = record { stray = λ _ w m. scan-proxy w target r (s .scan w) e k m; found = λ h. absurd (omega arith) }
 
-  module _ (w : OnRecord img page) (e : r ≡ target) (h : target < 4096 * page + twoAt img (4096 * page + 4082)) where
+  module _ (w : OnRecord img page) (e : r ≡ target) (h : target < pageSize * page + usedAt img (pageSize * page)) where
     reached-head : Head img page r
     reached-head = scan-head w target r (s .scan w) (omega (arith, known w .end))
 

@@ -1,20 +1,21 @@
 // Moving about in an image that passes the check: the node of a place, and the next one in document order.
-use read_find::row_end;
-use read_find::row_start;
-use read_find::width;
+use base_numbers::two;
 use model::Kind;
 use model::Next;
 use model::NextAnswer;
 use model::NextNode;
 use model::Place;
 use model::ReadNode;
-use base_numbers::two;
+use read_find::row_end;
+use read_find::row_start;
+use read_find::width;
 ghost use mathlib.Core.Path.{_≡_};
 ghost use mathlib.Core.Bool.{false, cond};
 ghost use Prim.Native.Nat.{ℕ, _+_, _*_, _≤_, _<_};
 ghost use lib.ListN.{length, getD};
 ghost use lib.Dec.{eqb};
-ghost use Rattle.model.specs.Reading.{twoAt};
+ghost use Rattle.model.specs.Limits.{pageSize, mostBytes};
+ghost use Rattle.model.specs.Reading.{sizeAt, usedAt};
 ghost use Rattle.model.specs.Calls.{checkOf, kindOf, nextOf, readOf};
 ghost use Rattle.theory_layout.specs.Order.{step};
 ghost use Rattle.theory_layout.specs.Widths.{Widths};
@@ -24,7 +25,7 @@ ghost use Rattle.read_next.specs.Follow.{Climbed, Ahead, Follows, Nexted
 
 // Where the header after the one at pos stands.
 fn flat(image: &[u8], pos: usize) -> usize
-    requires { ⌜ (pos + 5 < length (now image)) × (pos < 4194304) ⌝ }
+    requires { ⌜ (pos + 5 < length (now image)) × (pos < mostBytes) ⌝ }
     ensures { λ r. ⌜ r ≡ step (now (image .entry)) pos ⌝ }
 {
     if image[pos] == 1 {
@@ -37,7 +38,7 @@ fn flat(image: &[u8], pos: usize) -> usize
 
 // The first header of a record from the target on, which is before the record's end.
 fn reach(image: &[u8], page: usize, target: usize) -> usize
-    requires { ⌜ OnRecord (now image) page × (target < 4096 * page + twoAt (now image) (4096 * page + 4082)) ⌝ }
+    requires { ⌜ OnRecord (now image) page × (target < pageSize * page + usedAt (now image) (pageSize * page)) ⌝ }
     ensures { λ r. ⌜ Reached (now (image .entry)) page target r ⌝ }
 {
     let mut pos = row_start(image, page);
@@ -49,7 +50,7 @@ fn reach(image: &[u8], page: usize, target: usize) -> usize
 
 // The target if a node stands there, else 0.
 fn standing(image: &[u8], page: usize, target: usize) -> usize
-    requires { ⌜ OnRecord (now image) page × (target < 4096 * page + twoAt (now image) (4096 * page + 4082)) ⌝ }
+    requires { ⌜ OnRecord (now image) page × (target < pageSize * page + usedAt (now image) (pageSize * page)) ⌝ }
     ensures { λ r. ⌜ Standing (now (image .entry)) page target r ⌝ }
 {
     let pos = reach(image, page, target);
@@ -87,7 +88,7 @@ pub fn node_at(image: &[u8], page: usize, offset: usize) -> usize
 
 // Whether a proxy to the page stands at pos.
 fn names(image: &[u8], pos: usize, page: usize) -> bool
-    requires { ⌜ (pos + 7 < length (now image)) × (pos < 4194304) ⌝ }
+    requires { ⌜ (pos + 7 < length (now image)) × (pos < mostBytes) ⌝ }
     ensures { λ r. ⌜ r ≡ namesPage (now (image .entry)) pos page ⌝ }
 {
     if image[pos] == 3 {
@@ -201,7 +202,7 @@ pub fn next_of(image: &[u8], x: Place) -> NextAnswer
 
 // An aggregate's; `widths` has how many nodes each record shows.
 fn read_agg(image: &[u8], widths: &[u32; 1024], pos: usize) -> ReadNode
-    requires { ⌜ (pos + 5 < length (now image)) × (pos < 4194304) × Inner (now image) pos × Widths (now image) (now widths) ⌝ }
+    requires { ⌜ (pos + 5 < length (now image)) × (pos < mostBytes) × Inner (now image) pos × Widths (now image) (now widths) ⌝ }
     ensures { λ r. ⌜ ((w : Inner (now (image .entry)) pos) → r ≡ aggRead (now (image .entry)) pos (w .row)) ⌝ }
 {
     let label = two(image, pos + 2);
@@ -219,7 +220,7 @@ fn read_agg(image: &[u8], widths: &[u32; 1024], pos: usize) -> ReadNode
 
 // Where the content of a literal starts; an empty one has no place.
 fn content_at(pos: usize, len: usize) -> usize
-    requires { ⌜ pos < 4194304 ⌝ }
+    requires { ⌜ pos < mostBytes ⌝ }
     ensures { λ r. ⌜ r ≡ cond (eqb len 0) 0 (pos + 6) ⌝ }
 {
     if len == 0 {
@@ -229,7 +230,7 @@ fn content_at(pos: usize, len: usize) -> usize
 }
 
 fn read_lit(image: &[u8], pos: usize) -> ReadNode
-    requires { ⌜ (pos + 5 < length (now image)) × (pos < 4194304) × (6 ≤ twoAt (now image) (pos + 4)) ⌝ }
+    requires { ⌜ (pos + 5 < length (now image)) × (pos < mostBytes) × (6 ≤ sizeAt (now image) pos) ⌝ }
     ensures { λ r. ⌜ r ≡ litRead (now (image .entry)) pos ⌝ }
 {
     let label = two(image, pos + 2);

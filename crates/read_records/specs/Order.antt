@@ -7,6 +7,7 @@ use native.Mathlib.Omega.{arith}
 use borrow.Author.Tests.{leb-true, leb-false, ltb-true, ltb-false, eq-eqb, ne-eqb}
 use lib.ListN.{length}
 use lib.Dec.{leb, ltb, eqb}
+use Rattle.model.specs.Limits.{pageSize}
 use Rattle.model.specs.Row.{Row, Config}
 use Rattle.model.specs.Reading.{Reads}
 use Rattle.model.specs.Calls.{times, recordPages, IsOrder}
@@ -84,16 +85,16 @@ pub up-order : (img : List ℕ) (st : Config) (root : Row) → Reads img st root
 unfolding upPages
 up-order img st root r q = go (leb 1 q) (ltb q (st .pages)) refl refl
   where
-    n : length img / 4096 - 1 ≡ st .pages - 1
+    n : length img / pageSize - 1 ≡ st .pages - 1
     n = omega (arith, reads-length img st root r)
 
-    go : (a b : Bool) → leb 1 q ≡ a → ltb q (st .pages) ≡ b → times q (upFrom img (length img / 4096 - 1) 1) ≡ times q (recordPages root)
+    go : (a b : Bool) → leb 1 q ≡ a → ltb q (st .pages) ≡ b → times q (upFrom img (length img / pageSize - 1) 1) ≡ times q (recordPages root)
     go true true e f =
-        among img (length img / 4096 - 1) 1 q (leb-true 1 q e) (omega (arith, n, ltb-true q (st .pages) f))
+        among img (length img / pageSize - 1) 1 q (leb-true 1 q e) (omega (arith, n, ltb-true q (st .pages) f))
         ∙ inside img st root r q (leb-true 1 q e) (ltb-true q (st .pages) f)
     go true false e f =
-        past img (length img / 4096 - 1) 1 q (omega (arith, n, leb-true 1 q e, ltb-false q (st .pages) f))
+        past img (length img / pageSize - 1) 1 q (omega (arith, n, leb-true 1 q e, ltb-false q (st .pages) f))
         ∙ sym (outside img st root r q (λ h. omega (arith, ltb-false q (st .pages) f)))
     go false b e f =
-        before img (length img / 4096 - 1) 1 q (leb-false 1 q e)
+        before img (length img / pageSize - 1) 1 q (leb-false 1 q e)
         ∙ sym (outside img st root r q (λ h. omega (arith, leb-false 1 q e)))

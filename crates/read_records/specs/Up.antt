@@ -7,6 +7,7 @@ use native.Mathlib.Omega.{arith}
 use borrow.Author.Tests.{eq-eqb, ne-eqb}
 use lib.ListN.{length}
 use lib.Dec.{eqb}
+use Rattle.model.specs.Limits.{pageSize}
 use Rattle.theory_places.specs.Marks.{mark}
 
 -- The record pages of the k pages from q on.
@@ -16,7 +17,7 @@ upFrom img (suc k) q = let r = upFrom img k (suc q) in cond (eqb (mark img q) 1)
 
 -- The record pages of an image: page 0 has the settings.
 unfoldable pub upPages : (img : List ℕ) → List ℕ
-upPages img = upFrom img (length img / 4096 - 1) 1
+upPages img = upFrom img (length img / pageSize - 1) 1
 
 pub few-up : (img : List ℕ) (k q : ℕ) → length (upFrom img k q) ≤ k
 unfolding upFrom

@@ -1,16 +1,17 @@
 // Records: the pages that hold a record, ascending, as two-byte numbers.
-use model::WriteAnswer;
 use base_numbers::put16;
+use model::WriteAnswer;
 ghost use mathlib.Core.Path.{_≡_};
 ghost use Prim.Native.Nat.{_-_, _*_, _≤_};
 ghost use lib.ListN.{length};
+ghost use Rattle.model.specs.Limits.{pageSize};
 ghost use Rattle.model.specs.Calls.{pageBytes, checkOf, recordsOf};
 ghost use Rattle.base_numbers.specs.Over.{over};
 ghost use Rattle.read_records.specs.Up.{upFrom, upPages};
 
 // How many pages from 1 on hold a record: the first byte of such a page's trailer is 1.
 pub fn count_pages(image: &[u8], pages: usize) -> usize
-    requires { ⌜ 4096 * pages ≤ length (now image) ⌝ }
+    requires { ⌜ pageSize * pages ≤ length (now image) ⌝ }
     ensures { λ r. ⌜ r ≡ length (upFrom (now (image .entry)) (pages - 1) 1) ⌝ }
 {
     let mut n = 0;
@@ -26,7 +27,7 @@ pub fn count_pages(image: &[u8], pages: usize) -> usize
 
 // Writes the numbers of those pages to the front of the buffer.
 fn put_pages(image: &[u8], pages: usize, buffer: &mut [u8])
-    requires { ⌜ (4096 * pages ≤ length (now image)) × (pages ≤ 65536) ⌝ }
+    requires { ⌜ (pageSize * pages ≤ length (now image)) × (pages ≤ 65536) ⌝ }
     requires { ⌜ 2 * length (upFrom (now image) (pages - 1) 1) ≤ length (now buffer) ⌝ }
     ensures { λ _. ⌜ now (buffer .exit) ≡ over 0 (pageBytes (upFrom (now (image .entry)) (pages - 1) 1)) (now (buffer .entry)) ⌝ }
 {

@@ -7,7 +7,8 @@ use native.Mathlib.Omega.{arith}
 use borrow.Author.Tests.{eqb-true, eqb-false, le-leb}
 use lib.ListN.{length, take, drop}
 use lib.Dec.{leb, eqb}
-use Rattle.model.specs.Row.{Row, Config, image}
+use Rattle.model.specs.Limits.{pageSize}
+use Rattle.model.specs.Row.{Row, Config}
 use Rattle.model.specs.Tree.{shown, Node, nodes, placeOf, fromPlace}
 use Rattle.model.specs.Reading.{Reads}
 use Rattle.model.specs.Calls.{checkOf, readIn, readFrom, asRead, readOf, partOf}
@@ -38,7 +39,7 @@ module _ (img : List ℕ) (st : Config) (root : Row) (r : Reads img st root) (x 
       go [] e = omega arith
       go (n ∷ ns) e = by (eqb (length (n .content)) 0) refl
         where
-          by : (b : Bool) → eqb (length (n .content)) 0 ≡ b → cond b 0 (4096 * x .page + x .offset + 6) + length (n .content) ≤ length img
+          by : (b : Bool) → eqb (length (n .content)) 0 ≡ b → cond b 0 (pageSize * x .page + x .offset + 6) + length (n .content) ≤ length img
           by true z = omega (arith, eqb-true (length (n .content)) 0 z)
           by false z =
               let v = reads-valid img st root r in

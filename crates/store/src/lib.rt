@@ -9,6 +9,7 @@ use model::Settings;
 use model::WriteAnswer;
 ghost use mathlib.Core.Path.{_≡_};
 ghost use lib.ListN.{length};
+ghost use Rattle.model.specs.Limits.{mostPages};
 ghost use Rattle.model.specs.Calls.{formatOf, checkOf, insertOf, findOf, climbOf, readOf, partOf, nextOf, recordsOf};
 ghost use Rattle.theory_layout.specs.Widths.{Widths};
 ghost use Rattle.store.specs.Part.{slice};
@@ -30,7 +31,7 @@ pub fn check(image: &[u8]) -> u32
 
 // The check, for calls that count the nodes of rows: it leaves in a table how many nodes the record on each page shows.
 fn check_widths(image: &[u8], widths: &mut [u32; 1024]) -> u32
-    requires { ⌜ length (now widths) ≡ 1024 ⌝ }
+    requires { ⌜ length (now widths) ≡ mostPages ⌝ }
     ensures { λ r. ⌜ (r ≡ checkOf (now (image .entry))) × (r ≡ 0 → Widths (now (image .entry)) (now (widths .exit))) ⌝ }
 {
     read_check::check_widths(image, widths)

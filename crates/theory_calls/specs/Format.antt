@@ -7,6 +7,7 @@ use native.Mathlib.Omega.{arith}
 use borrow.Author.Tests.{eqb-true, lt-ltb}
 use lib.ListN.{length}
 use lib.Dec.{eqb}
+use Rattle.model.specs.Limits.{pageSize}
 use Rattle.model.specs.Row.{Row, nil, agg, Config, image, inRange, valid}
 use Rattle.model.specs.Tree.{end, branch, shown}
 use Rattle.model.specs.Reading.{Reads, lengthOk}
@@ -24,7 +25,7 @@ first-reads st label e h = record { passes = rw (e, lt-ltb label 65536 h); same 
 
 in-range : (n : ℕ) (st : Config) → formatNumber n st ≡ 0 → inRange st ≡ true
 unfolding formatNumber
-in-range n st e = go (lengthOk n) (inRange st) (eqb (st .pages) (n / 4096)) e
+in-range n st e = go (lengthOk n) (inRange st) (eqb (st .pages) (n / pageSize)) e
   where
     go : (a b c : Bool) → lowest ((1, not a) ∷ (2, not (b && c)) ∷ []) ≡ 0 → b ≡ true
     go true true c e = refl

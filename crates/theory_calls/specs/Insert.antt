@@ -8,6 +8,7 @@ use native.Mathlib.Omega.{arith}
 use borrow.Author.Tests.{eqb-true, ltb-false}
 use lib.ListN.{length}
 use lib.Dec.{ltb, eqb}
+use Rattle.model.specs.Limits.{mostContent, longestParent}
 use Rattle.model.specs.Row.{Row, Config, image}
 use Rattle.model.specs.Tree.{Tree, shown, New, insertAt, placeOf}
 use Rattle.model.specs.Growth.{Work, Out}
@@ -41,9 +42,9 @@ last-test false false false false false false false = (λ z. absurd (omega arith
 
 -- No test of an accepted insert applies.
 pub record Accepted (t : Tree) (path : List ℕ) (k : ℕ) (x : New) (full : Bool) : Type 0 where
-  pub short : length path ≤ 88
+  pub short : length path ≤ longestParent
   pub kind : kindBad x ≡ false
-  pub small : length (x .content) ≤ 520
+  pub small : length (x .content) ≤ mostContent
   pub named : isNone (namedBy t path) ≡ false
   pub aggregate : isLiteral (namedBy t path) ≡ false
   pub within : childrenBelow k (namedBy t path) ≡ false
@@ -64,7 +65,7 @@ pub accepted : (t : Tree) (path : List ℕ) (k : ℕ) (x : New) (full : Bool) �
 unfolding insertNumber
 accepted t path k x full z =
     let p = namedBy t path in
-    let u = no-test (ltb 88 (length path)) (kindBad x) (ltb 520 (length (x .content))) (isNone p) (isLiteral p) (childrenBelow k p) full z in
+    let u = no-test (ltb longestParent (length path)) (kindBad x) (ltb mostContent (length (x .content))) (isNone p) (isLiteral p) (childrenBelow k p) full z in
     record { short = ltb-false _ _ (u .0); kind = u .1; small = ltb-false _ _ (u .2); named = u .3; aggregate = u .4; within = u .5; room = u .6 }
 
 -- ── an insert ──
@@ -115,7 +116,7 @@ module _ (order : (img buffer : List ℕ) → List ℕ) (img : List ℕ) (st : C
   unfolding n x insertNumber
   full-exactly =
       let p = namedBy (shown root) path in
-      let t = last-test (ltb 88 (length path)) (kindBad x) (ltb 520 (length (x .content))) (isNone p) (isLiteral p) (childrenBelow child p) (o .1 .full) in
+      let t = last-test (ltb longestParent (length path)) (kindBad x) (ltb mostContent (length (x .content))) (isNone p) (isLiteral p) (childrenBelow child p) (o .1 .full) in
       let f = ap (λ (w : Work). w .full) growth-is in
       (λ z. (t .0 (sym number-is ∙ z) .0, f ∙ t .0 (sym number-is ∙ z) .1), λ z. number-is ∙ t .1 (z .0, sym f ∙ z .1))
 

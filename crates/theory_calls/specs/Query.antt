@@ -8,6 +8,7 @@ use native.Mathlib.Omega.{arith}
 use borrow.Author.Tests.{eqb-true, eqb-false}
 use lib.ListN.{length, take, drop}
 use lib.Dec.{eqb}
+use Rattle.model.specs.Limits.{pageSize}
 use Rattle.model.specs.Row.{Row, Config}
 use Rattle.model.specs.Tree.{shown, Node, nodes, placeOf, fromPlace}
 use Rattle.model.specs.Reading.{Reads}
@@ -28,14 +29,14 @@ use Rattle.theory_calls.specs.Pieces.{literal-content, same-length}
 module _ (img : List ℕ) (st : Config) (root : Row) (r : Reads img st root) (x : Place) where
   -- A node's content stands where its place says.
   part : (n : Node) → Mem n (nodes (shown root)) → placeOf root (n .path) ≡ some x
-      → take (length (n .content)) (drop (cond (eqb (length (n .content)) 0) 0 (4096 * x .page + x .offset + 6)) img) ≡ n .content
+      → take (length (n .content)) (drop (cond (eqb (length (n .content)) 0) 0 (pageSize * x .page + x .offset + 6)) img) ≡ n .content
   part n m e = go (eqb (length (n .content)) 0) refl
     where
       none-there : (c : List ℕ) → length c ≡ 0 → c ≡ []
       none-there [] z = refl
       none-there (b ∷ c) z = absurd (omega arith)
 
-      go : (b : Bool) → eqb (length (n .content)) 0 ≡ b → take (length (n .content)) (drop (cond b 0 (4096 * x .page + x .offset + 6)) img) ≡ n .content
+      go : (b : Bool) → eqb (length (n .content)) 0 ≡ b → take (length (n .content)) (drop (cond b 0 (pageSize * x .page + x .offset + 6)) img) ≡ n .content
       go true z = rw (none-there (n .content) (eqb-true _ _ z))
       go false z =
           let v = reads-valid img st root r in

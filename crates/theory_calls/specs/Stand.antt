@@ -7,6 +7,7 @@ use Prim.Native.Nat.{ℕ, _+_, _≤_}
 use native.Mathlib.Omega.{arith}
 use borrow.Author.Tests.{le-ltb}
 use lib.ListN.{length, drop}
+use Rattle.model.specs.Limits.{capacity, longestPath}
 use Rattle.model.specs.Row.{Row, store, Held, records, Config, every, isByte}
 use Rattle.model.specs.Tree.{shown, Node, named, placeOf}
 use Rattle.model.specs.Reading.{Reads}
@@ -21,19 +22,19 @@ use Rattle.theory_places.specs.From.{from-found}
 use Rattle.theory_calls.specs.Open.{opens, passes}
 use Rattle.theory_calls.specs.Paths.{Spelled, spelled, path-levels}
 
-pub largest-fits : (hs : List Held) → AllFit hs → largest hs ≤ 4080
+pub largest-fits : (hs : List Held) → AllFit hs → largest hs ≤ capacity
 largest-fits [] f = omega arith
 largest-fits (h ∷ hs) f = omega (arith, f .0, largest-fits hs (f .1))
 
 module _ (img : List ℕ) (st : Config) (root : Row) (r : Reads img st root) where
   -- A path whose entries name a node.
   module _ (path buffer p : List ℕ) (n : Node) (e : entries path ≡ some p) (s : Spelled path p) (m : named (shown root) p ≡ some n) (room : length path ≤ length buffer) where
-    short : length path ≤ 92
+    short : length path ≤ longestPath
     short = omega (arith, s .long, path-levels 0 p (shown root) n m, height-shown root, reads-valid img st root r .levels)
 
     finds : findOf img path ≡ record { number = 0; place = placeOr (placeOf root p) }
     unfolding findOf findIn
-    finds = rw (opens img st root r, e, m, le-ltb 92 (length path) short)
+    finds = rw (opens img st root r, e, m, le-ltb longestPath (length path) short)
 
     climbs : (x : Place) → placeOf root p ≡ some x → climbOf img x buffer ≡ (record { number = 0; written = length path }, path ++ drop (length path) buffer)
     unfolding climbOf climbIn

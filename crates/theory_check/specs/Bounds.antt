@@ -8,8 +8,9 @@ use lib.ListN.{length, take, drop, length-drop}
 use lib.Seq.{length-take-le}
 use lib.Dec.{ltb, leb, eqb}
 use borrow.Author.Tests.{leb-true}
+use Rattle.model.specs.Limits.{mostPages, pageSize}
 use Rattle.model.specs.Tree.{width}
-use Rattle.model.specs.Reading.{twoAt, lengthOk, pageOf}
+use Rattle.model.specs.Reading.{twoAt, lengthOk, pageOf, usedAt}
 use Rattle.theory_rows.specs.Laws.{width-⊹, cond-case}
 use Rattle.theory_decoding.specs.Valid as valid
 use Rattle.theory_check.specs.Rec.{run, under, steps}
@@ -28,7 +29,7 @@ bytesIn (list s page holder level w) = length s
 
 -- What an answer shows, with 4096 for each page still left to it, is no more than n bytes and the pages left before it allow.
 abbrev Within : (n : ℕ) → State → Decoded → Type 0
-Within n w d = width (d .row) + 4096 * d .walk .left ≤ n + 4096 * w .left
+Within n w d = width (d .row) + pageSize * d .walk .left ≤ n + pageSize * w .left
 
 abbrev Wide : (Job → Decoded) → Type 0
 Wide f = (j : Job) → Within (bytesIn j) (from j) (f j)
@@ -47,7 +48,7 @@ module _ (img : List ℕ) (f : Job → Decoded) (h : Wide f) where
       cond-case (Within 0 w) (entersOf img p page w)
       (λ e.
       let g = entered img p page w e in
-      omega (arith, h (node (recordOf img p) p 0 level (withMark w p)), g .room, g .used, used-is img p, length-part img (4096 * p) (twoAt img (4096 * p + 4082))))
+      omega (arith, h (node (recordOf img p) p 0 level (withMark w p)), g .room, g .used, used-is img p, length-part img (pageSize * p) (usedAt img (pageSize * p))))
       (λ _. wide-stop 0 w)
 
   wide-node : (s : List ℕ) (page holder level : ℕ) (w : State) → Within (length s) w (nodeStep img f s page holder level w (headOf s holder))
@@ -99,7 +100,7 @@ module _ (img : List ℕ) where
   wide-steps zero j = wide-none j
   wide-steps (suc n) j = wide-step img (under measure none (step img) (measure j) (steps measure none (step img) n)) (wide-under (measure j) (steps measure none (step img) n) (wide-steps n)) j
 
-  pub decoded-wide : (j : Job) → width (decode img j .row) + 4096 * decode img j .walk .left ≤ bytesIn j + 4096 * from j .left
+  pub decoded-wide : (j : Job) → width (decode img j .row) + pageSize * decode img j .walk .left ≤ bytesIn j + pageSize * from j .left
   unfolding decode run
   decoded-wide j = wide-steps (suc (measure j)) j
 
@@ -113,12 +114,12 @@ scan-most img (suc k) p n =
     both P (eqb (stateOf (pageOf img p)) 0) (omega arith)
     (both P (eqb (stateOf (pageOf img p)) 2) (omega (arith, scan-most img k (suc p) (n + 1))) (omega (arith, scan-most img k (suc p) n)))
 
-pub trailers-most : (img : List ℕ) → lengthOk (length img) ≡ true → trailersOf img ≤ 1024
+pub trailers-most : (img : List ℕ) → lengthOk (length img) ≡ true → trailersOf img ≤ mostPages
 unfolding trailersOf lengthOk
 trailers-most img e =
-    let n = length img / 4096 in
-    let sizes = valid.both (eqb (length img % 4096) 0 && leb 2 n) (leb n 1024) e in
-    let P : ℕ → Type 0 = λ x. x ≤ 1024 in
+    let n = length img / pageSize in
+    let sizes = valid.both (eqb (length img % pageSize) 0 && leb 2 n) (leb n mostPages) e in
+    let P : ℕ → Type 0 = λ x. x ≤ mostPages in
     both P (settingsOk (pageOf img 0) n)
-    (both P (firstOk (pageOf img 1)) (omega (arith, scan-most img (n - 2) 2 0, leb-true n 1024 (sizes .1))) (omega arith))
+    (both P (firstOk (pageOf img 1)) (omega (arith, scan-most img (n - 2) 2 0, leb-true n mostPages (sizes .1))) (omega arith))
     (omega arith)

@@ -4,6 +4,7 @@ use mathlib.Core.List.{List}
 use Prim.Native.Nat.{ℕ, zero, suc, _+_, _-_, _/_}
 use lib.ListN.{length, getD, replicate}
 use lib.Dec.{eqb}
+use Rattle.model.specs.Limits.{pageSize}
 use Rattle.model.specs.Reading.{lengthOk, pageOf}
 use Rattle.theory_check.specs.Tests.{stateOf, settingsOk, firstOk}
 use Rattle.theory_check.specs.Walk.{state, Decoded, recordOf, nodeOf}
@@ -19,15 +20,15 @@ scanFrom img (suc k) p n =
 -- Before the walk: 0 where page 0, a trailer or a free page does not keep the rules by itself, else one more than the record pages from 2 on.
 unfoldable pub trailersOf : (img : List ℕ) → ℕ
 trailersOf img =
-    let found = scanFrom img (length img / 4096 - 2) 2 0 in
-    cond (settingsOk (pageOf img 0) (length img / 4096)) (cond (firstOk (pageOf img 1)) found 0) 0
+    let found = scanFrom img (length img / pageSize - 2) 2 0 in
+    cond (settingsOk (pageOf img 0) (length img / pageSize)) (cond (firstOk (pageOf img 1)) found 0) 0
 
 -- The walk from page 1, whose record's root is an aggregate.
 unfoldable pub walkOf : (img : List ℕ) → (left : ℕ) → Decoded
 walkOf img n = nodeOf img (recordOf img 1) 1 0 1 (state n (replicate 128 0))
 
 unfoldable pub walkOk : (img : List ℕ) → (left : ℕ) → Bool
-walkOk img n = cond (eqb (getD img 4096 0) 1) (eqb (walkOf img n .walk .left) 1) false
+walkOk img n = cond (eqb (getD img pageSize 0) 1) (eqb (walkOf img n .walk .left) 1) false
 
 unfoldable pub checkBy : (img : List ℕ) → ℕ
 checkBy img =

@@ -7,7 +7,8 @@ use native.Mathlib.Omega.{arith}
 use lib.ListN.{length, getD, replicate}
 use lib.Seq.{take-at}
 use borrow.Author.Tests.{ne-eqb}
-use Rattle.model.specs.Row.{Row, store, Held, records, settingsPage, pagesFrom, image, lone, byTable, mayStand, standing, Config}
+use Rattle.model.specs.Limits.{pageSize}
+use Rattle.model.specs.Row.{Row, store, Held, records, settingsPage, pagesFrom, image, lone, byTable, mayStand, standing, Config, recordOn}
 use Rattle.model.specs.Reading.{Reads, pageOf}
 use Rattle.theory_rows.specs.Fits.{Valid}
 use Rattle.theory_rows.specs.Store.{settled-lone}
@@ -31,16 +32,16 @@ module _ (st : Config) (root : Row) (v : Valid st root) where
   img = image st root
 
   abbrev first : Held
-  first = record { page = 1; settled = true; holder = 0; row = root }
+  first = recordOn 1 true 0 root
 
   zero-page : pageOf img 0 ≡ settingsPage st
   unfolding image
-  zero-page = take-at (settingsPage st) (pagesFrom (records 0 (store root)) (st .pages - 1) 1) 4096 (length-settings st (v .ranges .entries))
+  zero-page = take-at (settingsPage st) (pagesFrom (records 0 (store root)) (st .pages - 1) 1) pageSize (length-settings st (v .ranges .entries))
 
   trailers-image : trailersOf img ≡ suc (recordCount root)
   unfolding trailersOf
   trailers-image =
-      let n : length img / 4096 ≡ st .pages = omega (arith, length-image st root v) in
+      let n : length img / pageSize ≡ st .pages = omega (arith, length-image st root v) in
       rw (n, zero-page, settings-ok st (v .ranges), stored-image st root v .0, first-ok first (v .rows .0 .fits) refl refl) (scan-image st root v)
 
   fresh-image : Fresh (st .pages) (replicate 128 0) root
@@ -65,9 +66,9 @@ module _ (st : Config) (root : Row) (v : Valid st root) where
       (omega arith) (omega (arith, v .levels)) u (omega arith) (omega arith))
       )
 
-  root-first : getD img 4096 0 ≡ 1
+  root-first : getD img pageSize 0 ≡ 1
   root-first =
-      on-page img 1 first (v .rows .0) (stored-image st root v .0) 0 4096 refl (omega arith)
+      on-page img 1 first (v .rows .0) (stored-image st root v .0) 0 pageSize refl (omega arith)
       ∙ root-kind root _ _ (settled-lone root (v .rows .0 .shape)) ∙ rw (v .top)
 
   check-image : checkBy img ≡ 0

@@ -5,6 +5,7 @@ use mathlib.Core.List.{List}
 use Prim.Native.Nat.{ℕ, _+_, _≤_, _<_}
 use native.Mathlib.Omega.{arith}
 use lib.Dec.{eqb}
+use Rattle.model.specs.Limits.{mostPages}
 use Rattle.model.specs.Row.{Row, nil, agg, lit, rec, count}
 use Rattle.theory_decoding.specs.Valid.{names-own}
 use Rattle.theory_check.specs.Tests.{isMarked, marked}
@@ -20,13 +21,13 @@ marksAfter (rec p s r rest) m = marksAfter rest (marksAfter r (marked m p))
 -- A page that the row does not name has the mark that it had.
 record Kept (row : Row) (m new : List ℕ) : Type 0 where
   marks : IsMarks new
-  same : (q : ℕ) → q < 1024 → count q row ≡ 0 → isMarked new q ≡ isMarked m q
+  same : (q : ℕ) → q < mostPages → count q row ≡ 0 → isMarked new q ≡ isMarked m q
 
 not-one : (b : Bool) → _≡_ {A = ℕ} (cond b 1 0) 0 → b ≡ false
 not-one true e = absurd (omega arith)
 not-one false e = refl
 
-kept : (row : Row) (m : List ℕ) → IsMarks m → ((q : ℕ) → 1 ≤ count q row → q < 1024) → Kept row m (marksAfter row m)
+kept : (row : Row) (m : List ℕ) → IsMarks m → ((q : ℕ) → 1 ≤ count q row → q < mostPages) → Kept row m (marksAfter row m)
 kept nil m i r = record { marks = i; same = λ q l z. refl }
 kept (agg h cs rest) m i r =
     let a = kept cs m i (λ q g. r q (omega arith)) in
@@ -50,7 +51,7 @@ pub record Fresh (pages : ℕ) (m : List ℕ) (row : Row) : Type 0 where
   pub new : (q : ℕ) → 1 ≤ count q row → isMarked m q ≡ false
 
 -- Of a row that holds two: over the second after the first.
-pub fresh-after : (pages : ℕ) (m : List ℕ) (row a b : Row) → pages ≤ 1024 → Fresh pages m row → ((q : ℕ) → count q a + count q b ≤ count q row)
+pub fresh-after : (pages : ℕ) (m : List ℕ) (row a b : Row) → pages ≤ mostPages → Fresh pages m row → ((q : ℕ) → count q a + count q b ≤ count q row)
     → Fresh pages (marksAfter a m) b
 fresh-after pages m row a b l f c =
     let k = kept a m (f .marks) (λ q g. omega (arith, f .range q (omega (arith, c q)))) in

@@ -9,7 +9,7 @@ use lib.Seq.{getD-drop}
 use lib.Dec.{eqb, ltb}
 use borrow.Author.Tests.{ltb-false, eqb-true}
 use Rattle.model.specs.Row.{two, header, mayStand}
-use Rattle.model.specs.Reading.{twoAt}
+use Rattle.model.specs.Reading.{twoAt, headAt}
 use Rattle.theory_rows.specs.Fits.{IsByte}
 use Rattle.theory_check.specs.Tests.{headOf, shapeOf}
 
@@ -95,7 +95,7 @@ head-says s holder kind all e z = go _ _ _ _ _ _ refl refl refl refl refl refl e
     }
 
 -- The bytes are the header and what follows it.
-pub header-is : (s : List ℕ) (holder kind : ℕ) → Head s holder kind → s ≡ header kind (twoAt s 2) (length s) ++ drop 6 s
+pub header-is : (s : List ℕ) (holder kind : ℕ) → Head s holder kind → s ≡ header kind (headAt s 0) (length s) ++ drop 6 s
 header-is s holder kind h =
     let label = two-at s 2 (h .all) in
     let size : two (length s) ≡ getD s 4 0 ∷ getD s 5 0 ∷ [] = ap two (sym (h .size)) ∙ two-at s 4 (h .all) in

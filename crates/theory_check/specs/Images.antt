@@ -8,6 +8,7 @@ use lib.ListN.{length, drop, replicate, take-append-drop, drop-of-length-le}
 use lib.Seq.{drop-drop}
 use lib.Dec.{eqb}
 use borrow.Author.Tests.{eqb-true}
+use Rattle.model.specs.Limits.{pageSize}
 use Rattle.model.specs.Row.{Row, nil, agg, lit, rec, store, Held, records, recordPage, settingsPage, pageAt, pagesFrom, image, Config, count}
 use Rattle.model.specs.Reading.{pageOf}
 use Rattle.model.specs.Calls.{times}
@@ -29,7 +30,7 @@ on-records mem h (agg l cs rest) m = on-++ mem (records h cs) (records h rest) (
 on-records mem h (lit l c rest) m = on-records mem h rest m
 on-records mem h (rec p s r rest) m = (m .0, on-++ mem (records p r) (records h rest) (on-records mem p r (m .1)) (on-records mem h rest (m .2)))
 
-page-found : (mem : ℕ → List ℕ) (hs : List Held) → OnPages mem hs → (q : ℕ) → (times q (map (λ (h : Held). h .page) hs) ≡ 0 → mem q ≡ replicate 4096 0)
+page-found : (mem : ℕ → List ℕ) (hs : List Held) → OnPages mem hs → (q : ℕ) → (times q (map (λ (h : Held). h .page) hs) ≡ 0 → mem q ≡ replicate pageSize 0)
     → mem q ≡ pageAt hs q
 page-found mem [] m q z = z refl
 page-found mem (h ∷ hs) m q z = go (eqb q (h .page)) refl z (page-found mem hs (m .1) q)
@@ -37,23 +38,23 @@ page-found mem (h ∷ hs) m q z = go (eqb q (h .page)) refl z (page-found mem hs
     n : ℕ
     n = times q (map (λ (h : Held). h .page) hs)
 
-    go : (b : Bool) → eqb q (h .page) ≡ b → (cond b 1 0 + n ≡ 0 → mem q ≡ replicate 4096 0) → ((n ≡ 0 → mem q ≡ replicate 4096 0) → mem q ≡ pageAt hs q)
+    go : (b : Bool) → eqb q (h .page) ≡ b → (cond b 1 0 + n ≡ 0 → mem q ≡ replicate pageSize 0) → ((n ≡ 0 → mem q ≡ replicate pageSize 0) → mem q ≡ pageAt hs q)
         → mem q ≡ cond b (recordPage h) (pageAt hs q)
     go true e z ih = ap mem (eqb-true q (h .page) e) ∙ m .0
     go false e z ih = ih (λ d. z (omega arith))
 
 -- the pages of some bytes from page q on
-pages-are : (img : List ℕ) (hs : List Held) (k q : ℕ) → length img ≡ 4096 * (q + k) → ((p : ℕ) → q ≤ p → p < q + k → pageOf img p ≡ pageAt hs p)
-    → drop (4096 * q) img ≡ pagesFrom hs k q
-pages-are img hs zero q l h = drop-of-length-le img {i = 4096 * q} (omega arith)
+pages-are : (img : List ℕ) (hs : List Held) (k q : ℕ) → length img ≡ pageSize * (q + k) → ((p : ℕ) → q ≤ p → p < q + k → pageOf img p ≡ pageAt hs p)
+    → drop (pageSize * q) img ≡ pagesFrom hs k q
+pages-are img hs zero q l h = drop-of-length-le img {i = pageSize * q} (omega arith)
 pages-are img hs (suc k) q l h =
-    let next : 4096 * q + 4096 ≡ 4096 * suc q = omega arith in
-    sym (take-append-drop 4096 (drop (4096 * q) img))
+    let next : pageSize * q + pageSize ≡ pageSize * suc q = omega arith in
+    sym (take-append-drop pageSize (drop (pageSize * q) img))
     ∙ ap₂ _++_ (h q (omega arith) (omega arith))
-    (drop-drop 4096 (4096 * q) img ∙ ap (λ (n : ℕ). drop n img) next ∙ pages-are img hs k (suc q) (omega arith) (λ p a b. h p (omega arith) (omega arith)))
+    (drop-drop pageSize (pageSize * q) img ∙ ap (λ (n : ℕ). drop n img) next ∙ pages-are img hs k (suc q) (omega arith) (λ p a b. h p (omega arith) (omega arith)))
 
-pub image-is : (img : List ℕ) (st : Config) (root : Row) → 1 ≤ st .pages → length img ≡ 4096 * st .pages → pageOf img 0 ≡ settingsPage st
-    → Stored (pageOf img) 0 (store root) → ((q : ℕ) → 1 ≤ q → q < st .pages → count q (store root) ≡ 0 → pageOf img q ≡ replicate 4096 0)
+pub image-is : (img : List ℕ) (st : Config) (root : Row) → 1 ≤ st .pages → length img ≡ pageSize * st .pages → pageOf img 0 ≡ settingsPage st
+    → Stored (pageOf img) 0 (store root) → ((q : ℕ) → 1 ≤ q → q < st .pages → count q (store root) ≡ 0 → pageOf img q ≡ replicate pageSize 0)
     → img ≡ image st root
 unfolding image
 image-is img st root few long settings m free =
@@ -61,4 +62,4 @@ image-is img st root few long settings m free =
     let n = st .pages - 1 in
     let each : (q : ℕ) → 1 ≤ q → q < 1 + n → pageOf img q ≡ pageAt hs q =
     λ q a b. page-found (pageOf img) hs (on-records (pageOf img) 0 (store root) m) q (λ z. free q a (omega arith) (sym (pages-count root q) ∙ z)) in
-    sym (take-append-drop 4096 img) ∙ ap₂ _++_ settings (pages-are img hs n 1 (omega arith) each)
+    sym (take-append-drop pageSize img) ∙ ap₂ _++_ settings (pages-are img hs n 1 (omega arith) each)

@@ -11,6 +11,7 @@ use lib.Bits.{bitOr, or-lt, or-zero-r, or-shr, or-mod}
 use lib.Dec.{eqb}
 use lib.ListN.{length, getD, set, replicate, length-set, length-replicate}
 use lib.Seq.{getD-set-same, getD-set-other}
+use Rattle.model.specs.Limits.{mostPages}
 use Rattle.theory_check.specs.Tests.{isMarked, marked}
 
 pub record IsMarks (m : List ℕ) : Type 0 where
@@ -72,7 +73,7 @@ set-bit a k j hk hj = rw (or-bit a (1 * 2 ^ k % 256) j, one-bit k j hk hj) (go (
 
 -- ── pages ──
 
-module _ (m : List ℕ) (p : ℕ) (k : IsMarks m) (low : p < 1024) where
+module _ (m : List ℕ) (p : ℕ) (k : IsMarks m) (low : p < mostPages) where
   v : ℕ
   v = bitOr (getD m (p / 8) 0) (1 * 2 ^ (p % 8) % 256)
 
@@ -87,7 +88,7 @@ module _ (m : List ℕ) (p : ℕ) (k : IsMarks m) (low : p < 1024) where
       go i true e = rw (eqb-true i (p / 8) e, getD-set-same m (p / 8) v 0 (omega (arith, k .long))) small
       go i false e = rw (getD-set-other m (p / 8) i v 0 (eqb-false i (p / 8) e)) (k .byte i)
 
-  after-mark : (q : ℕ) → q < 1024 → isMarked (marked m p) q ≡ cond (eqb q p) true (isMarked m q)
+  after-mark : (q : ℕ) → q < mostPages → isMarked (marked m p) q ≡ cond (eqb q p) true (isMarked m q)
   unfolding isMarked marked v
   after-mark q h = go (eqb (q / 8) (p / 8)) refl
     where
@@ -105,5 +106,5 @@ module _ (m : List ℕ) (p : ℕ) (k : IsMarks m) (low : p < 1024) where
       go false e =
           rw (getD-set-other m (p / 8) (q / 8) v 0 (eqb-false (q / 8) (p / 8) e), ne-eqb q p (λ z. eqb-false (q / 8) (p / 8) e (ap (λ (n : ℕ). n / 8) z)))
 
-pub is-marked : (m : List ℕ) (p q : ℕ) → IsMarks m → p < 1024 → q < 1024 → isMarked (marked m p) q ≡ cond (eqb q p) true (isMarked m q)
+pub is-marked : (m : List ℕ) (p q : ℕ) → IsMarks m → p < mostPages → q < mostPages → isMarked (marked m p) q ≡ cond (eqb q p) true (isMarked m q)
 is-marked m p q k low h = after-mark m p k low q h

@@ -7,10 +7,11 @@ use native.Mathlib.Omega.{arith}
 use lib.ListN.{length, length-append}
 use lib.Seq.{take-at, drop-at, take-length, drop-length}
 use borrow.Author.Tests.{le-ltb, lt-ltb, le-leb, eq-eqb, ne-eqb}
-use Rattle.model.specs.Row.{Row, nil, agg, lit, rec, _⊹_, size, lone, nodeCount, two, header, bytes, recordBytes, mayStand, standing, byTable}
+use Rattle.model.specs.Limits.{capacity, mostContent, mostNode}
+use Rattle.model.specs.Row.{Row, nil, agg, lit, rec, _⊹_, size, lone, nodeCount, two, header, bytes, recordBytes, mayStand, standing, byTable, noHead, Head}
 use Rattle.model.specs.Reading.{twoAt}
 use Rattle.theory_rows.specs.Laws.{length-bytes, isNil-nil, ⊹-nil}
-use Rattle.theory_rows.specs.Fits.{Shape, one, more, RecordFits}
+use Rattle.theory_rows.specs.Fits.{Shape, one, more, RecordFits, HeadFits}
 use Rattle.theory_decoding.specs.Decode.{two-bytes}
 use Rattle.theory_check.specs.Tests.{sizeOf, twoChildren, shapeOf, headOf}
 use Rattle.theory_check.specs.Walk.{State, Decoded, decode, asAgg, before, nodeStep, moreStep, listStep, nodeOf, listOf, proxyOf}
@@ -19,10 +20,10 @@ use Rattle.theory_check.specs.Steps.{node-eq, list-eq}
 -- ── the tests ──
 
 -- A node: its header, and n bytes inside.
-abbrev pub whole : (kind label n : ℕ) → (inside : List ℕ) → List ℕ
+abbrev pub whole : (kind : ℕ) → Head → (n : ℕ) → (inside : List ℕ) → List ℕ
 whole k l n inside = header k l (6 + n) ++ inside
 
-module _ (k l n : ℕ) (inside : List ℕ) (e : length inside ≡ n) (h : n ≤ 4080) where
+module _ (k : ℕ) (l : Head) (n : ℕ) (inside : List ℕ) (e : length inside ≡ n) (h : n ≤ capacity) where
   size-at : (s : List ℕ) → twoAt (header k l (6 + n) ++ s) 4 ≡ 6 + n
   unfolding twoAt
   size-at s = two-bytes (6 + n) (omega arith)
@@ -62,7 +63,7 @@ module _ (img : List ℕ) (page level : ℕ) (w : State) where
         list-eq img s page holder level w
         ∙ rw (ne-eqb (length s) 0 (λ z. omega arith), ne-eqb (w .left) 0 (λ z. omega arith), ne-eqb (sizeOf s) 0 (λ z. omega arith))
 
-  module _ (l n : ℕ) (inside : List ℕ) (e : length inside ≡ n) (h : n ≤ 4080) where
+  module _ (l : Head) (n : ℕ) (inside : List ℕ) (e : length inside ≡ n) (h : n ≤ capacity) where
     -- the first node, then the others
     pub list-node : (k holder : ℕ) (after : List ℕ) (a d : Decoded) → 1 ≤ w .left → nodeOf img (whole k l n inside) page holder level w ≡ a
         → listOf img after page holder level (a .walk) ≡ d → listOf img (whole k l n inside ++ after) page holder level w ≡ before a d
@@ -74,32 +75,32 @@ module _ (img : List ℕ) (page level : ℕ) (w : State) where
         list-more holder s f (omega arith) (omega arith)
         ∙ rw (z, take-at (whole k l n inside) after (6 + n) m, drop-at (whole k l n inside) after (6 + n) m, i, j)
 
-    pub agg-node : (holder : ℕ) → l < 65536 → mayStand holder 1 ≡ true → level ≤ 24
+    pub agg-node : (holder : ℕ) → HeadFits l → mayStand holder 1 ≡ true → level ≤ 24
         → nodeOf img (whole 1 l n inside) page holder level w ≡ asAgg l (listOf img inside page 1 (level + 1) w)
     unfolding nodeStep shapeOf twoAt
     agg-node holder f m g =
         node-eq img (whole 1 l n inside) page holder level w
-        ∙ rw (head-node 1 l n inside e h holder (omega arith) m refl, le-ltb 24 level g, two-bytes l f)
+        ∙ rw (head-node 1 l n inside e h holder (omega arith) m refl, le-ltb 24 level g, two-bytes (l .label) (f .label))
 
-    pub lit-node : (holder : ℕ) → l < 65536 → mayStand holder 2 ≡ true → level ≤ 24 → n ≤ 520
-        → nodeOf img (whole 2 l n inside) page holder level w ≡ record { row = lit (record { label = l }) inside nil; walk = w }
+    pub lit-node : (holder : ℕ) → HeadFits l → mayStand holder 2 ≡ true → level ≤ 24 → n ≤ mostContent
+        → nodeOf img (whole 2 l n inside) page holder level w ≡ record { row = lit l inside nil; walk = w }
     unfolding nodeStep shapeOf twoAt
     lit-node holder f m g c =
         node-eq img (whole 2 l n inside) page holder level w
-        ∙ rw (head-node 2 l n inside e h holder (omega arith) m (le-leb (length (whole 2 l n inside)) 526 (omega arith)), le-ltb 24 level g, two-bytes l f)
+        ∙ rw (head-node 2 l n inside e h holder (omega arith) m (le-leb (length (whole 2 l n inside)) mostNode (omega arith)), le-ltb 24 level g, two-bytes (l .label) (f .label))
 
-    helper-node : twoChildren inside ≡ true → nodeOf img (whole 4 0 n inside) page 0 level w ≡ listOf img inside page 4 level w
+    helper-node : twoChildren inside ≡ true → nodeOf img (whole 4 noHead n inside) page 0 level w ≡ listOf img inside page 4 level w
     unfolding nodeStep shapeOf twoAt mayStand standing
     helper-node c =
-        node-eq img (whole 4 0 n inside) page 0 level w
-        ∙ rw (head-node 4 0 n inside e h 0 (omega arith) refl c)
+        node-eq img (whole 4 noHead n inside) page 0 level w
+        ∙ rw (head-node 4 noHead n inside e h 0 (omega arith) refl c)
 
   pub rec-node : (p holder : ℕ) → p < 65536 → mayStand holder 3 ≡ true
-      → nodeOf img (whole 3 0 2 (two p)) page holder level w ≡ proxyOf img p page level w
+      → nodeOf img (whole 3 noHead 2 (two p)) page holder level w ≡ proxyOf img p page level w
   unfolding nodeStep shapeOf twoAt
   rec-node p holder f m =
-      node-eq img (whole 3 0 2 (two p)) page holder level w
-      ∙ rw (head-node 3 0 2 (two p) refl (omega arith) holder (omega arith) m refl, two-bytes p f)
+      node-eq img (whole 3 noHead 2 (two p)) page holder level w
+      ∙ rw (head-node 3 noHead 2 (two p) refl (omega arith) holder (omega arith) m refl, two-bytes p f)
 
 -- ── a record ──
 
@@ -111,11 +112,11 @@ tail (lit h c rest) = rest
 tail (rec p s r rest) = rest
 
 -- the size of a row's first node
-first : (r : Row) → size r ≤ 4080 → 1 ≤ nodeCount r → (6 ≤ sizeOf (bytes r)) × (sizeOf (bytes r) + size (tail r) ≡ size r)
+first : (r : Row) → size r ≤ capacity → 1 ≤ nodeCount r → (6 ≤ sizeOf (bytes r)) × (sizeOf (bytes r) + size (tail r) ≡ size r)
 first nil f n = absurd (omega arith)
-first (agg h cs rest) f n = omega (arith, size-node 1 (h .label) (size cs) (bytes cs) (length-bytes cs) (omega arith) (bytes rest))
-first (lit h c rest) f n = omega (arith, size-node 2 (h .label) (length c) c refl (omega arith) (bytes rest))
-first (rec p s r rest) f n = omega (arith, size-node 3 0 2 (two p) refl (omega arith) (bytes rest))
+first (agg h cs rest) f n = omega (arith, size-node 1 h (size cs) (bytes cs) (length-bytes cs) (omega arith) (bytes rest))
+first (lit h c rest) f n = omega (arith, size-node 2 h (length c) c refl (omega arith) (bytes rest))
+first (rec p s r rest) f n = omega (arith, size-node 3 noHead 2 (two p) refl (omega arith) (bytes rest))
 
 some-size : (r : Row) → 1 ≤ nodeCount r → 1 ≤ size r
 some-size nil h = absurd (omega arith)
@@ -135,7 +136,7 @@ more-tail (agg l cs rest) h = omega arith
 more-tail (lit l c rest) h = omega arith
 more-tail (rec p s r rest) h = omega arith
 
-two-children : (r : Row) → size r ≤ 4080 → 2 ≤ nodeCount r → twoChildren (bytes r) ≡ true
+two-children : (r : Row) → size r ≤ capacity → 2 ≤ nodeCount r → twoChildren (bytes r) ≡ true
 unfolding twoChildren
 two-children r f h =
     let a = first r f (omega arith) in
@@ -162,13 +163,13 @@ module _ (img : List ℕ) (page level : ℕ) (w : State) (left : 1 ≤ w .left) 
   unfolding mayStand standing
   record-node s r d f t inner = go (lone r) refl t
     where
-      small : size r ≤ 4080
+      small : size r ≤ capacity
       small = omega (arith, f .fits)
 
-      go : (b : Bool) → lone r ≡ b → cond b (byTable 0 r) (byTable 4 r) ≡ true → nodeOf img (cond b (bytes r) (header 4 0 (6 + size r) ++ bytes r)) page 0 level w ≡ d
+      go : (b : Bool) → lone r ≡ b → cond b (byTable 0 r) (byTable 4 r) ≡ true → nodeOf img (cond b (bytes r) (header 4 noHead (6 + size r) ++ bytes r)) page 0 level w ≡ d
       go true e t =
           let a = lone-tail r e in
           let b = first r small (a .1) in
           let n = length-bytes r in
           sym (alone 0 (bytes r) (omega arith) (omega (arith, ap size (a .0)))) ∙ inner 0 t
-      go false e t = helper-node img page level w 0 (size r) (bytes r) (length-bytes r) small (two-children r small (not-lone (f .shape) e)) ∙ inner 4 t
+      go false e t = helper-node img page level w noHead (size r) (bytes r) (length-bytes r) small (two-children r small (not-lone (f .shape) e)) ∙ inner 4 t

@@ -8,8 +8,9 @@ use lib.ListN.{length, take, drop, getD, replicate, length-append, length-replic
 use lib.Seq.{take-at, drop-at, take-take, drop-append-add, getD-take, getD-drop}
 use lib.Dec.{ltb, eqb}
 use borrow.Author.Tests.{le-ltb, lt-leb, eq-eqb}
+use Rattle.model.specs.Limits.{mostPages, pageSize, capacity, settingsSize}
 use Rattle.model.specs.Row.{Row, nil, agg, lit, rec, lone, recordSize, recordBytes, two, trailer, Held, recordPage, Config, settingsPage, every, isEntry, isAgg}
-use Rattle.model.specs.Reading.{twoAt, pageOf}
+use Rattle.model.specs.Reading.{twoAt, pageOf, backAt, settledAt}
 use Rattle.theory_rows.specs.Fits.{Shape, RecordFits, Ranges}
 use Rattle.theory_rows.specs.Store.{settled-lone}
 use Rattle.theory_rows.specs.Image.{length-record}
@@ -42,9 +43,9 @@ matrix-ok (x ∷ m) e = let t = both (isEntry x) (every isEntry m) e in rw (go (
     go false b e = e
 
 -- with any zeros behind the matrix, so that nothing has to count them
-module _ (st : Config) (r : Ranges st) (z : List ℕ) (many : length z ≡ 3808) (none : allZero z ≡ true) where
+module _ (st : Config) (r : Ranges st) (z : List ℕ) (many : length z ≡ (capacity - settingsSize)) (none : allZero z ≡ true) where
   abbrev last : List ℕ
-  last = trailer 2 0 272 0
+  last = trailer 2 0 settingsSize 0
 
   abbrev front : List ℕ
   front = two (st .pages) ++ (st .target ∷ 0 ∷ two (st .tolerance)) ++ two (st .form) ++ replicate 8 0 ++ st .matrix ++ z
@@ -67,20 +68,20 @@ module _ (st : Config) (r : Ranges st) (z : List ℕ) (many : length z ≡ 3808)
   settings-with =
       let s = front ++ last in
       let n = r .entries in
-      let long : length front ≡ 4080 = omega (arith, length-append (st .matrix) z) in
-      let at : (i : ℕ) → getD s (4080 + i) 0 ≡ getD last i 0 = λ i. getD-past front last 4080 i long in
+      let long : length front ≡ capacity = omega (arith, length-append (st .matrix) z) in
+      let at : (i : ℕ) → getD s (capacity + i) 0 ≡ getD last i 0 = λ i. getD-past front last capacity i long in
       let matrix : take 256 (drop 16 s) ≡ st .matrix = rw (append-assoc (st .matrix) z last) (take-at (st .matrix) (z ++ last) 256 n) in
-      let rest : take 3808 (drop 272 s) ≡ z = part (st .matrix) z last 256 3808 n many in
-      rw (numbers-with, zeros 8, matrix, matrix-ok (st .matrix) (r .each), rest, none, at 0, at 1, at 2, at 3, drop-past front last 4080 4 long, zeros 12)
+      let rest : take (capacity - settingsSize) (drop settingsSize s) ≡ z = part (st .matrix) z last 256 (capacity - settingsSize) n many in
+      rw (numbers-with, zeros 8, matrix, matrix-ok (st .matrix) (r .each), rest, none, at 0, at 1, at 2, at 3, drop-past front last capacity 4 long, zeros 12)
 
 pub settings-ok : (st : Config) → Ranges st → settingsOk (settingsPage st) (st .pages) ≡ true
-settings-ok st r = settings-with st r (replicate 3808 0) (length-replicate {A = ℕ} 3808 0) (zeros 3808)
+settings-ok st r = settings-with st r (replicate (capacity - settingsSize) 0) (length-replicate {A = ℕ} (capacity - settingsSize) 0) (zeros (capacity - settingsSize))
 
 -- ── a free page ──
 
-pub free-state : stateOf (replicate 4096 0) ≡ 1
+pub free-state : stateOf (replicate pageSize 0) ≡ 1
 unfolding stateOf
-free-state = rw (zeros 4096)
+free-state = rw (zeros pageSize)
 
 -- ── a record's page ──
 
@@ -99,26 +100,26 @@ root-kind (agg h cs rest) s t e = rw e
 root-kind (lit h c rest) s t e = rw e
 root-kind (rec p b r rest) s t e = absurd (false≢true e)
 
-module _ (h : Held) (f : recordSize (h .row) ≤ 4080) where
+module _ (h : Held) (f : recordSize (h .row) ≤ capacity) where
   pub record-state : stateOf (recordPage h) ≡ 2
   unfolding stateOf all
   record-state =
       let n = recordSize (h .row) in
-      let free : List ℕ = replicate (4080 - n) 0 in
+      let free : List ℕ = replicate (capacity - n) 0 in
       let last = trailer 1 (cond (h .settled) 1 0) n (h .holder) in
-      let long : length (recordBytes (h .row) ++ free) ≡ 4080 = simp (length-append, length-replicate, length-record) (omega arith) in
+      let long : length (recordBytes (h .row) ++ free) ≡ capacity = simp (length-append, length-replicate, length-record) (omega arith) in
       rw (
         in-trailer h f 0,
         in-trailer h f 1,
         not-two (h .settled),
         used-page h f,
-        le-ltb 4080 n f,
-        part (recordBytes (h .row)) free last n (4080 - n) (length-record (h .row)) (length-replicate (4080 - n) 0),
-        zeros (4080 - n),
-        drop-past (recordBytes (h .row) ++ free) last 4080 6 long,
+        le-ltb capacity n f,
+        part (recordBytes (h .row)) free last n (capacity - n) (length-record (h .row)) (length-replicate (capacity - n) 0),
+        zeros (capacity - n),
+        drop-past (recordBytes (h .row) ++ free) last capacity 6 long,
       )
 
-  holder-page : h .holder < 65536 → twoAt (recordPage h) 4084 ≡ h .holder
+  holder-page : h .holder < 65536 → backAt (recordPage h) 0 ≡ h .holder
   unfolding twoAt
   holder-page l = rw (in-trailer h f 4, in-trailer h f 5) (two-bytes (h .holder) l)
 
@@ -130,47 +131,47 @@ module _ (h : Held) (f : recordSize (h .row) ≤ 4080) where
 -- ── the page in the image ──
 
 module _ (img : List ℕ) (p : ℕ) (h : Held) (f : RecordFits (h .settled) (h .row)) (e : pageOf img p ≡ recordPage h) where
-  pub on-page : (i j : ℕ) → j ≡ 4096 * p + i → i < 4096 → getD img j 0 ≡ getD (recordPage h) i 0
-  on-page i j a b = rw (a, ← e, getD-take 4096 (drop (4096 * p) img) i 0 b, getD-drop (4096 * p) img i 0)
+  pub on-page : (i j : ℕ) → j ≡ pageSize * p + i → i < pageSize → getD img j 0 ≡ getD (recordPage h) i 0
+  on-page i j a b = rw (a, ← e, getD-take pageSize (drop (pageSize * p) img) i 0 b, getD-drop (pageSize * p) img i 0)
 
-  two-on-page : (i j : ℕ) → j ≡ 4096 * p + i → i < 4095 → twoAt img j ≡ twoAt (recordPage h) i
+  two-on-page : (i j : ℕ) → j ≡ pageSize * p + i → i < 4095 → twoAt img j ≡ twoAt (recordPage h) i
   unfolding twoAt
   two-on-page i j a b = rw (on-page i j a (omega arith), on-page (i + 1) (j + 1) (omega arith) (omega arith))
 
   pub record-of : recordOf img p ≡ recordBytes (h .row)
   record-of =
       rw (
-        two-on-page 4082 (4096 * p + 4082) refl (omega arith),
+        two-on-page 4082 (pageSize * p + 4082) refl (omega arith),
         used-page h (f .fits),
-        ← take-take (recordSize (h .row)) 4096 (drop (4096 * p) img) (omega (arith, f .fits)),
+        ← take-take (recordSize (h .row)) pageSize (drop (pageSize * p) img) (omega (arith, f .fits)),
         e,
       ) (take-page h (f .fits))
 
-  settled-of : eqb (getD img (4096 * p + 4081) 0) 1 ≡ h .settled
-  settled-of = rw (on-page 4081 (4096 * p + 4081) refl (omega arith)) (settled-page h (f .fits))
+  settled-of : eqb (settledAt img (pageSize * p)) 1 ≡ h .settled
+  settled-of = rw (on-page 4081 (pageSize * p + 4081) refl (omega arith)) (settled-page h (f .fits))
 
   root-fits : rootFits img p ≡ true
   unfolding rootFits
-  root-fits = rw (settled-of, on-page 0 (4096 * p) (omega arith) (omega arith)) (go (h .settled) (f .shape))
+  root-fits = rw (settled-of, on-page 0 (pageSize * p) (omega arith) (omega arith)) (go (h .settled) (f .shape))
     where
       go : (b : Bool) → Shape b (h .row) → cond b (not (eqb (getD (recordPage h) 0 0) 4)) true ≡ true
       go true s = rw (root-kind (h .row) _ _ (settled-lone (h .row) s), not-four (isAgg (h .row)))
       go false s = refl
 
-  module _ (few : 2 ≤ p) (many : p < 1024) (inside : 4096 * p + 4096 ≤ length img) (l : h .holder < 65536) where
+  module _ (few : 2 ≤ p) (many : p < mostPages) (inside : pageSize * p + pageSize ≤ length img) (l : h .holder < 65536) where
     names-of : namesOf img p (h .holder) ≡ true
     unfolding namesOf
     names-of =
         rw (
           le-ltb p 2 few,
-          lt-leb 1024 p many,
-          le-ltb (length img) (4096 * p + 4096) inside,
-          on-page 4080 (4096 * p + 4080) refl (omega arith),
+          lt-leb mostPages p many,
+          le-ltb (length img) (pageSize * p + pageSize) inside,
+          on-page capacity (pageSize * p + capacity) refl (omega arith),
           in-trailer h (f .fits) 0,
-          two-on-page 4082 (4096 * p + 4080 + 2) (omega arith) (omega arith),
+          two-on-page 4082 (pageSize * p + capacity + 2) (omega arith) (omega arith),
           used-page h (f .fits),
-          le-ltb 4080 (recordSize (h .row)) (f .fits),
-          two-on-page 4084 (4096 * p + 4080 + 4) (omega arith) (omega arith),
+          le-ltb capacity (recordSize (h .row)) (f .fits),
+          two-on-page 4084 (pageSize * p + capacity + 4) (omega arith) (omega arith),
           holder-page h (f .fits) l,
           eq-eqb (h .holder) (h .holder) refl,
         )

@@ -5,12 +5,13 @@ use mathlib.Core.Bool.{true, false}
 use Prim.Native.Nat.{ℕ, zero, suc, _+_, _*_, _≤_, _<_}
 use native.Mathlib.Omega.{arith}
 use native.Mathlib.Nat.{add-assoc}
-use lib.ListN.{length, take, drop, getD, length-drop}
+use lib.ListN.{length, take, drop, length-drop}
 use lib.Seq.{length-take-le}
 use lib.Dec.{eqb, ltb, leb}
 use borrow.Author.Tests.{eqb-true, eqb-false, ltb-false, not-true}
+use Rattle.model.specs.Limits.{mostPages, pageSize, capacity}
 use Rattle.model.specs.Row.{Row, nil, agg, lit, rec, _⊹_}
-use Rattle.model.specs.Reading.{twoAt}
+use Rattle.model.specs.Reading.{twoAt, sizeAt, usedAt, backAt, stateAt, settledAt, headAt}
 use Rattle.theory_rows.specs.Laws.{cond-case}
 use Rattle.theory_check.specs.Facts.{then-true, else-true}
 use Rattle.theory_check.specs.Tests.{sizeOf, headOf, isMarked, namesOf, rootFits}
@@ -22,8 +23,8 @@ use Rattle.theory_check.specs.Heads.{AllBytes, all-drop, all-take, Head,
 pub record Enters (img : List ℕ) (p page : ℕ) (w : State) : Type 0 where
   pub known : Entered img p w
   pub past : 2 ≤ p
-  pub kind : getD img (4096 * p + 4080) 0 ≡ 1
-  pub holder : twoAt img (4096 * p + 4084) ≡ page
+  pub kind : stateAt img (pageSize * p) ≡ 1
+  pub holder : backAt img (pageSize * p) ≡ page
   pub root : rootFits img p ≡ true
   pub fresh : isMarked (w .marks) p ≡ false
 
@@ -34,15 +35,15 @@ enters img p page w e =
     let root = then-true (rootFits img p) (names .1) in
     let room = else-true (ltb (w .left) 2) (root .1) in
     let past = else-true (ltb p 2) (names .0) in
-    let low = else-true (leb 1024 p) (past .1) in
-    let inside = else-true (ltb (length img) (4096 * p + 4096)) (low .1) in
-    let kind = then-true (eqb (getD img (4096 * p + 4080) 0) 1) (inside .1) in
-    let holder = else-true (ltb 4080 (twoAt img (4096 * p + 4080 + 2))) (kind .1) in
+    let low = else-true (leb mostPages p) (past .1) in
+    let inside = else-true (ltb (length img) (pageSize * p + pageSize)) (low .1) in
+    let kind = then-true (eqb (stateAt img (pageSize * p)) 1) (inside .1) in
+    let holder = else-true (ltb capacity (twoAt img (pageSize * p + capacity + 2))) (kind .1) in
     record {
       known = entered img p page w e;
       past = ltb-false p 2 (past .0);
-      kind = eqb-true (getD img (4096 * p + 4080) 0) 1 (kind .0);
-      holder = ap (twoAt img) (sym (add-assoc (4096 * p) 4080 4)) ∙ eqb-true (twoAt img (4096 * p + 4080 + 4)) page (holder .1);
+      kind = eqb-true (stateAt img (pageSize * p)) 1 (kind .0);
+      holder = ap (twoAt img) (sym (add-assoc (pageSize * p) capacity 4)) ∙ eqb-true (sizeAt img (pageSize * p + capacity)) page (holder .1);
       root = root .0;
       fresh = not-true (isMarked (w .marks) p) (room .1);
     }
@@ -51,14 +52,14 @@ enters img p page w e =
 pub data Passes (img : List ℕ) : Job → Row → State → Type 0 where
   proxy : {s : List ℕ} {page holder level : ℕ} {w v : State} {r : Row} → Head s holder 3 → length s ≡ 8 → Enters img (twoAt s 6) page w
       → Passes img (node (recordOf img (twoAt s 6)) (twoAt s 6) 0 level (withMark w (twoAt s 6))) r v
-      → Passes img (node s page holder level w) (rec (twoAt s 6) (eqb (getD img (4096 * twoAt s 6 + 4081) 0) 1) r nil) v
+      → Passes img (node s page holder level w) (rec (twoAt s 6) (eqb (settledAt img (pageSize * twoAt s 6)) 1) r nil) v
   helper : {s : List ℕ} {page holder level : ℕ} {w v : State} {r : Row} → Head s holder 4
       → Passes img (list (drop 6 s) page 4 level w) r v → Passes img (node s page holder level w) r v
   literal : {s : List ℕ} {page holder level : ℕ} {w : State} → Head s holder 2 → level ≤ 24
-      → Passes img (node s page holder level w) (lit (record { label = twoAt s 2 }) (drop 6 s) nil) w
+      → Passes img (node s page holder level w) (lit (headAt s 0) (drop 6 s) nil) w
   aggregate : {s : List ℕ} {page holder level : ℕ} {w v : State} {r : Row} → Head s holder 1 → level ≤ 24
       → Passes img (list (drop 6 s) page 1 (level + 1) w) r v
-      → Passes img (node s page holder level w) (agg (record { label = twoAt s 2 }) r nil) v
+      → Passes img (node s page holder level w) (agg (headAt s 0) r nil) v
   empty : {s : List ℕ} {page holder level : ℕ} {w : State} → length s ≡ 0 → Passes img (list s page holder level w) nil w
   next : {s : List ℕ} {page holder level : ℕ} {w u v : State} {a r : Row} → 6 ≤ sizeOf s → sizeOf s ≤ length s
       → Passes img (node (take (sizeOf s) s) page holder level w) a u
@@ -82,7 +83,7 @@ bytesOf (list s page holder level w) = s
 
 module _ (img : List ℕ) (whole : AllBytes img) where
   pub record-bytes : (p : ℕ) → AllBytes (recordOf img p)
-  record-bytes p = all-take (twoAt img (4096 * p + 4082)) (drop (4096 * p) img) (all-drop (4096 * p) img whole)
+  record-bytes p = all-take (usedAt img (pageSize * p)) (drop (pageSize * p) img) (all-drop (pageSize * p) img whole)
 
   -- what is to be shown of a job's outcome
   abbrev Good : Job → Decoded → Type 0
@@ -113,7 +114,7 @@ module _ (img : List ℕ) (whole : AllBytes img) where
           (λ f o.
           let g = enters img p page w f in
           let falls : measure (node (recordOf img p) p 0 level (withMark w p)) < measure here =
-          omega (arith, g .known .room, g .known .used, used-is img p, length-part img (4096 * p) (twoAt img (4096 * p + 4082))) in
+          omega (arith, g .known .room, g .known .used, used-is img p, length-part img (pageSize * p) (usedAt img (pageSize * p))) in
           proxy (head 3 e (λ z. omega arith)) n g (hyp (node (recordOf img p) p 0 level (withMark w p)) falls (record-bytes p) o))
           (λ _. refuse)
 

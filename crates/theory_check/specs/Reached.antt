@@ -7,6 +7,7 @@ use native.Mathlib.Omega.{arith}
 use lib.ListN.{length}
 use lib.Dec.{eqb, leb}
 use borrow.Author.Tests.{eqb-true, ne-eqb, eq-eqb, lt-leb}
+use Rattle.model.specs.Limits.{mostPages, pageSize, capacity}
 use Rattle.model.specs.Row.{Row, nil, agg, lit, rec, _⊹_, count, outside, standing, mayStand}
 use Rattle.model.specs.Reading.{twoAt, pageOf}
 use Rattle.theory_rows.specs.Image.{Stored}
@@ -30,7 +31,7 @@ bit b = cond b 1 0
 -- Each page is marked as often as it was before and as the row names it, so at most one time.
 pub record Marked (before after : List ℕ) (r : Row) : Type 0 where
   pub kept : IsMarks after
-  pub once : (q : ℕ) → q < 1024 → bit (isMarked before q) + count q r ≡ bit (isMarked after q)
+  pub once : (q : ℕ) → q < mostPages → bit (isMarked before q) + count q r ≡ bit (isMarked after q)
 
 -- the mark of a fresh page p is one for its name
 new-mark : (m : List ℕ) (p q n x : ℕ) → isMarked m p ≡ false → isMarked (marked m p) q ≡ cond (eqb q p) true (isMarked m q)
@@ -61,11 +62,11 @@ module _ {img : List ℕ} where
 
 -- A page past page 1 that is in the state of a record's.
 abbrev pub hasRecord : List ℕ → ℕ → Bool
-hasRecord img q = not (outside (length img / 4096) q) && eqb (stateOf (pageOf img q)) 2
+hasRecord img q = not (outside (length img / pageSize) q) && eqb (stateOf (pageOf img q)) 2
 
 -- How often a row names the pages of an image from 2 on.
 abbrev pub names : List ℕ → Row → ℕ
-names img r = sum (λ q. count q r) (length img / 4096 - 2) 2
+names img r = sum (λ q. count q r) (length img / pageSize - 2) 2
 
 stored-⊹ : (mem : ℕ → List ℕ) (h : ℕ) (a b : Row) → Stored mem h a → Stored mem h b → Stored mem h (a ⊹ b)
 stored-⊹ mem h nil b m n = n
@@ -78,17 +79,17 @@ abbrev pub pageIn : Job → ℕ
 pageIn (node s page holder level w) = page
 pageIn (list s page holder level w) = page
 
-module _ (img : List ℕ) (whole : AllBytes img) (kept : (q : ℕ) → 2 ≤ q → q < length img / 4096 → stateOf (pageOf img q) ≡ 0 → ⊥) where
+module _ (img : List ℕ) (whole : AllBytes img) (kept : (q : ℕ) → 2 ≤ q → q < length img / pageSize → stateOf (pageOf img q) ≡ 0 → ⊥) where
   -- a page that the walk enters has a record
   state-entered : {p page : ℕ} {w : State} → Enters img p page w → stateOf (pageOf img p) ≡ 2
   state-entered {p} g =
-      state-two (pageOf img p) (page-long img p (g .known .inside)) (page-byte img p 4080 (omega arith) ∙ g .kind)
+      state-two (pageOf img p) (page-long img p (g .known .inside)) (page-byte img p capacity (omega arith) ∙ g .kind)
       (kept p (g .past) (omega (arith, g .known .inside)))
 
   has-entered : {p page : ℕ} {w : State} → Enters img p page w → hasRecord img p ≡ true
   has-entered {p} g =
       let low : leb p 1 ≡ false = lt-leb p 1 (g .past) in
-      let high : leb (length img / 4096) p ≡ false = lt-leb (length img / 4096) p (omega (arith, g .known .inside)) in
+      let high : leb (length img / pageSize) p ≡ false = lt-leb (length img / pageSize) p (omega (arith, g .known .inside)) in
       rw (low, high) (eq-eqb (stateOf (pageOf img p)) 2 (state-entered g))
 
   -- other pages are not named
@@ -109,16 +110,16 @@ module _ (img : List ℕ) (whole : AllBytes img) (kept : (q : ℕ) → 2 ≤ q �
       omega (
         arith,
         left p,
-        sum-add (λ q. only new q + count q r) (λ q. 0) (length img / 4096 - 2) 2,
-        sum-add (only new) (λ q. count q r) (length img / 4096 - 2) 2,
-        sum-only new (length img / 4096 - 2) 2 (g .past) (omega (arith, g .known .inside)),
+        sum-add (λ q. only new q + count q r) (λ q. 0) (length img / pageSize - 2) 2,
+        sum-add (only new) (λ q. count q r) (length img / pageSize - 2) 2,
+        sum-only new (length img / pageSize - 2) 2 (g .past) (omega (arith, g .known .inside)),
       )
   left (helper h p) = left p
   left (literal h l) = omega arith
-  left (aggregate {r = r} h l p) = omega (arith, left p, sum-add (λ q. count q r) (λ q. 0) (length img / 4096 - 2) 2)
+  left (aggregate {r = r} h l p) = omega (arith, left p, sum-add (λ q. count q r) (λ q. 0) (length img / pageSize - 2) 2)
   left (empty e) = omega arith
   left (next {a = a} {r = r} l h p t) =
-      simp count-⊹ (omega (arith, left p, left t, sum-add (λ q. count q a) (λ q. count q r) (length img / 4096 - 2) 2))
+      simp count-⊹ (omega (arith, left p, left t, sum-add (λ q. count q a) (λ q. count q r) (length img / pageSize - 2) 2))
 
   -- each record stands on its page
   pub stored : {j : Job} {r : Row} {v : State} → Passes img j r v → Stored (pageOf img) (pageIn j) r

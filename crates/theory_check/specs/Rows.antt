@@ -8,8 +8,10 @@ use lib.ListN.{length, drop, getD, length-drop, take-append-drop}
 use lib.Seq.{length-take-le, getD-take, getD-drop}
 use lib.Dec.{eqb}
 use borrow.Author.Tests.{eqb-true, eqb-false, ltb-true, leb-true, not-true}
+use Rattle.model.specs.Limits.{pageSize, capacity, mostContent, mostNode}
 use Rattle.model.specs.Row.{Row, nil, agg, lit, rec, _⊹_, size, isNil, nodeCount, lone, two, header, bytes, recordBytes, standing, mayStand, isAgg, height}
-use Rattle.model.specs.Reading.{twoAt}
+use Rattle.model.specs.Row.{noHead}
+use Rattle.model.specs.Reading.{twoAt, usedAt, settledAt, headAt}
 use Rattle.theory_rows.specs.Keeps.{nodeCount-⊹}
 use Rattle.theory_rows.specs.Fits.{Fits, Shape, one, more, RecordFits}
 use Rattle.theory_rows.specs.Laws.{length-bytes, bytes-⊹}
@@ -84,12 +86,12 @@ never s holder kind h e = no (sym e ∙ h .may)
 
 module _ (s : List ℕ) (holder : ℕ) where
   -- the header with what stands inside
-  around : (kind : ℕ) → Head s holder kind → (n : ℕ) (x : List ℕ) → length x ≡ n → drop 6 s ≡ x → s ≡ header kind (twoAt s 2) (6 + n) ++ x
+  around : (kind : ℕ) → Head s holder kind → (n : ℕ) (x : List ℕ) → length x ≡ n → drop 6 s ≡ x → s ≡ header kind (headAt s 0) (6 + n) ++ x
   around kind h n x l e =
       let m : length s ≡ 6 + n = omega (arith, h .long, length-drop 6 s, ap length e) in
-      header-is s holder kind h ∙ ap₂ (λ (n : ℕ) (x : List ℕ). header kind (twoAt s 2) n ++ x) m e
+      header-is s holder kind h ∙ ap₂ (λ (n : ℕ) (x : List ℕ). header kind (headAt s 0) n ++ x) m e
 
-  is-rec : Head s holder 3 → length s ≡ 8 → s ≡ header 3 0 8 ++ two (twoAt s 6)
+  is-rec : Head s holder 3 → length s ≡ 8 → s ≡ header 3 noHead 8 ++ two (twoAt s 6)
   unfolding shapeOf
   is-rec h n =
       let l : twoAt s 2 ≡ 0 = eqb-true (twoAt s 2) 0 (h .shape) in
@@ -97,10 +99,10 @@ module _ (s : List ℕ) (holder : ℕ) where
       two-left (drop 6 s) (omega (arith, length-drop 6 s)) ∙ rw (getD-drop 6 s 0 0, getD-drop 6 s 1 0) (sym (two-at s 6 (h .all))) in
       around 3 h 2 (two (twoAt s 6)) refl x ∙ rw l
 
-  is-lit : Head s holder 2 → s ≡ bytes (lit (record { label = twoAt s 2 }) (drop 6 s) nil)
+  is-lit : Head s holder 2 → s ≡ bytes (lit (headAt s 0) (drop 6 s) nil)
   is-lit h = around 2 h (length (drop 6 s)) (drop 6 s) refl refl ∙ rw (append-nil (drop 6 s))
 
-  is-agg : Head s holder 1 → (r : Row) → drop 6 s ≡ bytes r → s ≡ bytes (agg (record { label = twoAt s 2 }) r nil)
+  is-agg : Head s holder 1 → (r : Row) → drop 6 s ≡ bytes r → s ≡ bytes (agg (headAt s 0) r nil)
   is-agg h r e = around 1 h (size r) (bytes r) (length-bytes r) e ∙ rw (append-nil (bytes r))
 
   is-helper : Head s holder 4 → (r : Row) → drop 6 s ≡ bytes r → 2 ≤ nodeCount r → s ≡ recordBytes r
@@ -171,34 +173,34 @@ module _ {img : List ℕ} where
 -- ── what fits ──
 
 module _ (img : List ℕ) where
-  pub first-byte : (p : ℕ) → 6 ≤ length (recordOf img p) → getD (recordOf img p) 0 0 ≡ getD img (4096 * p) 0
+  pub first-byte : (p : ℕ) → 6 ≤ length (recordOf img p) → getD (recordOf img p) 0 0 ≡ getD img (pageSize * p) 0
   first-byte p h =
-      let n = twoAt img (4096 * p + 4082) in
-      let low : 0 < n = omega (arith, length-part img (4096 * p) n) in
-      getD-take n (drop (4096 * p) img) 0 0 low ∙ getD-drop (4096 * p) img 0 0 ∙ ap (λ (i : ℕ). getD img i 0) (omega arith)
+      let n = usedAt img (pageSize * p) in
+      let low : 0 < n = omega (arith, length-part img (pageSize * p) n) in
+      getD-take n (drop (pageSize * p) img) 0 0 low ∙ getD-drop (pageSize * p) img 0 0 ∙ ap (λ (i : ℕ). getD img i 0) (omega arith)
 
   -- a record whose root, found on page p, passes
-  pub record-fits : (p : ℕ) (r : Row) → NodeIs (recordOf img p) 0 r → twoAt img (4096 * p + 4082) ≤ 4080
-      → (settled : Bool) → (settled ≡ true → getD img (4096 * p) 0 ≡ 4 → ⊥) → RecordFits settled r
+  pub record-fits : (p : ℕ) (r : Row) → NodeIs (recordOf img p) 0 r → usedAt img (pageSize * p) ≤ capacity
+      → (settled : Bool) → (settled ≡ true → getD img (pageSize * p) 0 ≡ 4 → ⊥) → RecordFits settled r
   unfolding mayStand standing
   record-fits p r i n b h = record {
-    fits = omega (arith, length-record r, ap length (i .root refl), length-part img (4096 * p) (twoAt img (4096 * p + 4082)));
+    fits = omega (arith, length-record r, ap length (i .root refl), length-part img (pageSize * p) (usedAt img (pageSize * p)));
     shape = i .shape refl b (λ e f. h e (sym (first-byte p (i .long)) ∙ f));
   }
 
-  settled-root : (p : ℕ) → rootFits img p ≡ true → eqb (getD img (4096 * p + 4081) 0) 1 ≡ true → getD img (4096 * p) 0 ≡ 4 → ⊥
+  settled-root : (p : ℕ) → rootFits img p ≡ true → eqb (settledAt img (pageSize * p)) 1 ≡ true → getD img (pageSize * p) 0 ≡ 4 → ⊥
   unfolding rootFits
-  settled-root p e b f = let n : not (eqb (getD img (4096 * p) 0) 4) ≡ true = rw b at e in eqb-false (getD img (4096 * p) 0) 4 (not-true _ n) f
+  settled-root p e b f = let n : not (eqb (getD img (pageSize * p) 0) 4) ≡ true = rw b at e in eqb-false (getD img (pageSize * p) 0) 4 (not-true _ n) f
 
 module _ {img : List ℕ} where
   pub fits : {j : Job} {r : Row} {v : State} → Passes img j r v → Fits r
   unfolding shapeOf
   fits (proxy {s = s} {r = r} h n g p) =
-      let used : twoAt img (4096 * twoAt s 6 + 4082) ≤ 4080 = omega (arith, g .known .used, used-is img (twoAt s 6)) in
+      let used : usedAt img (pageSize * twoAt s 6) ≤ capacity = omega (arith, g .known .used, used-is img (twoAt s 6)) in
       (record-fits img (twoAt s 6) r (is p) used _ (settled-root img (twoAt s 6) (g .root)), fits p, tt)
   fits (helper h p) = fits p
   fits (literal {s = s} h l) =
-      let short : length (drop 6 s) ≤ 520 = omega (arith, length-drop 6 s, leb-true (length s) 526 (h .shape)) in
+      let short : length (drop 6 s) ≤ mostContent = omega (arith, length-drop 6 s, leb-true (length s) mostNode (h .shape)) in
       (record { label = two-low s 2 (h .all) }, short, is-byte (drop 6 s) (all-drop 6 s (h .all)), tt)
   fits (aggregate {s = s} h l p) = (record { label = two-low s 2 (h .all) }, fits p, tt)
   fits (empty e) = tt

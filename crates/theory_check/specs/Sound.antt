@@ -7,8 +7,9 @@ use native.Mathlib.Omega.{arith}
 use lib.ListN.{length, getD, replicate}
 use lib.Dec.{eqb, leb}
 use borrow.Author.Tests.{eqb-true, eqb-false, eq-eqb, leb-true, leb-false}
-use Rattle.model.specs.Row.{Row, store, Config, count, outside, recordPage, standing, mayStand}
-use Rattle.model.specs.Reading.{Reads, lengthOk, twoAt, configOn, pageOf}
+use Rattle.model.specs.Limits.{mostPages, pageSize}
+use Rattle.model.specs.Row.{Row, store, Config, count, outside, recordPage, standing, mayStand, recordOn}
+use Rattle.model.specs.Reading.{Reads, lengthOk, configOn, pageOf, backAt, settledAt}
 use Rattle.theory_rows.specs.Fits.{Fits, Placed, Valid}
 use Rattle.theory_decoding.specs.Valid as valid
 use Rattle.theory_decoding.specs.Valid.{valid-holds}
@@ -30,13 +31,13 @@ use Rattle.theory_check.specs.Images.{image-is}
 -- ── what the check says ──
 
 record Checked (img : List ℕ) : Type 0 where
-  whole : length img % 4096 ≡ 0
-  few : 2 ≤ length img / 4096
-  many : length img / 4096 ≤ 1024
-  settings : settingsOk (pageOf img 0) (length img / 4096) ≡ true
+  whole : length img % pageSize ≡ 0
+  few : 2 ≤ length img / pageSize
+  many : length img / pageSize ≤ mostPages
+  settings : settingsOk (pageOf img 0) (length img / pageSize) ≡ true
   first : firstOk (pageOf img 1) ≡ true
-  scanned : Scanned img (length img / 4096 - 2) 2 0 (trailersOf img)
-  top : getD img 4096 0 ≡ 1
+  scanned : Scanned img (length img / pageSize - 2) 2 0 (trailersOf img)
+  top : getD img pageSize 0 ≡ 1
   ended : walkOf img (trailersOf img) .walk .left ≡ 1
 
 check-says : (img : List ℕ) → checkBy img ≡ 0 → Checked img
@@ -46,39 +47,39 @@ check-says img e =
     let k = trailersOf img in
     let length-ok = not-else (lengthOk n) (λ z. omega arith) e in
     let trailers-ok = not-then (eqb k 0) (λ z. omega arith) (length-ok .1) in
-    let walk-ok = then-true (eqb (getD img 4096 0) 1) (not-else (walkOk img k) (λ z. omega arith) (trailers-ok .1) .0) in
-    let sizes = valid.both (eqb (n % 4096) 0 && leb 2 (n / 4096)) (leb (n / 4096) 1024) (length-ok .0) in
-    let least = valid.both (eqb (n % 4096) 0) (leb 2 (n / 4096)) (sizes .0) in
+    let walk-ok = then-true (eqb (getD img pageSize 0) 1) (not-else (walkOk img k) (λ z. omega arith) (trailers-ok .1) .0) in
+    let sizes = valid.both (eqb (n % pageSize) 0 && leb 2 (n / pageSize)) (leb (n / pageSize) mostPages) (length-ok .0) in
+    let least = valid.both (eqb (n % pageSize) 0) (leb 2 (n / pageSize)) (sizes .0) in
     let some : 0 ≡ k → ⊥ = λ z. eqb-false k 0 (trailers-ok .0) (sym z) in
-    let settings-ok = not-else (settingsOk (pageOf img 0) (n / 4096)) {n = k} some refl in
+    let settings-ok = not-else (settingsOk (pageOf img 0) (n / pageSize)) {n = k} some refl in
     let first-ok = not-else (firstOk (pageOf img 1)) some (settings-ok .1) in
     record {
-      whole = eqb-true (n % 4096) 0 (least .0);
-      few = leb-true 2 (n / 4096) (least .1);
-      many = leb-true (n / 4096) 1024 (sizes .1);
+      whole = eqb-true (n % pageSize) 0 (least .0);
+      few = leb-true 2 (n / pageSize) (least .1);
+      many = leb-true (n / pageSize) mostPages (sizes .1);
       settings = settings-ok .0;
       first = first-ok .0;
-      scanned = subst (Scanned img (n / 4096 - 2) 2 0) (first-ok .1) (scan-says img (n / 4096 - 2) 2 0 (λ z. some (sym z ∙ first-ok .1)));
-      top = eqb-true (getD img 4096 0) 1 (walk-ok .0);
+      scanned = subst (Scanned img (n / pageSize - 2) 2 0) (first-ok .1) (scan-says img (n / pageSize - 2) 2 0 (λ z. some (sym z ∙ first-ok .1)));
+      top = eqb-true (getD img pageSize 0) 1 (walk-ok .0);
       ended = eqb-true (walkOf img k .walk .left) 1 (walk-ok .1);
     }
 
 -- What page 1 is: a settled record with no holder.
 record FirstIs (img : List ℕ) : Type 0 where
   stands : stateOf (pageOf img 1) ≡ 2
-  settled : getD img (4096 * 1 + 4081) 0 ≡ 1
-  holder : twoAt img (4096 * 1 + 4084) ≡ 0
+  settled : settledAt img (pageSize * 1) ≡ 1
+  holder : backAt img (pageSize * 1) ≡ 0
 
 first-says : (img : List ℕ) → firstOk (pageOf img 1) ≡ true → FirstIs img
 unfolding firstOk
 first-says img e =
     let s = pageOf img 1 in
     let two = then-true (eqb (stateOf s) 2) e in
-    let one = then-true (eqb (getD s 4081 0) 1) (two .1) in
+    let one = then-true (eqb (settledAt s 0) 1) (two .1) in
     record {
       stands = eqb-true (stateOf s) 2 (two .0);
-      settled = sym (page-byte img 1 4081 (omega arith)) ∙ eqb-true (getD s 4081 0) 1 (one .0);
-      holder = sym (page-two img 1 4084 (omega arith)) ∙ eqb-true (twoAt s 4084) 0 (one .1);
+      settled = sym (page-byte img 1 4081 (omega arith)) ∙ eqb-true (settledAt s 0) 1 (one .0);
+      holder = sym (page-two img 1 4084 (omega arith)) ∙ eqb-true (backAt s 0) 0 (one .1);
     }
 
 -- ── the store ──
@@ -90,12 +91,12 @@ st img = configOn (pageOf img 0)
 module _ (img : List ℕ) (bytes : AllBytes img) (c : Checked img) (root : Row) (v : State)
     (p : Passes img (node (recordOf img 1) 1 0 1 (state (trailersOf img) (replicate 128 0))) root v) (ended : v .left ≡ 1) where
   abbrev pages : ℕ
-  pages = length img / 4096
+  pages = length img / pageSize
 
   kept : (q : ℕ) → 2 ≤ q → q < pages → stateOf (pageOf img q) ≡ 0 → ⊥
   kept q a b = c .scanned .kept q a (omega arith)
 
-  inside : (q : ℕ) → q < pages → 4096 * q + 4096 ≤ length img
+  inside : (q : ℕ) → q < pages → pageSize * q + pageSize ≤ length img
   inside q h = omega arith
 
   settings : SettingsIs (pageOf img 0) pages
@@ -139,16 +140,16 @@ module _ (img : List ℕ) (bytes : AllBytes img) (c : Checked img) (root : Row) 
       rw (eq-eqb (stateOf (pageOf img q)) 2 e) at t
 
   -- A page that is not named is zero.
-  free : (q : ℕ) → 1 ≤ q → q < pages → count q (store root) ≡ 0 → pageOf img q ≡ replicate 4096 0
+  free : (q : ℕ) → 1 ≤ q → q < pages → count q (store root) ≡ 0 → pageOf img q ≡ replicate pageSize 0
   free q a b = go (eqb q 1) refl
     where
-      go : (t : Bool) → eqb q 1 ≡ t → cond t 1 0 + count q root + 0 ≡ 0 → pageOf img q ≡ replicate 4096 0
+      go : (t : Bool) → eqb q 1 ≡ t → cond t 1 0 + count q root + 0 ≡ 0 → pageOf img q ≡ replicate pageSize 0
       go true e z = absurd (omega arith)
       go false e z =
           let n = eqb-false q 1 e in
           free-says (pageOf img q) (page-long img q (inside q b)) (kept q (omega arith) b) (λ t. omega (arith, reached q (omega arith) b t))
 
-  on-one : pageOf img 1 ≡ recordPage (record { page = 1; settled = true; holder = 0; row = root })
+  on-one : pageOf img 1 ≡ recordPage (recordOn 1 true 0 root)
   unfolding mayStand standing
   on-one =
       let e = page-record img 1 bytes (inside 1 (omega (arith, c .few))) (first .stands) 0 (first .holder) root (node-is p .root refl) in

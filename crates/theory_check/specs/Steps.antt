@@ -5,22 +5,23 @@ use mathlib.Core.Bool.{Bool, true, false, cond}
 use Prim.Native.Nat.{ℕ, zero, suc, _+_, _-_, _*_, _≤_, _<_}
 use native.Mathlib.Nat.{le-refl, le-trans, add-assoc}
 use native.Mathlib.Omega.{arith}
-use lib.ListN.{length, take, drop, getD, length-take, length-drop}
+use lib.ListN.{length, take, drop, length-take, length-drop}
 use lib.Seq.{length-take-le}
 use lib.Dec.{ltb, leb, eqb}
 use borrow.Author.Tests.{lt-ltb, ltb-false, leb-false, eqb-false}
+use Rattle.model.specs.Limits.{mostPages, pageSize, capacity}
 use Rattle.theory_check.specs.Rec.{run, under, steps, unfold'}
-use Rattle.model.specs.Reading.{twoAt}
+use Rattle.model.specs.Reading.{twoAt, sizeAt, usedAt, stateAt, settledAt, headAt, nameAt}
 use Rattle.theory_check.specs.Tests.{sizeOf, headOf, namesOf, rootFits}
 use Rattle.theory_check.specs.Walk.{State, withMark, entersOf, Decoded, Job, node, list, measure, stop, none, recordOf, asAgg, asRec, step, proxyStep, nodeStep, moreStep, listStep, decode, nodeOf, listOf, proxyOf}
 use Rattle.theory_check.specs.Facts.{no, both, arms}
 
 -- What entering a page shows of it.
 pub record Entered (img : List ℕ) (p : ℕ) (w : State) : Type 0 where
-  pub low : p < 1024
-  pub inside : 4096 * p + 4096 ≤ length img
+  pub low : p < mostPages
+  pub inside : pageSize * p + pageSize ≤ length img
   pub room : 2 ≤ w .left
-  pub used : twoAt img (4096 * p + 4080 + 2) ≤ 4080
+  pub used : twoAt img (pageSize * p + capacity + 2) ≤ capacity
 
 -- the walk that a job starts with
 abbrev pub from : Job → State
@@ -53,7 +54,7 @@ module _ (img : List ℕ) (f : Job → Decoded) (h : Less f) where
   unfolding nodeStep
   less-node s page holder level w kind =
       both (Kept w) (eqb kind 0) (less-stop w)
-      (both (Kept w) (eqb kind 3) (both (Kept w) (eqb (length s) 8) (less-proxy (twoAt s 6) page level w) (less-stop w))
+      (both (Kept w) (eqb kind 3) (both (Kept w) (eqb (length s) 8) (less-proxy (nameAt s 0) page level w) (less-stop w))
       (both (Kept w) (eqb kind 4) (h (list (drop 6 s) page 4 level w))
       (both (Kept w) (ltb 24 level) (less-stop w)
       (both (Kept w) (eqb kind 2) (le-refl (w .left)) (h (list (drop 6 s) page 1 (level + 1) w))))))
@@ -120,13 +121,13 @@ module _ (img : List ℕ) where
   pub entered : (p page : ℕ) (w : State) → entersOf img p page w ≡ true → Entered img p w
   unfolding entersOf namesOf
   entered p page w e =
-      let a = inner (ltb p 2) (leb 1024 p) (ltb (length img) (4096 * p + 4096)) (eqb (getD img (4096 * p + 4080) 0) 1) (ltb 4080 (twoAt img (4096 * p + 4080 + 2)))
-      (eqb (twoAt img (4096 * p + 4080 + 4)) page) (rootFits img p) (ltb (w .left) 2) _ e in
+      let a = inner (ltb p 2) (leb mostPages p) (ltb (length img) (pageSize * p + pageSize)) (eqb (stateAt img (pageSize * p)) 1) (ltb capacity (twoAt img (pageSize * p + capacity + 2)))
+      (eqb (sizeAt img (pageSize * p + capacity)) page) (rootFits img p) (ltb (w .left) 2) _ e in
       record {
-        low = leb-false 1024 p (a .0);
-        inside = ltb-false (length img) (4096 * p + 4096) (a .1);
+        low = leb-false mostPages p (a .0);
+        inside = ltb-false (length img) (pageSize * p + pageSize) (a .1);
         room = ltb-false (w .left) 2 (a .3);
-        used = ltb-false 4080 (twoAt img (4096 * p + 4080 + 2)) (a .2);
+        used = ltb-false capacity (twoAt img (pageSize * p + capacity + 2)) (a .2);
       }
     where
       inner : (b₁ b₂ b₃ b₄ b₅ b₆ b₇ b₈ x : Bool)
@@ -142,8 +143,8 @@ module _ (img : List ℕ) where
       inner false false false true false true true true _ e = no e
       inner false false false true false true true false _ e = (refl, refl, refl, refl)
 
-  pub used-is : (p : ℕ) → twoAt img (4096 * p + 4080 + 2) ≡ twoAt img (4096 * p + 4082)
-  used-is p = ap (twoAt img) (add-assoc (4096 * p) 4080 2)
+  pub used-is : (p : ℕ) → twoAt img (pageSize * p + capacity + 2) ≡ usedAt img (pageSize * p)
+  used-is p = ap (twoAt img) (add-assoc (pageSize * p) capacity 2)
 
   pub length-part : (a n : ℕ) → length (take n (drop a img)) ≤ n
   length-part a n = simp length-take (omega arith)
@@ -151,14 +152,14 @@ module _ (img : List ℕ) where
   proxy-falls : (m p page level : ℕ) (w : State) → 16384 * w .left ≤ m → entersOf img p page w ≡ true → measure (node (recordOf img p) p 0 level (withMark w p)) < m
   proxy-falls m p page level w h e =
       let f = entered p page w e in
-      let g : twoAt img (4096 * p + 4082) ≤ 4080 = rw add-assoc at (f .used) in
+      let g : usedAt img (pageSize * p) ≤ capacity = rw add-assoc at (f .used) in
       let l = f .room in
-      omega (arith, length-part (4096 * p) (twoAt img (4096 * p + 4082)))
+      omega (arith, length-part (pageSize * p) (usedAt img (pageSize * p)))
 
   proxy-eq : (m p page level : ℕ) (w : State) → 16384 * w .left ≤ m → proxyStep img (U m) p page level w ≡ proxyOf img p page level w
   unfolding proxyStep
   proxy-eq m p page level w h =
-      arms (entersOf img p page w) (λ e. ap (asRec p (eqb (getD img (4096 * p + 4081) 0) 1)) (below m (node (recordOf img p) p 0 level (withMark w p)) (proxy-falls m p page level w h e))) (λ _. refl)
+      arms (entersOf img p page w) (λ e. ap (asRec p (eqb (settledAt img (pageSize * p)) 1)) (below m (node (recordOf img p) p 0 level (withMark w p)) (proxy-falls m p page level w h e))) (λ _. refl)
 
   module _ (s : List ℕ) (page holder level : ℕ) (w : State) where
     abbrev m : ℕ
@@ -171,10 +172,10 @@ module _ (img : List ℕ) where
     unfolding nodeStep
     node-go =
         arms (eqb (headOf s holder) 0) (λ _. refl) (λ z.
-        arms (eqb (headOf s holder) 3) (λ _. arms (eqb (length s) 8) (λ _. proxy-eq m (twoAt s 6) page level w (omega arith)) (λ _. refl)) (λ _.
+        arms (eqb (headOf s holder) 3) (λ _. arms (eqb (length s) 8) (λ _. proxy-eq m (nameAt s 0) page level w (omega arith)) (λ _. refl)) (λ _.
         arms (eqb (headOf s holder) 4) (λ _. below m (list (drop 6 s) page 4 level w) (tail 4 level (head-long s holder z))) (λ _.
         arms (ltb 24 level) (λ _. refl) (λ _.
-        arms (eqb (headOf s holder) 2) (λ _. refl) (λ _. ap (asAgg (twoAt s 2)) (below m (list (drop 6 s) page 1 (level + 1) w) (tail 1 (level + 1) (head-long s holder z))))))))
+        arms (eqb (headOf s holder) 2) (λ _. refl) (λ _. ap (asAgg (headAt s 0)) (below m (list (drop 6 s) page 1 (level + 1) w) (tail 1 (level + 1) (head-long s holder z))))))))
 
     -- what a node is
     pub node-eq : nodeOf img s page holder level w ≡ nodeStep img (decode img) s page holder level w (headOf s holder)

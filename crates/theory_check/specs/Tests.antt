@@ -5,8 +5,9 @@ use Prim.Native.Nat.{ℕ, _+_, _-_, _*_, _/_, _%_, _^_}
 use lib.ListN.{length, take, drop, getD, set}
 use lib.Bits.{bitOr}
 use lib.Dec.{ltb, leb, eqb}
+use Rattle.model.specs.Limits.{mostPages, pageSize, capacity, mostNode, settingsSize}
 use Rattle.model.specs.Row.{mayStand}
-use Rattle.model.specs.Reading.{twoAt}
+use Rattle.model.specs.Reading.{twoAt, sizeAt, usedAt, backAt, stateAt, settledAt}
 
 -- ── nodes ──
 
@@ -29,7 +30,7 @@ shapeOf s kind =
     (eqb (twoAt s 2) 0)
     (cond (eqb kind 4)
     (cond (eqb (twoAt s 2) 0) (twoChildren (drop 6 s)) false)
-    (cond (eqb kind 2) (leb (length s) 526) true))
+    (cond (eqb kind 2) (leb (length s) mostNode) true))
 
 -- The kind of the node that some bytes are, 0 where it is not well formed by itself or may not stand in the holder.
 unfoldable pub headOf : List ℕ → (holder : ℕ) → ℕ
@@ -58,16 +59,16 @@ marked m p = set m (p / 8) (bitOr (getD m (p / 8) 0) (1 * 2 ^ (p % 8) % 256))
 unfoldable pub namesOf : List ℕ → (p page : ℕ) → Bool
 namesOf img p page =
     cond (ltb p 2) false
-    (cond (leb 1024 p) false
-    (cond (ltb (length img) (4096 * p + 4096)) false
-    (cond (eqb (getD img (4096 * p + 4080) 0) 1)
-    (cond (ltb 4080 (twoAt img (4096 * p + 4080 + 2))) false
-    (eqb (twoAt img (4096 * p + 4080 + 4)) page))
+    (cond (leb mostPages p) false
+    (cond (ltb (length img) (pageSize * p + pageSize)) false
+    (cond (eqb (stateAt img (pageSize * p)) 1)
+    (cond (ltb capacity (twoAt img (pageSize * p + capacity + 2))) false
+    (eqb (sizeAt img (pageSize * p + capacity)) page))
     false)))
 
 -- A settled record's root is no helper.
 unfoldable pub rootFits : List ℕ → (p : ℕ) → Bool
-rootFits img p = cond (eqb (getD img (4096 * p + 4081) 0) 1) (not (eqb (getD img (4096 * p) 0) 4)) true
+rootFits img p = cond (eqb (settledAt img (pageSize * p)) 1) (not (eqb (getD img (pageSize * p) 0) 4)) true
 
 -- A test holds of every byte.
 unfoldable pub all : (ℕ → Bool) → List ℕ → Bool
@@ -86,11 +87,11 @@ matrixOk = all entryOk
 -- What a page by its trailer and its tail is: 0 against the rules, 1 free, 2 a record's.
 unfoldable pub stateOf : (page : List ℕ) → ℕ
 stateOf s =
-    cond (eqb (getD s 4080 0) 0) (cond (allZero s) 1 0)
-    (cond (eqb (getD s 4080 0) 1)
-    (cond (ltb 1 (getD s 4081 0)) 0
-    (cond (ltb 4080 (twoAt s 4082)) 0
-    (cond (allZero (take (4080 - twoAt s 4082) (drop (twoAt s 4082) s)))
+    cond (eqb (stateAt s 0) 0) (cond (allZero s) 1 0)
+    (cond (eqb (stateAt s 0) 1)
+    (cond (ltb 1 (settledAt s 0)) 0
+    (cond (ltb capacity (usedAt s 0)) 0
+    (cond (allZero (take (capacity - usedAt s 0) (drop (usedAt s 0) s)))
     (cond (allZero (take 10 (drop 4086 s))) 2 0)
     0)))
     0)
@@ -112,9 +113,9 @@ settingsOk s pages =
     cond (numbersOk s pages)
     (cond (allZero (take 8 (drop 8 s)))
     (cond (matrixOk (take 256 (drop 16 s)))
-    (cond (allZero (take 3808 (drop 272 s)))
-    (cond (eqb (twoAt s 4080) 2)
-    (cond (eqb (twoAt s 4082) 272)
+    (cond (allZero (take (capacity - settingsSize) (drop settingsSize s)))
+    (cond (eqb (twoAt s capacity) 2)
+    (cond (eqb (usedAt s 0) settingsSize)
     (allZero (take 12 (drop 4084 s)))
     false) false) false) false) false) false
 
@@ -122,6 +123,6 @@ settingsOk s pages =
 unfoldable pub firstOk : (page : List ℕ) → Bool
 firstOk s =
     cond (eqb (stateOf s) 2)
-    (cond (eqb (getD s 4081 0) 1)
-    (eqb (twoAt s 4084) 0)
+    (cond (eqb (settledAt s 0) 1)
+    (eqb (backAt s 0) 0)
     false) false

@@ -4,6 +4,7 @@ use mathlib.Core.List.{List}
 use Prim.Native.Nat.{ℕ, _≤_}
 use native.Mathlib.Omega.{arith}
 use lib.ListN.{length}
+use Rattle.model.specs.Limits.{mostPages}
 use Rattle.model.specs.Row.{Row, Config, outside}
 use Rattle.model.specs.Reading.{Reads}
 use Rattle.theory_decoding.specs.Reading.{reads-valid}
@@ -12,7 +13,7 @@ use Rattle.theory_places.specs.Widths.{Told}
 use Rattle.theory_check.specs.Facts.{both}
 use Rattle.theory_check.specs.Widths.{widthsAfter, widths-told}
 
-pub reads-told : (img : List ℕ) (st : Config) (root : Row) → Reads img st root → (c : List ℕ) → length c ≡ 1024 → Told (widthsAfter root c) root
+pub reads-told : (img : List ℕ) (st : Config) (root : Row) → Reads img st root → (c : List ℕ) → length c ≡ mostPages → Told (widthsAfter root c) root
 reads-told img st root r c l =
     let v = reads-valid img st root r in
     widths-told root c l

@@ -8,8 +8,9 @@ use lib.ListN.{length, take, drop, getD, replicate, length-drop, take-append-dro
 use lib.Seq.{length-take-le, take-add, drop-drop, drop-cons}
 use lib.Dec.{eqb, ltb}
 use borrow.Author.Tests.{eqb-true, eqb-false, ltb-false}
-use Rattle.model.specs.Row.{Row, two, trailer, recordBytes, recordSize, recordPage, settingsPage, every, isEntry}
-use Rattle.model.specs.Reading.{twoAt, configOn}
+use Rattle.model.specs.Limits.{mostPages, pageSize, capacity, settingsSize}
+use Rattle.model.specs.Row.{Row, two, trailer, recordBytes, recordSize, recordPage, settingsPage, every, isEntry, recordOn}
+use Rattle.model.specs.Reading.{twoAt, configOn, usedAt, backAt, stateAt, settledAt}
 use Rattle.theory_rows.specs.Fits.{Ranges}
 use Rattle.theory_rows.specs.Laws.{cond-case}
 use Rattle.theory_rows.specs.Image.{length-record}
@@ -43,15 +44,15 @@ module _ (s : List ℕ) where
       sym (take-append-drop n (drop i s))
       ∙ ap₂ _++_ (zeros (take n (drop i s)) z n (length-take-le n (drop i s) (omega (arith, length-drop i s)))) (drop-drop n i s)
 
-  module _ (bytes : AllBytes s) (long : length s ≡ 4096) where
-    trailer-is : allZero (take 10 (drop 4086 s)) ≡ true → drop 4080 s ≡ trailer (getD s 4080 0) (getD s 4081 0) (twoAt s 4082) (twoAt s 4084)
+  module _ (bytes : AllBytes s) (long : length s ≡ pageSize) where
+    trailer-is : allZero (take 10 (drop 4086 s)) ≡ true → drop capacity s ≡ trailer (stateAt s 0) (settledAt s 0) (usedAt s 0) (backAt s 0)
     trailer-is z =
-        let a = drop-cons s 4080 0 (omega arith) in
+        let a = drop-cons s capacity 0 (omega arith) in
         let b = drop-cons s 4081 0 (omega arith) in
         let c = next-two 4082 bytes (omega arith) in
         let d = next-two 4084 bytes (omega arith) in
         let e = next-zeros 4086 10 (omega arith) z in
-        let f = drop-of-length-le s {i = 4096} (omega arith) in
+        let f = drop-of-length-le s {i = pageSize} (omega arith) in
         cc
 
 -- ── record pages ──
@@ -67,33 +68,33 @@ not-else false z e = absurd (z e)
 
 -- A page with a record: the bytes used, zeros, the trailer.
 pub record RecordIs (s : List ℕ) : Type 0 where
-  pub settled : getD s 4081 0 ≤ 1
-  pub used : twoAt s 4082 ≤ 4080
-  pub same : s ≡ take (twoAt s 4082) s ++ replicate (4080 - twoAt s 4082) 0 ++ trailer 1 (getD s 4081 0) (twoAt s 4082) (twoAt s 4084)
+  pub settled : settledAt s 0 ≤ 1
+  pub used : usedAt s 0 ≤ capacity
+  pub same : s ≡ take (usedAt s 0) s ++ replicate (capacity - usedAt s 0) 0 ++ trailer 1 (settledAt s 0) (usedAt s 0) (backAt s 0)
 
-pub record-says : (s : List ℕ) → AllBytes s → length s ≡ 4096 → stateOf s ≡ 2 → RecordIs s
+pub record-says : (s : List ℕ) → AllBytes s → length s ≡ pageSize → stateOf s ≡ 2 → RecordIs s
 unfolding stateOf
 record-says s bytes long e =
-    let u = twoAt s 4082 in
+    let u = usedAt s 0 in
     let never : _≡_ {A = ℕ} 0 2 → ⊥ = omega arith in
-    let some = not-then (eqb (getD s 4080 0) 0) (both (λ n. n ≡ 2 → ⊥) (allZero s) {x = 1} {y = 0} (λ z. omega arith) (λ z. omega arith)) e in
-    let kind = not-else (eqb (getD s 4080 0) 1) never (some .1) in
-    let settled = not-then (ltb 1 (getD s 4081 0)) never (kind .1) in
-    let used = not-then (ltb 4080 u) never (settled .1) in
-    let tail = not-else (allZero (take (4080 - u) (drop u s))) never (used .1) in
+    let some = not-then (eqb (stateAt s 0) 0) (both (λ n. n ≡ 2 → ⊥) (allZero s) {x = 1} {y = 0} (λ z. omega arith) (λ z. omega arith)) e in
+    let kind = not-else (eqb (stateAt s 0) 1) never (some .1) in
+    let settled = not-then (ltb 1 (settledAt s 0)) never (kind .1) in
+    let used = not-then (ltb capacity u) never (settled .1) in
+    let tail = not-else (allZero (take (capacity - u) (drop u s))) never (used .1) in
     let last = not-else (allZero (take 10 (drop 4086 s))) never (tail .1) in
-    let few = ltb-false 4080 u (used .0) in
-    let k = eqb-true (getD s 4080 0) 1 (kind .0) in
-    let whole : 4080 ≡ u + (4080 - u) = omega arith in
-    let front : take 4080 s ≡ take u s ++ replicate (4080 - u) 0 =
-    ap (λ (n : ℕ). take n s) whole ∙ take-add u (4080 - u) s
+    let few = ltb-false capacity u (used .0) in
+    let k = eqb-true (stateAt s 0) 1 (kind .0) in
+    let whole : capacity ≡ u + (capacity - u) = omega arith in
+    let front : take capacity s ≡ take u s ++ replicate (capacity - u) 0 =
+    ap (λ (n : ℕ). take n s) whole ∙ take-add u (capacity - u) s
     ∙ ap (λ (x : List ℕ). take u s ++ x)
-    (zeros (take (4080 - u) (drop u s)) (tail .0) (4080 - u) (length-take-le (4080 - u) (drop u s) (omega (arith, length-drop u s)))) in
+    (zeros (take (capacity - u) (drop u s)) (tail .0) (capacity - u) (length-take-le (capacity - u) (drop u s) (omega (arith, length-drop u s)))) in
     record {
-      settled = ltb-false 1 (getD s 4081 0) (settled .0);
+      settled = ltb-false 1 (settledAt s 0) (settled .0);
       used = few;
-      same = sym (take-append-drop 4080 s)
-          ∙ ap₂ _++_ front (trailer-is s bytes long (last .0) ∙ ap (λ (k : ℕ). trailer k (getD s 4081 0) u (twoAt s 4084)) k);
+      same = sym (take-append-drop capacity s)
+          ∙ ap₂ _++_ front (trailer-is s bytes long (last .0) ∙ ap (λ (k : ℕ). trailer k (settledAt s 0) u (backAt s 0)) k);
     }
 
 one-or-none : (n : ℕ) → n ≤ 1 → n ≡ cond (eqb n 1) 1 0
@@ -102,17 +103,17 @@ one-or-none (suc zero) h = refl
 one-or-none (suc (suc n)) h = absurd (omega arith)
 
 -- So it is the page of the record whose bytes stand there.
-pub record-page : (s : List ℕ) → length s ≡ 4096 → RecordIs s → (r : Row) → take (twoAt s 4082) s ≡ recordBytes r
-    → (p : ℕ) → s ≡ recordPage (record { page = p; settled = eqb (getD s 4081 0) 1; holder = twoAt s 4084; row = r })
+pub record-page : (s : List ℕ) → length s ≡ pageSize → RecordIs s → (r : Row) → take (usedAt s 0) s ≡ recordBytes r
+    → (p : ℕ) → s ≡ recordPage (recordOn p (eqb (settledAt s 0) 1) (backAt s 0) r)
 record-page s long k r e p =
-    let n : twoAt s 4082 ≡ recordSize r = sym (length-take-le (twoAt s 4082) s (omega (arith, k .used))) ∙ ap length e ∙ length-record r in
-    let b = one-or-none (getD s 4081 0) (k .settled) in
-    k .same ∙ λ i. e i ++ replicate (4080 - n i) 0 ++ trailer 1 (b i) (n i) (twoAt s 4084)
+    let n : usedAt s 0 ≡ recordSize r = sym (length-take-le (usedAt s 0) s (omega (arith, k .used))) ∙ ap length e ∙ length-record r in
+    let b = one-or-none (settledAt s 0) (k .settled) in
+    k .same ∙ λ i. e i ++ replicate (capacity - n i) 0 ++ trailer 1 (b i) (n i) (backAt s 0)
 
 -- A page that keeps the rules and has no record is free: all zero.
-pub free-says : (s : List ℕ) → length s ≡ 4096 → (stateOf s ≡ 0 → ⊥) → (stateOf s ≡ 2 → ⊥) → s ≡ replicate 4096 0
+pub free-says : (s : List ℕ) → length s ≡ pageSize → (stateOf s ≡ 0 → ⊥) → (stateOf s ≡ 2 → ⊥) → s ≡ replicate pageSize 0
 unfolding stateOf
-free-says s long z t = zeros s (found z t) 4096 long
+free-says s long z t = zeros s (found z t) pageSize long
   where
     Free : ℕ → Type 0
     Free n = (n ≡ 0 → ⊥) → (n ≡ 2 → ⊥) → allZero s ≡ true
@@ -122,23 +123,23 @@ free-says s long z t = zeros s (found z t) 4096 long
 
     found : Free (stateOf s)
     found =
-        both Free (eqb (getD s 4080 0) 0) (cond-case Free (allZero s) (λ e _ _. e) (λ _. bad))
-        (both Free (eqb (getD s 4080 0) 1)
-        (both Free (ltb 1 (getD s 4081 0)) bad
-        (both Free (ltb 4080 (twoAt s 4082)) bad
-        (both Free (allZero (take (4080 - twoAt s 4082) (drop (twoAt s 4082) s)))
+        both Free (eqb (stateAt s 0) 0) (cond-case Free (allZero s) (λ e _ _. e) (λ _. bad))
+        (both Free (eqb (stateAt s 0) 1)
+        (both Free (ltb 1 (settledAt s 0)) bad
+        (both Free (ltb capacity (usedAt s 0)) bad
+        (both Free (allZero (take (capacity - usedAt s 0) (drop (usedAt s 0) s)))
         (both Free (allZero (take 10 (drop 4086 s))) (λ _ t. absurd (t refl)) bad) bad)))
         bad)
 
 -- A page that keeps the rules and whose trailer says so has a record.
-pub state-two : (s : List ℕ) → length s ≡ 4096 → getD s 4080 0 ≡ 1 → (stateOf s ≡ 0 → ⊥) → stateOf s ≡ 2
+pub state-two : (s : List ℕ) → length s ≡ pageSize → stateAt s 0 ≡ 1 → (stateOf s ≡ 0 → ⊥) → stateOf s ≡ 2
 state-two s long k z = go (eqb (stateOf s) 2) refl
   where
     go : (b : Bool) → eqb (stateOf s) 2 ≡ b → stateOf s ≡ 2
     go true e = eqb-true (stateOf s) 2 e
     go false e =
         let same = free-says s long z (eqb-false (stateOf s) 2 e) in
-        let none : getD s 4080 0 ≡ 0 = ap (λ (s : List ℕ). getD s 4080 0) same ∙ getD-replicate {A = ℕ} 4096 4080 0 0 (omega arith) in
+        let none : stateAt s 0 ≡ 0 = ap (λ (s : List ℕ). stateAt s 0) same ∙ getD-replicate {A = ℕ} pageSize capacity 0 0 (omega arith) in
         absurd (omega arith)
 
 -- ── the settings page ──
@@ -153,13 +154,13 @@ matrix-says (x ∷ s) e = let t = then-true (entryOk x) e in go (eqb x 0) (eqb x
     go false true e h = h
     go false false e h = no e
 
-module _ (s : List ℕ) (bytes : AllBytes s) (long : length s ≡ 4096) where
-  settings-trailer : twoAt s 4080 ≡ 2 → twoAt s 4082 ≡ 272 → allZero (take 12 (drop 4084 s)) ≡ true → drop 4080 s ≡ trailer 2 0 272 0
+module _ (s : List ℕ) (bytes : AllBytes s) (long : length s ≡ pageSize) where
+  settings-trailer : twoAt s capacity ≡ 2 → usedAt s 0 ≡ settingsSize → allZero (take 12 (drop 4084 s)) ≡ true → drop capacity s ≡ trailer 2 0 settingsSize 0
   settings-trailer k u z =
-      let a = next-two s 4080 bytes (omega arith) ∙ ap (λ (n : ℕ). two n ++ drop 4082 s) k in
+      let a = next-two s capacity bytes (omega arith) ∙ ap (λ (n : ℕ). two n ++ drop 4082 s) k in
       let b = next-two s 4082 bytes (omega arith) ∙ ap (λ (n : ℕ). two n ++ drop 4084 s) u in
       let c = next-zeros s 4084 12 (omega arith) z in
-      let d = drop-of-length-le s {i = 4096} (omega arith) in
+      let d = drop-of-length-le s {i = pageSize} (omega arith) in
       cc
 
   settings-front : getD s 3 0 ≡ 0 → allZero (take 8 (drop 8 s)) ≡ true
@@ -174,11 +175,11 @@ module _ (s : List ℕ) (bytes : AllBytes s) (long : length s ≡ 4096) where
       cc
 
   -- the matrix, then zeros up to the trailer
-  settings-rest : allZero (take 3808 (drop 272 s)) ≡ true → drop 16 s ≡ take 256 (drop 16 s) ++ replicate 3808 0 ++ drop 4080 s
+  settings-rest : allZero (take (capacity - settingsSize) (drop settingsSize s)) ≡ true → drop 16 s ≡ take 256 (drop 16 s) ++ replicate (capacity - settingsSize) 0 ++ drop capacity s
   settings-rest z =
       sym (take-append-drop 256 (drop 16 s))
-      ∙ ap (λ (x : List ℕ). take 256 (drop 16 s) ++ x) (drop-drop 256 16 s ∙ next-zeros s 272 3808 (omega arith) z)
-      ∙ sym (append-assoc (take 256 (drop 16 s)) (replicate 3808 0) (drop 4080 s))
+      ∙ ap (λ (x : List ℕ). take 256 (drop 16 s) ++ x) (drop-drop 256 16 s ∙ next-zeros s settingsSize (capacity - settingsSize) (omega arith) z)
+      ∙ sym (append-assoc (take 256 (drop 16 s)) (replicate (capacity - settingsSize) 0) (drop capacity s))
 
 -- Page 0 of an image of n pages.
 pub record SettingsIs (s : List ℕ) (n : ℕ) : Type 0 where
@@ -186,15 +187,15 @@ pub record SettingsIs (s : List ℕ) (n : ℕ) : Type 0 where
   pub ranges : Ranges (configOn s)
   pub same : s ≡ settingsPage (configOn s)
 
-pub settings-say : (s : List ℕ) (n : ℕ) → AllBytes s → length s ≡ 4096 → 2 ≤ n → n ≤ 1024 → settingsOk s n ≡ true → SettingsIs s n
+pub settings-say : (s : List ℕ) (n : ℕ) → AllBytes s → length s ≡ pageSize → 2 ≤ n → n ≤ mostPages → settingsOk s n ≡ true → SettingsIs s n
 unfolding settingsOk numbersOk
 settings-say s n bytes long few many e =
     let numbers = then-true (numbersOk s n) e in
     let gap = then-true (allZero (take 8 (drop 8 s))) (numbers .1) in
     let matrix = then-true (matrixOk (take 256 (drop 16 s))) (gap .1) in
-    let tail = then-true (allZero (take 3808 (drop 272 s))) (matrix .1) in
-    let kind = then-true (eqb (twoAt s 4080) 2) (tail .1) in
-    let used = then-true (eqb (twoAt s 4082) 272) (kind .1) in
+    let tail = then-true (allZero (take (capacity - settingsSize) (drop settingsSize s))) (matrix .1) in
+    let kind = then-true (eqb (twoAt s capacity) 2) (tail .1) in
+    let used = then-true (eqb (usedAt s 0) settingsSize) (kind .1) in
     let pages = then-true (eqb (twoAt s 0) n) (numbers .0) in
     let low = else-true (ltb (getD s 2 0) 64) (pages .1) in
     let high = else-true (ltb 192 (getD s 2 0)) (low .1) in
@@ -216,6 +217,6 @@ settings-say s n bytes long few many e =
       };
       same = settings-front s bytes long (eqb-true (getD s 3 0) 0 (spare .0)) (gap .0)
           ∙ ap front (settings-rest s bytes long (tail .0)
-          ∙ ap (λ (x : List ℕ). take 256 (drop 16 s) ++ replicate 3808 0 ++ x)
-          (settings-trailer s bytes long (eqb-true (twoAt s 4080) 2 (kind .0)) (eqb-true (twoAt s 4082) 272 (used .0)) (used .1)));
+          ∙ ap (λ (x : List ℕ). take 256 (drop 16 s) ++ replicate (capacity - settingsSize) 0 ++ x)
+          (settings-trailer s bytes long (eqb-true (twoAt s capacity) 2 (kind .0)) (eqb-true (usedAt s 0) settingsSize (used .0)) (used .1)));
     }

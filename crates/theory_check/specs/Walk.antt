@@ -2,10 +2,11 @@
 use mathlib.Core.Bool.{Bool, false, cond, not}
 use mathlib.Core.List.{List}
 use Prim.Native.Nat.{ℕ, _+_, _-_, _*_}
-use lib.ListN.{length, take, drop, getD}
+use lib.ListN.{length, take, drop}
 use lib.Dec.{ltb, eqb}
-use Rattle.model.specs.Row.{Row, nil, agg, lit, rec, _⊹_}
-use Rattle.model.specs.Reading.{twoAt}
+use Rattle.model.specs.Limits.{pageSize}
+use Rattle.model.specs.Row.{Head, Row, nil, agg, lit, rec, _⊹_}
+use Rattle.model.specs.Reading.{headAt, nameAt, usedAt, settledAt}
 use Rattle.theory_check.specs.Rec.{run}
 use Rattle.theory_check.specs.Tests.{sizeOf, headOf, isMarked, marked, namesOf, rootFits}
 
@@ -51,10 +52,10 @@ none (list s page holder level w) = stop w
 
 -- The bytes of the record on page p.
 abbrev pub recordOf : List ℕ → (p : ℕ) → List ℕ
-recordOf img p = take (twoAt img (4096 * p + 4082)) (drop (4096 * p) img)
+recordOf img p = take (usedAt img (pageSize * p)) (drop (pageSize * p) img)
 
-abbrev pub asAgg : (label : ℕ) → Decoded → Decoded
-asAgg l d = record { row = agg (record { label = l }) (d .row) nil; walk = d .walk }
+abbrev pub asAgg : Head → Decoded → Decoded
+asAgg h d = record { row = agg h (d .row) nil; walk = d .walk }
 
 abbrev pub asRec : (page : ℕ) → (settled : Bool) → Decoded → Decoded
 asRec p b d = record { row = rec p b (d .row) nil; walk = d .walk }
@@ -66,18 +67,18 @@ module _ (img : List ℕ) (call : Job → Decoded) where
   unfoldable pub proxyStep : (p page level : ℕ) → State → Decoded
   proxyStep p page level w =
       cond (entersOf img p page w)
-      (asRec p (eqb (getD img (4096 * p + 4081) 0) 1) (call (node (recordOf img p) p 0 level (withMark w p))))
+      (asRec p (eqb (settledAt img (pageSize * p)) 1) (call (node (recordOf img p) p 0 level (withMark w p))))
       (stop w)
 
   unfoldable pub nodeStep : List ℕ → (page holder level : ℕ) → State → (kind : ℕ) → Decoded
   nodeStep s page holder level w kind =
       cond (eqb kind 0) (stop w)
       (cond (eqb kind 3)
-      (cond (eqb (length s) 8) (proxyStep (twoAt s 6) page level w) (stop w))
+      (cond (eqb (length s) 8) (proxyStep (nameAt s 0) page level w) (stop w))
       (cond (eqb kind 4) (call (list (drop 6 s) page 4 level w))
       (cond (ltb 24 level) (stop w)
-      (cond (eqb kind 2) (record { row = lit (record { label = twoAt s 2 }) (drop 6 s) nil; walk = w })
-      (asAgg (twoAt s 2) (call (list (drop 6 s) page 1 (level + 1) w)))))))
+      (cond (eqb kind 2) (record { row = lit (headAt s 0) (drop 6 s) nil; walk = w })
+      (asAgg (headAt s 0) (call (list (drop 6 s) page 1 (level + 1) w)))))))
 
   unfoldable pub moreStep : List ℕ → (page holder level : ℕ) → State → (n : ℕ) → Decoded
   moreStep s page holder level w n =

@@ -5,7 +5,8 @@ use mathlib.Core.List.{List}
 use Prim.Native.Nat.{ℕ, _+_, _-_, _*_, _≤_, _<_}
 use native.Mathlib.Omega.{arith}
 use lib.ListN.{length}
-use Rattle.model.specs.Row.{Row, nil, agg, lit, rec, size, lone, two, bytes, Held, mayStand, byTable, height}
+use Rattle.model.specs.Limits.{mostPages, pageSize, capacity}
+use Rattle.model.specs.Row.{Row, nil, agg, lit, rec, size, lone, two, bytes, Held, mayStand, byTable, height, recordOn, noHead}
 use Rattle.model.specs.Reading.{pageOf}
 use Rattle.theory_rows.specs.Fits.{Fits}
 use Rattle.theory_rows.specs.Laws.{length-bytes}
@@ -28,8 +29,8 @@ three a b c e =
     let u = both a b (t .0) in
     (u .0, u .1, t .1)
 
-module _ (img : List ℕ) (pages : ℕ) (many : pages ≤ 1024) (long : length img ≡ 4096 * pages) where
-  pub walked : (row : Row) (page holder level left k : ℕ) (m : List ℕ) → Fits row → size row ≤ 4080 → byTable holder row ≡ true
+module _ (img : List ℕ) (pages : ℕ) (many : pages ≤ mostPages) (long : length img ≡ pageSize * pages) where
+  pub walked : (row : Row) (page holder level left k : ℕ) (m : List ℕ) → Fits row → size row ≤ capacity → byTable holder row ≡ true
       → Stored (pageOf img) page row → page < 65536 → height row + level ≤ 25 → Fresh pages m row → left ≡ recordCount row + k → 1 ≤ k
       → listOf img (bytes row) page holder level (state left m) ≡ done row k m
   walked nil page holder level left k m f z t s p h u e l =
@@ -39,28 +40,28 @@ module _ (img : List ℕ) (pages : ℕ) (many : pages ≤ 1024) (long : length i
       let c = three (mayStand holder 1) (byTable 1 cs) (byTable holder rest) t in
       let w = state left m in
       let n = length-bytes cs in
-      list-node img page level w (d .label) (size cs) (bytes cs) n (omega arith) 1 holder (bytes rest)
-      (asAgg (d .label) (done cs (recordCount rest + k) m)) (done rest k (marksAfter cs m)) (omega arith)
-      (agg-node img page level w (d .label) (size cs) (bytes cs) n (omega arith) holder (f .0 .label) (c .0) (omega arith)
-      ∙ ap (asAgg (d .label)) (walked cs page 1 (level + 1) left (recordCount rest + k) m (f .1) (omega arith) (c .1) (s .0) p (omega arith)
+      list-node img page level w d (size cs) (bytes cs) n (omega arith) 1 holder (bytes rest)
+      (asAgg d (done cs (recordCount rest + k) m)) (done rest k (marksAfter cs m)) (omega arith)
+      (agg-node img page level w d (size cs) (bytes cs) n (omega arith) holder (f .0) (c .0) (omega arith)
+      ∙ ap (asAgg d) (walked cs page 1 (level + 1) left (recordCount rest + k) m (f .1) (omega arith) (c .1) (s .0) p (omega arith)
       (fresh-after pages m (agg d cs rest) nil cs many u (λ q. omega arith)) (omega arith) (omega arith)))
       (walked rest page holder level (recordCount rest + k) k (marksAfter cs m) (f .2) (omega arith) (c .2) (s .1) p (omega arith)
       (fresh-after pages m (agg d cs rest) cs rest many u (λ q. omega arith)) refl l)
   walked (lit d c rest) page holder level left k m f z t s p h u e l =
       let b = both (mayStand holder 2) (byTable holder rest) t in
       let w = state left m in
-      list-node img page level w (d .label) (length c) c refl (omega arith) 2 holder (bytes rest)
+      list-node img page level w d (length c) c refl (omega arith) 2 holder (bytes rest)
       (record { row = lit d c nil; walk = w }) (done rest k m) (omega arith)
-      (lit-node img page level w (d .label) (length c) c refl (omega arith) holder (f .0 .label) (b .0) (omega arith) (f .1))
+      (lit-node img page level w d (length c) c refl (omega arith) holder (f .0) (b .0) (omega arith) (f .1))
       (walked rest page holder level left k m (f .3) (omega arith) (b .1) s p (omega arith)
       (fresh-after pages m (lit d c rest) nil rest many u (λ q. omega arith)) e l)
   walked (rec q b r rest) page holder level left k m f z t s p h u e l =
       let c = three (mayStand holder 3) (cond (lone r) (byTable 0 r) (mayStand 0 4 && byTable 4 r)) (byTable holder rest) t in
       let w = state left m in
-      let held : Held = record { page = q; settled = b; holder = page; row = r } in
+      let held : Held = recordOn q b page r in
       let own = names-own q b r rest in
       let range = u .range q own in
-      list-node img page level w 0 2 (two q) refl (omega arith) 3 holder (bytes rest)
+      list-node img page level w noHead 2 (two q) refl (omega arith) 3 holder (bytes rest)
       (asRec q b (done r (recordCount rest + k) (marked m q))) (done rest k (marksAfter r (marked m q))) (omega arith)
       (rec-node img page level w q holder (omega arith) (c .0)
       ∙ proxy-of img q held (f .0) (s .0) (range .0) (omega arith) (omega arith) p level w (omega arith) (u .new q own)

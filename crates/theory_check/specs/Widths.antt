@@ -8,6 +8,7 @@ use lib.ListN.{length, getD, set, length-set}
 use lib.Seq.{getD-set-same, getD-set-other}
 use lib.Dec.{eqb}
 use borrow.Author.Tests.{eq-eqb}
+use Rattle.model.specs.Limits.{mostPages}
 use Rattle.model.specs.Row.{Row, nil, agg, lit, rec, _⊹_, count}
 use Rattle.model.specs.Tree.{width}
 use Rattle.theory_decoding.specs.Valid.{names-own}
@@ -55,7 +56,7 @@ told-same a b (rec p s r rest) e t =
     (e p (names-own p s r rest) ∙ t .0, told-same a b r (λ q g. e q (omega arith)) (t .1), told-same a b rest (λ q g. e q (omega arith)) (t .2))
 
 -- The table is right for a row that names no page twice.
-pub widths-told : (row : Row) (c : List ℕ) → length c ≡ 1024 → ((q : ℕ) → count q row ≤ 1) → ((q : ℕ) → 1 ≤ count q row → q < 1024)
+pub widths-told : (row : Row) (c : List ℕ) → length c ≡ mostPages → ((q : ℕ) → count q row ≤ 1) → ((q : ℕ) → 1 ≤ count q row → q < mostPages)
     → Told (widthsAfter row c) row
 unfolding widthsAfter
 widths-told nil c l once low = tt

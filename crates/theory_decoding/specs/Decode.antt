@@ -7,8 +7,10 @@ use native.Mathlib.Omega.{arith}
 use lib.ListN.{length, getD, take, drop, replicate, length-append, length-replicate}
 use lib.Seq.{take-at, drop-at, take-append-add, drop-append-add, getD-append-add}
 use lib.Dec.{eqb}
-use Rattle.model.specs.Row.{Head, Row, nil, agg, lit, rec, store, size, lone, recordSize, header, two, bytes, recordBytes, trailer, Held, records, recordPage, pageAt, pagesFrom, image, count, Config}
-use Rattle.model.specs.Reading.{twoAt, configOn, pageOf, rowOn, nodesIn}
+use Rattle.model.specs.Limits.{capacity, settingsSize}
+use Rattle.model.specs.Row.{Head, Row, nil, agg, lit, rec, store, size, lone, recordSize, header, two, bytes, recordBytes, trailer, Held, records, recordPage}
+use Rattle.model.specs.Row.{pageAt, pagesFrom, image, count, Config, noHead, recordOn}
+use Rattle.model.specs.Reading.{twoAt, configOn, pageOf, rowOn, nodesIn, usedAt, settledAt}
 use Rattle.theory_rows.specs.Fits.{Fits, HeadFits, Valid}
 use Rattle.theory_rows.specs.Laws.{length-bytes}
 use Rattle.theory_rows.specs.Image.{Stored, length-record, image-page, image-stored}
@@ -34,27 +36,27 @@ config-image st root v =
     let t = two-bytes (st .tolerance) (omega (arith, v .ranges .tol)) in
     let f = two-bytes (st .form) (omega (arith, v .ranges .form)) in
     let m : take 256 (drop 16 (image st root)) ≡ st .matrix =
-    take-first (st .matrix) (replicate 3808 0) (trailer 2 0 272 0) (pagesFrom (records 0 (store root)) (st .pages - 1) 1) 256 (v .ranges .entries) in
+    take-first (st .matrix) (replicate (capacity - settingsSize) 0) (trailer 2 0 settingsSize 0) (pagesFrom (records 0 (store root)) (st .pages - 1) 1) 256 (v .ranges .entries) in
     λ i. record { pages = p i; target = st .target; tolerance = t i; form = f i; matrix = m i }
 
 -- ── a record's page ──
 
-module _ (h : Held) (f : recordSize (h .row) ≤ 4080) where
+module _ (h : Held) (f : recordSize (h .row) ≤ capacity) where
   -- byte i of the trailer
-  pub in-trailer : (i : ℕ) → getD (recordPage h) (4080 + i) 0 ≡ getD (trailer 1 (cond (h .settled) 1 0) (recordSize (h .row)) (h .holder)) i 0
+  pub in-trailer : (i : ℕ) → getD (recordPage h) (capacity + i) 0 ≡ getD (trailer 1 (cond (h .settled) 1 0) (recordSize (h .row)) (h .holder)) i 0
   in-trailer i =
-      let front = recordBytes (h .row) ++ replicate (4080 - recordSize (h .row)) 0 in
-      let n : length front ≡ 4080 = simp (length-append, length-replicate, length-record) (omega arith) in
-      getD-past front (trailer 1 (cond (h .settled) 1 0) (recordSize (h .row)) (h .holder)) 4080 i n
+      let front = recordBytes (h .row) ++ replicate (capacity - recordSize (h .row)) 0 in
+      let n : length front ≡ capacity = simp (length-append, length-replicate, length-record) (omega arith) in
+      getD-past front (trailer 1 (cond (h .settled) 1 0) (recordSize (h .row)) (h .holder)) capacity i n
 
-  pub settled-page : eqb (getD (recordPage h) 4081 0) 1 ≡ h .settled
+  pub settled-page : eqb (settledAt (recordPage h) 0) 1 ≡ h .settled
   settled-page = rw (in-trailer 1) (go (h .settled))
     where
       go : (b : Bool) → eqb (cond b 1 0) 1 ≡ b
       go true = refl
       go false = refl
 
-  pub used-page : twoAt (recordPage h) 4082 ≡ recordSize (h .row)
+  pub used-page : usedAt (recordPage h) 0 ≡ recordSize (h .row)
   unfolding twoAt
   used-page = rw (in-trailer 2, in-trailer 3) (two-bytes (recordSize (h .row)) (omega arith))
 
@@ -63,22 +65,22 @@ module _ (h : Held) (f : recordSize (h .row) ≤ 4080) where
 
 -- a helper's header is known by its kind, 4
 without-helper : (r : Row) (b : Bool) → lone r ≡ b
-    → let s = cond b (bytes r) (header 4 0 (6 + size r) ++ bytes r) in cond (eqb (getD s 0 0) 4) (drop 6 s) s ≡ bytes r
+    → let s = cond b (bytes r) (header 4 noHead (6 + size r) ++ bytes r) in cond (eqb (getD s 0 0) 4) (drop 6 s) s ≡ bytes r
 without-helper nil true e = absurd (false≢true e)
 without-helper (agg l cs rest) true e = refl
 without-helper (lit l c rest) true e = refl
 without-helper (rec p s r rest) true e = absurd (false≢true e)
 without-helper r false e = refl
 
-rowOn-page : (h : Held) → recordSize (h .row) ≤ 4080 → rowOn (recordPage h) ≡ bytes (h .row)
+rowOn-page : (h : Held) → recordSize (h .row) ≤ capacity → rowOn (recordPage h) ≡ bytes (h .row)
 rowOn-page h f = rw (used-page h f, take-page h f) (without-helper (h .row) (lone (h .row)) refl)
 
 -- ── a row ──
 
 module _ (img : List ℕ) where
-  module _ (k : ℕ) (l : Head) (n : ℕ) (inside after : List ℕ) (f : HeadFits l) (h : n ≤ 4080) (e : length inside ≡ n) where
+  module _ (k : ℕ) (l : Head) (n : ℕ) (inside after : List ℕ) (f : HeadFits l) (h : n ≤ capacity) (e : length inside ≡ n) where
     abbrev first : (kind : ℕ) → List ℕ
-    first b = header b (l .label) (6 + n)
+    first b = header b l (6 + n)
 
     take-node : (b : ℕ) → take (6 + n) (first b ++ (inside ++ after)) ≡ first b ++ inside
     take-node b = take-append-add (first b) (inside ++ after) n ∙ ap (λ (x : List ℕ). first b ++ x) (take-at inside after n e)
@@ -94,12 +96,12 @@ module _ (img : List ℕ) where
     unfolding nodesIn twoAt
     lit-in = rw (two-bytes (l .label) (f .label), two-bytes (6 + n) (omega arith), take-node 2, drop-node 2)
 
-  rec-in : (k p : ℕ) (s : Bool) (r : Row) (page after : List ℕ) → p < 65536 → pageOf img p ≡ page → eqb (getD page 4081 0) 1 ≡ s
-      → nodesIn k img (rowOn page) ≡ r → nodesIn (suc k) img (header 3 0 8 ++ (two p ++ after)) ≡ rec p s r (nodesIn k img after)
+  rec-in : (k p : ℕ) (s : Bool) (r : Row) (page after : List ℕ) → p < 65536 → pageOf img p ≡ page → eqb (settledAt page 0) 1 ≡ s
+      → nodesIn k img (rowOn page) ≡ r → nodesIn (suc k) img (header 3 noHead 8 ++ (two p ++ after)) ≡ rec p s r (nodesIn k img after)
   unfolding nodesIn twoAt
   rec-in k p s r page after h e t i = rw (two-bytes p h, e, t, i)
 
-  row-in : (k h : ℕ) (row : Row) → steps row ≤ k → size row ≤ 4080 → Fits row → Stored (pageOf img) h row
+  row-in : (k h : ℕ) (row : Row) → steps row ≤ k → size row ≤ capacity → Fits row → Stored (pageOf img) h row
       → ((q : ℕ) → 1 ≤ count q row → q < 65536) → nodesIn k img (bytes row) ≡ row
   unfolding nodesIn
   row-in zero h nil a z f m q = refl
@@ -115,7 +117,7 @@ module _ (img : List ℕ) where
       lit-in k l (length c) c (bytes rest) (f .0) (omega arith) refl ∙ ap (lit l c) (row-in k h rest (omega arith) (omega arith) (f .3) m q)
   row-in zero h (rec p s r rest) a z f m q = absurd (omega arith)
   row-in (suc k) h (rec p s r rest) a z f m q =
-      let held : Held = record { page = p; settled = s; holder = h; row = r } in
+      let held : Held = recordOn p s h r in
       let inside = row-in k p r (omega arith) (omega (arith, f .0 .fits)) (f .1) (m .1) (λ p g. q p (omega arith)) in
       rec-in k p s r (recordPage held) (bytes rest) (q p (names-own p s r rest)) (m .0) (settled-page held (f .0 .fits))
       (ap (nodesIn k img) (rowOn-page held (f .0 .fits)) ∙ inside)
@@ -140,7 +142,7 @@ module _ (st : Config) (root : Row) (v : Valid st root) where
   pub root-image : nodesIn (length (image st root)) (image st root) (rowOn (pageOf (image st root) 1)) ≡ root
   root-image =
       let img = image st root in
-      let held : Held = record { page = 1; settled = true; holder = 0; row = root } in
+      let held : Held = recordOn 1 true 0 root in
       let fit = v .rows .0 .fits in
       ap (nodesIn (length img) img) (ap rowOn (stored-image .0) ∙ rowOn-page held fit)
       ∙ row-in img (length img) 1 root (omega (arith, few-steps st root v, length-image st root v)) (omega arith) (v .rows .1) (stored-image .1)

@@ -6,17 +6,18 @@ use Prim.Native.Nat.{ℕ, zero, suc, _*_, _-_, _/_, _%_, _≤_}
 use native.Mathlib.Omega.{arith}
 use borrow.Author.Tests.{le-leb, eq-eqb}
 use lib.ListN.{length, length-append}
+use Rattle.model.specs.Limits.{mostPages, pageSize}
 use Rattle.model.specs.Row.{Row, store, Held, records, settingsPage, pageAt, pagesFrom, image, Config}
 use Rattle.model.specs.Reading.{lengthOk}
 use Rattle.theory_rows.specs.Fits.{Valid}
 use Rattle.theory_rows.specs.Image.{length-pageAt, length-settings, all-fit}
 
-length-pages : (hs : List Held) → ((q : ℕ) → length (pageAt hs q) ≡ 4096) → (n q : ℕ) → length (pagesFrom hs n q) ≡ 4096 * n
+length-pages : (hs : List Held) → ((q : ℕ) → length (pageAt hs q) ≡ pageSize) → (n q : ℕ) → length (pagesFrom hs n q) ≡ pageSize * n
 length-pages hs f zero q = refl
 length-pages hs f (suc n) q = rw (length-append, f q, length-pages hs f n (suc q)) (omega arith)
 
 module _ (st : Config) (root : Row) (v : Valid st root) where
-  pub length-image : length (image st root) ≡ 4096 * st .pages
+  pub length-image : length (image st root) ≡ pageSize * st .pages
   unfolding image
   length-image =
       let hs = records 0 (store root) in
@@ -32,7 +33,7 @@ module _ (st : Config) (root : Row) (v : Valid st root) where
   unfolding lengthOk
   image-length-ok =
       let n = length (image st root) in
-      let few : 2 ≤ n / 4096 = omega (arith, length-image, v .ranges .few) in
-      let many : n / 4096 ≤ 1024 = omega (arith, length-image, v .ranges .many) in
-      let whole : n % 4096 ≡ 0 = omega (arith, length-image) in
-      rw (eq-eqb (n % 4096) 0 whole, le-leb 2 (n / 4096) few, le-leb (n / 4096) 1024 many)
+      let few : 2 ≤ n / pageSize = omega (arith, length-image, v .ranges .few) in
+      let many : n / pageSize ≤ mostPages = omega (arith, length-image, v .ranges .many) in
+      let whole : n % pageSize ≡ 0 = omega (arith, length-image) in
+      rw (eq-eqb (n % pageSize) 0 whole, le-leb 2 (n / pageSize) few, le-leb (n / pageSize) mostPages many)

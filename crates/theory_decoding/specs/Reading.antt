@@ -8,6 +8,7 @@ use Prim.Native.Nat.{ℕ, _*_}
 use borrow.Author.Tests.{eqb-true, eq-eqb}
 use lib.ListN.{length}
 use lib.Dec.{eqb}
+use Rattle.model.specs.Limits.{pageSize}
 use Rattle.model.specs.Row.{Row, Config, image, valid}
 use Rattle.model.specs.Reading.{Reads, lengthOk, configOn, pageOf, rowOn, nodesIn, sameBytes, reading}
 use Rattle.theory_rows.specs.Fits.{Valid}
@@ -70,7 +71,7 @@ unique img a b r s =
     let q = complete img (b .0) (b .1) s in
     cc
 
-pub reads-length : (img : List ℕ) (st : Config) (root : Row) → Reads img st root → length img ≡ 4096 * st .pages
+pub reads-length : (img : List ℕ) (st : Config) (root : Row) → Reads img st root → length img ≡ pageSize * st .pages
 reads-length img st root r = ap length (r .same) ∙ length-image st root (reads-valid img st root r)
 
 pub reads-length-ok : (img : List ℕ) (st : Config) (root : Row) → Reads img st root → lengthOk (length img) ≡ true

@@ -5,6 +5,7 @@ use Prim.Native.Nat.{ℕ, zero, suc, _+_, _*_, _≤_, _<_}
 use native.Mathlib.Omega.{arith}
 use borrow.Author.Tests.{eqb-true, eqb-false, leb-false}
 use lib.Dec.{leb, eqb}
+use Rattle.model.specs.Limits.{pageSize, capacity}
 use Rattle.model.specs.Row.{Row, nil, agg, lit, rec, store, size, count, outside, Config}
 use Rattle.theory_rows.specs.Fits.{Fits, Valid}
 use Rattle.theory_rows.specs.Image.{once}
@@ -24,7 +25,7 @@ recordCount (agg l cs rest) = recordCount cs + recordCount rest
 recordCount (lit l c rest) = recordCount rest
 recordCount (rec p s r rest) = 1 + recordCount r + recordCount rest
 
-steps-bound : (r : Row) → Fits r → steps r ≤ size r + 4080 * recordCount r
+steps-bound : (r : Row) → Fits r → steps r ≤ size r + capacity * recordCount r
 steps-bound nil f = omega arith
 steps-bound (agg l cs rest) f = omega (arith, steps-bound cs (f .1), steps-bound rest (f .2))
 steps-bound (lit l c rest) f = omega (arith, steps-bound rest (f .3))
@@ -92,7 +93,7 @@ module _ (st : Config) (root : Row) (v : Valid st root) where
         sum-at-most (st .pages) (λ q. count q (store root)) (once st root v),
       )
 
-  pub few-steps : steps root ≤ 4096 * st .pages
+  pub few-steps : steps root ≤ pageSize * st .pages
   few-steps =
       omega (
         arith,

@@ -7,6 +7,7 @@ use native.Mathlib.Omega.{arith}
 use borrow.Author.Tests.{ltb-true, lt-ltb, leb-true, le-leb, eqb-true, eq-eqb, ne-eqb, not-true}
 use lib.ListN.{length}
 use lib.Dec.{leb, eqb}
+use Rattle.model.specs.Limits.{mostPages, capacity, mostContent}
 use Rattle.model.specs.Row.{Row, nil, agg, lit, rec, store, lone, nodeCount, recordSize, isAgg, height, count, outside, placed, Config, every, isByte, isEntry, inRange, headFits, recordFits, fits, valid, standing, mayStand, byTable}
 use Rattle.theory_rows.specs.Fits.{IsByte, Shape, one, more, RecordFits, Fits, Ranges, Placed, Valid}
 use Rattle.theory_rows.specs.Laws.{cond-case, isNil-nil}
@@ -39,12 +40,12 @@ pub ranges-say : (st : Config) → inRange st ≡ true → Ranges st
 unfolding inRange
 ranges-say st e =
     let others =
-    leb (st .pages) 1024 ∷ leb 64 (st .target) ∷ leb (st .target) 192 ∷ leb (st .tolerance) 512 ∷ eqb (st .form) 1
+    leb (st .pages) mostPages ∷ leb 64 (st .target) ∷ leb (st .target) 192 ∷ leb (st .tolerance) 512 ∷ eqb (st .form) 1
     ∷ eqb (length (st .matrix)) 256 ∷ every isEntry (st .matrix) ∷ [] in
     let h = tests-hold (leb 2 (st .pages)) others e in
     record {
       few = leb-true 2 (st .pages) (h .0);
-      many = leb-true (st .pages) 1024 (h .1 .0);
+      many = leb-true (st .pages) mostPages (h .1 .0);
       low = leb-true 64 (st .target) (h .1 .1 .0);
       high = leb-true (st .target) 192 (h .1 .1 .1 .0);
       tol = leb-true (st .tolerance) 512 (h .1 .1 .1 .1 .0);
@@ -58,7 +59,7 @@ unfolding inRange
 ranges-hold st r =
     rw (
       le-leb 2 (st .pages) (r .few),
-      le-leb (st .pages) 1024 (r .many),
+      le-leb (st .pages) mostPages (r .many),
       le-leb 64 (st .target) (r .low),
       le-leb (st .target) 192 (r .high),
       le-leb (st .tolerance) 512 (r .tol),
@@ -90,11 +91,11 @@ shape-holds (more r h) = rw (le-leb 2 (nodeCount r) h) (or-true (lone r))
 
 record-says : (s : Bool) (r : Row) → recordFits s r ≡ true → RecordFits s r
 record-says s r e =
-    let h = both (leb (recordSize r) 4080) (lone r || (not s && leb 2 (nodeCount r))) e in
-    record { fits = leb-true (recordSize r) 4080 (h .0); shape = shape-says s r (h .1) }
+    let h = both (leb (recordSize r) capacity) (lone r || (not s && leb 2 (nodeCount r))) e in
+    record { fits = leb-true (recordSize r) capacity (h .0); shape = shape-says s r (h .1) }
 
 record-holds : (s : Bool) (r : Row) → RecordFits s r → recordFits s r ≡ true
-record-holds s r f = rw (le-leb (recordSize r) 4080 (f .fits)) (shape-holds (f .shape))
+record-holds s r f = rw (le-leb (recordSize r) capacity (f .fits)) (shape-holds (f .shape))
 
 pub fits-says : (r : Row) → fits r ≡ true → Fits r
 fits-says nil e = tt
@@ -102,8 +103,8 @@ fits-says (agg h cs rest) e =
     let t = tests-hold (headFits h) (fits cs ∷ fits rest ∷ []) e in
     (record { label = ltb-true (h .label) 65536 (t .0) }, fits-says cs (t .1 .0), fits-says rest (t .1 .1 .0))
 fits-says (lit h c rest) e =
-    let t = tests-hold (headFits h) (leb (length c) 520 ∷ every isByte c ∷ fits rest ∷ []) e in
-    (record { label = ltb-true (h .label) 65536 (t .0) }, leb-true (length c) 520 (t .1 .0), bytes-say c (t .1 .1 .0), fits-says rest (t .1 .1 .1 .0))
+    let t = tests-hold (headFits h) (leb (length c) mostContent ∷ every isByte c ∷ fits rest ∷ []) e in
+    (record { label = ltb-true (h .label) 65536 (t .0) }, leb-true (length c) mostContent (t .1 .0), bytes-say c (t .1 .1 .0), fits-says rest (t .1 .1 .1 .0))
 fits-says (rec p s r rest) e =
     let t = tests-hold (recordFits s r) (fits r ∷ fits rest ∷ []) e in
     (record-says s r (t .0), fits-says r (t .1 .0), fits-says rest (t .1 .1 .0))
@@ -111,7 +112,7 @@ fits-says (rec p s r rest) e =
 fits-holds : (r : Row) → Fits r → fits r ≡ true
 fits-holds nil f = refl
 fits-holds (agg h cs rest) f = rw (lt-ltb (h .label) 65536 (f .0 .label), fits-holds cs (f .1)) (fits-holds rest (f .2))
-fits-holds (lit h c rest) f = rw (lt-ltb (h .label) 65536 (f .0 .label), le-leb (length c) 520 (f .1), bytes-hold c (f .2)) (fits-holds rest (f .3))
+fits-holds (lit h c rest) f = rw (lt-ltb (h .label) 65536 (f .0 .label), le-leb (length c) mostContent (f .1), bytes-hold c (f .2)) (fits-holds rest (f .3))
 fits-holds (rec p s r rest) f = rw (record-holds s r (f .0), fits-holds r (f .1)) (fits-holds rest (f .2))
 
 -- ── pages ──

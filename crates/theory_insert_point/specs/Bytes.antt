@@ -6,7 +6,8 @@ use mathlib.Core.Option.{some}
 use Prim.Native.Nat.{ℕ, _+_, _*_}
 use native.Mathlib.Omega.{arith}
 use lib.ListN.{length}
-use Rattle.model.specs.Row.{Row, nil, agg, lit, rec, store, _⊹_, size, base, bytes, Held, recordPage, Config}
+use Rattle.model.specs.Limits.{pageSize}
+use Rattle.model.specs.Row.{Row, nil, agg, lit, rec, store, _⊹_, size, base, Held, recordPage, Config, recordOn}
 use Rattle.model.specs.Reading.{Reads, pageOf}
 use Rattle.theory_rows.specs.Image.{Stored}
 use Rattle.theory_decoding.specs.Decode.{stored-image}
@@ -19,11 +20,11 @@ use Rattle.theory_insert_point.specs.Taking.{Taking, taking, taking-whol
 
 -- Where the record above the last of `below c s q b rest` has the proxy, if the last record holds `row`.
 abbrev pub proxyAt : (c : Chain) → (s : Spot) → (q : ℕ) → (b : Bool) → (rest row : Row) → ℕ
-proxyAt c s q b rest row = 4096 * lastPage c + base (fill s (rec q b row rest)) + before s
+proxyAt c s q b rest row = pageSize * lastPage c + base (fill s (rec q b row rest)) + before s
 
 -- The last record, as its page holds it.
 abbrev pub lastHeld : Chain → (row : Row) → Held
-lastHeld c row = record { page = lastPage c; settled = lastSettled c; holder = lastHolder c; row = row }
+lastHeld c row = recordOn (lastPage c) (lastSettled c) (lastHolder c) row
 
 -- ── in an image ──
 
@@ -50,7 +51,7 @@ module _ (img : List ℕ) where
 
   proxy-in : (c : Chain) (s : Spot) (q : ℕ) (b : Bool) (rest row : Row) → OnPage img (lastPage c) (lastHolder c) (fill s (rec q b row rest))
       → Here img (lastPage c) (proxyAt c s q b rest row) (rec q b row rest)
-  proxy-in c s q b rest row v = here-fill (lastPage c) (4096 * lastPage c + base (fill s (rec q b row rest))) s (rec q b row rest) (v .here)
+  proxy-in c s q b rest row v = here-fill (lastPage c) (pageSize * lastPage c + base (fill s (rec q b row rest))) s (rec q b row rest) (v .here)
 
   page-in : (c : Chain) (row : Row) → OnPage img 1 0 (whole c row) → OnPage img (lastPage c) (lastHolder c) row
   page-in top row v = v
@@ -76,7 +77,7 @@ module _ (img : List ℕ) where
 
     -- Where the new node goes, the row that follows it stands now.
     pub taking-here : (path : List ℕ) (k : ℕ) (t : Taking) → taking root path k ≡ some t
-        → Here img (lastPage (t .chain)) (4096 * lastPage (t .chain) + base (fill (t .spot) (t .rest)) + before (t .spot)) (t .rest)
+        → Here img (lastPage (t .chain)) (pageSize * lastPage (t .chain) + base (fill (t .spot) (t .rest)) + before (t .spot)) (t .rest)
     taking-here path k t e =
         let row = fill (t .spot) (t .rest) in
-        here-fill (lastPage (t .chain)) (4096 * lastPage (t .chain) + base row) (t .spot) (t .rest) (chain-page (t .chain) row (taking-whole root path k t e) .here)
+        here-fill (lastPage (t .chain)) (pageSize * lastPage (t .chain) + base row) (t .spot) (t .rest) (chain-page (t .chain) row (taking-whole root path k t e) .here)

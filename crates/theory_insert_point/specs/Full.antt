@@ -4,6 +4,7 @@ use mathlib.Core.Bool.{Bool, true, false, _||_}
 use Prim.Native.Nat.{ℕ, _+_}
 use lib.ListN.{length}
 use lib.Dec.{leb, eqb}
+use Rattle.model.specs.Limits.{capacity}
 use Rattle.model.specs.Row.{Row, nil, agg, lit, rec, _⊹_, size, isNil, lone, loneRec, recordSize, Config}
 use Rattle.model.specs.Growth.{Work, Out, onRow, freeFrom, group, twoGroups, separate, goOn, stops, rootRow, splitPoint, separator, counted, freed, kept, close}
 use Rattle.theory_rows.specs.Laws.{cond-case}
@@ -46,13 +47,13 @@ module _ (st : Config) where
 
   full-kept : (q : ℕ) (o : Out) → Since (o .1) (kept st q o)
   unfolding kept
-  full-kept q o = cond-case (Since (o .1)) (leb (recordSize (o .0)) 4080) (λ _ z. z) (λ _. full-separator q (o .0) (counted st (o .0) (o .1)))
+  full-kept q o = cond-case (Since (o .1)) (leb (recordSize (o .0)) capacity) (λ _ z. z) (λ _. full-separator q (o .0) (counted st (o .0) (o .1)))
 
   full-close : (q : ℕ) (b : Bool) (rest : Row) (o : Out) → Since (o .1) (close st q b rest o)
   unfolding close
   full-close q true rest o = full-kept q o
   full-close q false rest o =
-      cond-case (Since (o .1)) (leb (recordSize (o .0)) 4080) (λ _ z. z) (λ _. full-separator q (o .0) (freed st q (counted st (o .0) (o .1))))
+      cond-case (Since (o .1)) (leb (recordSize (o .0)) capacity) (λ _ z. z) (λ _. full-separator q (o .0) (freed st q (counted st (o .0) (o .1))))
 
   -- Growth from the last record of a chain upwards.
   pub full-rise : (c : Chain) (o : Out) → Since (o .1) (rise st c o)

@@ -5,6 +5,7 @@ use mathlib.Core.Option.{some, Option·some-injective}
 use Prim.Native.Nat.{ℕ, _+_, _*_, _/_, _%_, _≤_}
 use native.Mathlib.Omega.{arith}
 use lib.ListN.{length, getD}
+use Rattle.model.specs.Limits.{mostPages, pageSize, mostBytes}
 use Rattle.model.specs.Row.{Row, nil, agg, lit, rec, size, base, Config}
 use Rattle.model.specs.Reading.{Reads}
 use Rattle.model.specs.Tree.{shown, breadth, width, Node, below, further, nodes, places, placeOf}
@@ -67,8 +68,8 @@ pub record ReadAt (img : List ℕ) (n : Node) (pos : ℕ) : Type 0 where
   pub row : Row
   pub here : Here img page pos row
   pub leads : Leads row n
-  pub deep : nesting row ≤ 1024
-  pub few : steps row ≤ 4194304
+  pub deep : nesting row ≤ mostPages
+  pub few : steps row ≤ mostBytes
 
 leads-as : (row : Row) (m n : Node) → n .kind ≡ m .kind → n .head ≡ m .head → n .content ≡ m .content → n .children ≡ m .children → Leads row m → Leads row n
 leads-as nil m n a b c d h = h
@@ -83,7 +84,7 @@ module _ (img : List ℕ) where
   read-further : (k : ℕ) (n : Node) (s : ℕ) → ReadAt img n s → ReadAt img (further k n) s
   read-further k n s r = record { page = r .page; row = r .row; here = r .here; leads = leads-as (r .row) n (further k n) refl refl refl refl (r .leads); deep = r .deep; few = r .few }
 
-  pub read-all : (page pos : ℕ) (row : Row) → Here img page pos row → nesting row ≤ 1024 → steps row ≤ 4194304 → All (ReadAt img) (nodes (shown row)) (spots pos row)
+  pub read-all : (page pos : ℕ) (row : Row) → Here img page pos row → nesting row ≤ mostPages → steps row ≤ mostBytes → All (ReadAt img) (nodes (shown row)) (spots pos row)
   read-all page pos nil v d f = tt
   read-all page pos (agg h cs rest) v d f =
       let w = agg-view img page pos h cs rest v in
@@ -105,8 +106,8 @@ module _ (img : List ℕ) where
       let R = ReadAt img in
       let k = breadth (shown r) in
       rw (nodes-⊞ (shown r) (shown rest))
-      (all-++ R (nodes (shown r)) (map (further k) (nodes (shown rest))) (spots (4096 * p + base r) r) (spots (pos + 8) rest)
-      (read-all p (4096 * p + base r) r (w .under .here) (omega arith) (omega arith))
+      (all-++ R (nodes (shown r)) (map (further k) (nodes (shown rest))) (spots (pageSize * p + base r) r) (spots (pos + 8) rest)
+      (read-all p (pageSize * p + base r) r (w .under .here) (omega arith) (omega arith))
       (all-map R (further k) (read-further k) (nodes (shown rest)) (spots (pos + 8) rest) (read-all page (pos + 8) rest (w .after) (omega arith) (omega arith))))
 
   -- The kind's byte is the node's.
@@ -150,35 +151,35 @@ module _ (img : List ℕ) (st : Config) (root : Row) (r : Reads img st root) whe
   root-base = rw (lone-root st root (reads-valid img st root r))
 
   -- The nodes in document order stand where `spots` says.
-  pub nodes-all : All (Both img root) (nodes (shown root)) (spots (4096 + base root) root)
+  pub nodes-all : All (Both img root) (nodes (shown root)) (spots (pageSize + base root) root)
   nodes-all =
-      let z : 4096 + base root ≡ 4096 = omega (arith, root-base) in
+      let z : pageSize + base root ≡ pageSize = omega (arith, root-base) in
       let v = reads-valid img st root r in
       rw z
-      (all-both (ReadAt img) (PlacedAt root) (nodes (shown root)) (spots 4096 root) (read-all img 1 4096 root (root-here img st root r) (root-nesting img st root r) (omega (arith, few-steps st root v, v .ranges .many)))
-      (placed-all root (nodes (shown root)) (places 1 0 root) (spots 4096 root) (place-root root (lone-root st root (reads-valid img st root r))) (spots-places 1 0 root)))
+      (all-both (ReadAt img) (PlacedAt root) (nodes (shown root)) (spots pageSize root) (read-all img 1 pageSize root (root-here img st root r) (root-nesting img st root r) (omega (arith, few-steps st root v, v .ranges .many)))
+      (placed-all root (nodes (shown root)) (places 1 0 root) (spots pageSize root) (place-root root (lone-root st root (reads-valid img st root r))) (spots-places 1 0 root)))
 
   -- A position splits the nodes as it splits the positions.
-  pub nodes-split : (before after : List ℕ) → spots (4096 + base root) root ≡ before ++ after → (xs ys : List Node) × (nodes (shown root) ≡ xs ++ ys) × All (Both img root) ys after
+  pub nodes-split : (before after : List ℕ) → spots (pageSize + base root) root ≡ before ++ after → (xs ys : List Node) × (nodes (shown root) ≡ xs ++ ys) × All (Both img root) ys after
   nodes-split before after e = all-split (Both img root) (nodes (shown root)) before after (subst (All (Both img root) (nodes (shown root))) e nodes-all)
 
   -- What is read at a node's place.
   pub node-read : (n : Node) → Mem n (nodes (shown root)) → (x : Place) → placeOf root (n .path) ≡ some x → ReadAt img n (addr x)
   node-read n m x e =
-      let b = mem-all (Both img root) (nodes (shown root)) (spots (4096 + base root) root) nodes-all n m in
+      let b = mem-all (Both img root) (nodes (shown root)) (spots (pageSize + base root) root) nodes-all n m in
       subst (ReadAt img n) (sym (b .2 .1 .is) ∙ ap addr (Option·some-injective _ _ (sym (b .2 .1 .has) ∙ e))) (b .2 .0)
 
   -- A node's place is one of the positions, and on its page.
-  pub node-spot : (n : Node) → Mem n (nodes (shown root)) → (x : Place) → placeOf root (n .path) ≡ some x → List·Memᴰ (addr x) (spots (4096 + base root) root) × Inside st x
+  pub node-spot : (n : Node) → Mem n (nodes (shown root)) → (x : Place) → placeOf root (n .path) ≡ some x → List·Memᴰ (addr x) (spots (pageSize + base root) root) × Inside st x
   node-spot n m x e =
-      let b = mem-all (Both img root) (nodes (shown root)) (spots (4096 + base root) root) nodes-all n m in
+      let b = mem-all (Both img root) (nodes (shown root)) (spots (pageSize + base root) root) nodes-all n m in
       let same : b .2 .1 .place ≡ x = Option·some-injective _ _ (sym (b .2 .1 .has) ∙ e) in
-      (subst (λ (s : ℕ). List·Memᴰ s (spots (4096 + base root) root)) (sym (b .2 .1 .is) ∙ ap addr same) (b .1), place-inside st root (reads-valid img st root r) (n .path) x e)
+      (subst (λ (s : ℕ). List·Memᴰ s (spots (pageSize + base root) root)) (sym (b .2 .1 .is) ∙ ap addr same) (b .1), place-inside st root (reads-valid img st root r) (n .path) x e)
 
   -- The place of a node at a position is that position's.
-  pub place-at : (n : Node) (s : ℕ) → PlacedAt root n s → placeOf root (n .path) ≡ some (record { page = s / 4096; offset = s % 4096 })
+  pub place-at : (n : Node) (s : ℕ) → PlacedAt root n s → placeOf root (n .path) ≡ some (record { page = s / pageSize; offset = s % pageSize })
   place-at n s p =
       let i = place-inside st root (reads-valid img st root r) (n .path) (p .place) (p .has) in
-      let a : p .place .page ≡ s / 4096 = omega (arith, p .is, i .fits) in
-      let b : p .place .offset ≡ s % 4096 = omega (arith, p .is, i .fits) in
+      let a : p .place .page ≡ s / pageSize = omega (arith, p .is, i .fits) in
+      let b : p .place .offset ≡ s % pageSize = omega (arith, p .is, i .fits) in
       p .has ∙ (λ j. some (record { page = a j; offset = b j }))

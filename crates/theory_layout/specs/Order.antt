@@ -9,8 +9,9 @@ use borrow.Author.Tests.{eqb-true, eq-eqb}
 use lib.ListN.{length, getD, drop}
 use lib.Seq.{getD-drop, getD-take}
 use lib.Dec.{eqb}
-use Rattle.model.specs.Row.{Head, Row, nil, agg, lit, rec, store, size, base, Held, records, recordPage, pageAt, count, outside, Config}
-use Rattle.model.specs.Reading.{Reads, twoAt, pageOf}
+use Rattle.model.specs.Limits.{mostPages, pageSize, capacity}
+use Rattle.model.specs.Row.{Head, Row, nil, agg, lit, rec, store, size, base, Held, records, recordPage, pageAt, count, outside, Config, recordOn}
+use Rattle.model.specs.Reading.{Reads, pageOf, sizeAt, nameAt, stateAt}
 use Rattle.model.specs.Tree.{places}
 use Rattle.model.specs.Calls.{times}
 use Rattle.model.specs.declared.Place.{Place}
@@ -33,34 +34,34 @@ expand-items pos nil = refl
 expand-items pos (agg h cs rest) =
     ap (_∷_ pos) (expand-++ (items (pos + 6) cs) (items (pos + (6 + size cs)) rest) ∙ ap₂ _++_ (expand-items (pos + 6) cs) (expand-items (pos + (6 + size cs)) rest))
 expand-items pos (lit h c rest) = ap (_∷_ pos) (expand-items (pos + (6 + length c)) rest)
-expand-items pos (rec p s r rest) = ap (λ (l : List ℕ). spots (4096 * p + base r) r ++ l) (expand-items (pos + 8) rest)
+expand-items pos (rec p s r rest) = ap (λ (l : List ℕ). spots (pageSize * p + base r) r ++ l) (expand-items (pos + 8) rest)
 
 -- Where a place is in the image.
 abbrev pub addr : Place → ℕ
-addr x = 4096 * x .page + x .offset
+addr x = pageSize * x .page + x .offset
 
-pub spots-at : (pos page at : ℕ) (row : Row) → pos ≡ 4096 * page + at → spots pos row ≡ map addr (places page at row)
+pub spots-at : (pos page at : ℕ) (row : Row) → pos ≡ pageSize * page + at → spots pos row ≡ map addr (places page at row)
 spots-at pos page at nil e = refl
 spots-at pos page at (agg h cs rest) e =
     ap₂ _∷_ e (ap₂ _++_ (spots-at (pos + 6) page (at + 6) cs (omega arith)) (spots-at (pos + (6 + size cs)) page (at + 6 + size cs) rest (omega arith))
     ∙ sym (map-append addr (places page (at + 6) cs) (places page (at + 6 + size cs) rest)))
 spots-at pos page at (lit h c rest) e = ap₂ _∷_ e (spots-at (pos + (6 + length c)) page (at + 6 + length c) rest (omega arith))
 spots-at pos page at (rec p s r rest) e =
-    ap₂ _++_ (spots-at (4096 * p + base r) p (base r) r refl) (spots-at (pos + 8) page (at + 8) rest (omega arith))
+    ap₂ _++_ (spots-at (pageSize * p + base r) p (base r) r refl) (spots-at (pos + 8) page (at + 8) rest (omega arith))
     ∙ sym (map-append addr (places p (base r) r) (places page (at + 8) rest))
 
-pub spots-places : (page at : ℕ) (row : Row) → spots (4096 * page + at) row ≡ map addr (places page at row)
-spots-places page at row = spots-at (4096 * page + at) page at row refl
+pub spots-places : (page at : ℕ) (row : Row) → spots (pageSize * page + at) row ≡ map addr (places page at row)
+spots-places page at row = spots-at (pageSize * page + at) page at row refl
 
 -- The items of a record that are split show its nodes, split alike.
 pub spots-split : (pos : ℕ) (row : Row) (xs ys : List Item) → items pos row ≡ xs ++ ys → spots pos row ≡ expand xs ++ expand ys
 spots-split pos row xs ys e = sym (expand-items pos row) ∙ ap expand e ∙ expand-++ xs ys
 
 pub in-spots : {root : Row} {page holder : ℕ} {row : Row} {before after : List ℕ} {d : ℕ} → In root page holder row before after d
-    → spots (4096 + base root) root ≡ before ++ (spots (4096 * page + base row) row ++ after)
-in-spots {root} top = sym (append-nil (spots (4096 + base root) root))
+    → spots (pageSize + base root) root ≡ before ++ (spots (pageSize * page + base row) row ++ after)
+in-spots {root} top = sym (append-nil (spots (pageSize + base root) root))
 in-spots {root} (sub {page = page} {row = row} {before = before} {after = after} w xs ys pos p r e) =
-    in-spots w ∙ rw (spots-split (4096 * page + base row) row xs (proxy pos p r ∷ ys) e) (simp append-assoc)
+    in-spots w ∙ rw (spots-split (pageSize * page + base row) row xs (proxy pos p r ∷ ys) e) (simp append-assoc)
 
 -- ── where an item is ──
 
@@ -94,7 +95,7 @@ pub record Stood (img : List ℕ) (page pos : ℕ) (i : Item) : Type 0 where
 
 -- Where the header after the one at pos stands: behind an aggregate's header, and past a literal or a proxy.
 unfoldable pub step : (img : List ℕ) → (pos : ℕ) → ℕ
-step img pos = cond (eqb (getD img pos 0) 1) (pos + 6) (pos + twoAt img (pos + 4))
+step img pos = cond (eqb (getD img pos 0) 1) (pos + 6) (pos + sizeAt img pos)
 
 -- Header after header, these items stand from pos to end.
 abbrev pub Flat : (img : List ℕ) (page pos end : ℕ) → List Item → Type 0
@@ -144,11 +145,11 @@ module _ (img : List ℕ) (page : ℕ) where
   -- What a header says: its position, its room, and the step.
   pub record Header (pos : ℕ) (i : Item) : Type 0 where
     pub is-at : at i ≡ pos
-    pub low : 4096 * page ≤ pos
-    pub room : pos + 6 ≤ 4096 * page + 4080
+    pub low : pageSize * page ≤ pos
+    pub room : pos + 6 ≤ pageSize * page + capacity
     pub on : PageIn img page
     pub further : pos + 6 ≤ step img pos
-    pub within : step img pos ≤ 4096 * page + 4080
+    pub within : step img pos ≤ pageSize * page + capacity
 
   pub header-of : (pos : ℕ) (i : Item) → Stood img page pos i → Header pos i
   header-of pos i s = go (s .row) (s .here) (s .first)
@@ -178,7 +179,7 @@ module _ (img : List ℕ) (page : ℕ) where
   -- What is read at a proxy; the record that it stands for is not empty.
   pub record Proxy (pos p : ℕ) (r : Row) : Type 0 where
     pub kind : getD img pos 0 ≡ 3
-    pub name : twoAt img (pos + 6) ≡ p
+    pub name : nameAt img pos ≡ p
     pub next : step img pos ≡ pos + 8
     pub under : OnPage img p page r
     pub some : 1 ≤ size r
@@ -309,7 +310,7 @@ module _ (q p : ℕ) (r : Row) where
 
   -- and is one of its row's records, as are those below it.
   abbrev Listed : (page : ℕ) → Row → Type 0
-  Listed page row = (s : Bool) × List·Memᴰ (record { page = p; settled = s; holder = page; row = r }) (records page row)
+  Listed page row = (s : Bool) × List·Memᴰ (recordOn p s page r) (records page row)
       × ((h : Held) → List·Memᴰ h (records p r) → List·Memᴰ h (records page row))
 
   pub records-item : (page pos : ℕ) (row : Row) → List·Memᴰ (proxy q p r) (items pos row) → Listed page row
@@ -344,20 +345,20 @@ named-items q pos (rec p s r rest) = omega (arith, named-items q (pos + 8) rest)
 in-depth : {root : Row} {page holder : ℕ} {row : Row} {before after : List ℕ} {d : ℕ} → In root page holder row before after d → d + nesting row ≤ nesting root
 in-depth top = omega arith
 in-depth (sub {page = page} {row = row} w xs ys pos p r e) =
-    omega (arith, in-depth w, nesting-item pos p r (4096 * page + base row) row (split-mem (proxy pos p r) (items (4096 * page + base row) row) xs ys e))
+    omega (arith, in-depth w, nesting-item pos p r (pageSize * page + base row) row (split-mem (proxy pos p r) (items (pageSize * page + base row) row) xs ys e))
 
 pub in-count : {root : Row} {page holder : ℕ} {row : Row} {before after : List ℕ} {d : ℕ} → In root page holder row before after d → (n : ℕ) → count n row ≤ count n root
 in-count top n = omega arith
 in-count (sub {page = page} {row = row} w xs ys pos p r e) n =
-    omega (arith, in-count w n, count-item pos p r n (4096 * page + base row) row (split-mem (proxy pos p r) (items (4096 * page + base row) row) xs ys e))
+    omega (arith, in-count w n, count-item pos p r n (pageSize * page + base row) row (split-mem (proxy pos p r) (items (pageSize * page + base row) row) xs ys e))
 
 in-listed : {root : Row} {page holder : ℕ} {row : Row} {before after : List ℕ} {d : ℕ} → In root page holder row before after d
-    → (s : Bool) × List·Memᴰ (record { page = page; settled = s; holder = holder; row = row }) (records 0 (store root))
+    → (s : Bool) × List·Memᴰ (recordOn page s holder row) (records 0 (store root))
     × ((h : Held) → List·Memᴰ h (records page row) → List·Memᴰ h (records 0 (store root)))
 in-listed top = (true, List·Memᴰ·head refl, λ h m. List·Memᴰ·tail (Memᴰ·append-left [] m))
 in-listed (sub {page = page} {row = row} w xs ys pos p r e) =
     let t = in-listed w in
-    let u = records-item pos p r page (4096 * page + base row) row (split-mem (proxy pos p r) (items (4096 * page + base row) row) xs ys e) in
+    let u = records-item pos p r page (pageSize * page + base row) row (split-mem (proxy pos p r) (items (pageSize * page + base row) row) xs ys e) in
     (u .0, t .2 _ (u .1), λ h m. t .2 h (u .2 h m))
 
 -- two records of a list on one page
@@ -385,7 +386,7 @@ record Some (root : Row) (page : ℕ) : Type 0 where
 
 -- Every record of a row that is in a record,
 row-records : {root : Row} (r : Row) {page holder : ℕ} {row : Row} {before after : List ℕ} {d : ℕ} → In root page holder row before after d
-    → (pos : ℕ) (xs ys : List Item) → items (4096 * page + base row) row ≡ xs ++ (items pos r ++ ys)
+    → (pos : ℕ) (xs ys : List Item) → items (pageSize * page + base row) row ≡ xs ++ (items pos r ++ ys)
     → (h : Held) → List·Memᴰ h (records page r) → Some root (h .page)
 row-records nil w pos xs ys e h m = absurd (List·Memᴰ·not-nil m)
 row-records {root} (agg l cs rest) {page = page} w pos xs ys e h m =
@@ -401,10 +402,10 @@ row-records (lit l c rest) w pos xs ys e h m = row-records rest w (pos + (6 + le
 row-records {root} (rec p s r rest) {page = page} w pos xs ys e h m =
     let under = sub w xs (items (pos + 8) rest ++ ys) pos p r e in
     first (List·Memᴰ·cases-cons m) (record { holder = _; row = _; before = _; after = _; depth = _; within = under })
-    (row-records r under (4096 * p + base r) [] [] (sym (append-nil (items (4096 * p + base r) r))) h)
+    (row-records r under (pageSize * p + base r) [] [] (sym (append-nil (items (pageSize * p + base r) r))) h)
     (row-records rest w (pos + 8) (xs ++ proxy pos p r ∷ []) ys (e ∙ simp append-assoc) h)
   where
-    first : (h ≡ record { page = p; settled = s; holder = page; row = r }) ⊎ List·Memᴰ h (records p r ++ records page rest) → Some root p
+    first : (h ≡ (recordOn p s page r)) ⊎ List·Memᴰ h (records p r ++ records page rest) → Some root p
         → (List·Memᴰ h (records p r) → Some root (h .page)) → (List·Memᴰ h (records page rest) → Some root (h .page)) → Some root (h .page)
     first (inl q) i f g = subst (Some root) (sym (ap (λ (h : Held). h .page) q)) i
     first (inr j) i f g = sides (List·Memᴰ·append-cases (records p r) j)
@@ -416,19 +417,19 @@ row-records {root} (rec p s r rest) {page = page} w pos xs ys e h m =
 root-records : (root : Row) (h : Held) → List·Memᴰ h (records 0 (store root)) → Some root (h .page)
 root-records root h m = first (List·Memᴰ·cases-cons m)
   where
-    first : (h ≡ record { page = 1; settled = true; holder = 0; row = root }) ⊎ List·Memᴰ h (records 1 root ++ []) → Some root (h .page)
+    first : (h ≡ (recordOn 1 true 0 root)) ⊎ List·Memᴰ h (records 1 root ++ []) → Some root (h .page)
     first (inl q) = subst (Some root) (sym (ap (λ (h : Held). h .page) q)) (record { holder = _; row = _; before = _; after = _; depth = _; within = top })
     first (inr j) =
-        row-records root top (4096 + base root) [] [] (sym (append-nil (items (4096 + base root) root))) h
+        row-records root top (pageSize + base root) [] [] (sym (append-nil (items (pageSize + base root) root))) h
         (rw (append-nil (records 1 root)) at j)
 
 -- A page whose trailer's first byte is 1 has a record.
-page-held : (hs : List Held) (q : ℕ) → getD (pageAt hs q) 4080 0 ≡ 1 → (h : Held) × List·Memᴰ h hs × (h .page ≡ q)
+page-held : (hs : List Held) (q : ℕ) → stateAt (pageAt hs q) 0 ≡ 1 → (h : Held) × List·Memᴰ h hs × (h .page ≡ q)
 page-held [] q e = absurd (omega (arith, e))
 page-held (k ∷ hs) q e = go (eqb q (k .page)) refl e (page-held hs q)
   where
-    go : (b : Bool) → eqb q (k .page) ≡ b → getD (cond b (recordPage k) (pageAt hs q)) 4080 0 ≡ 1
-        → (getD (pageAt hs q) 4080 0 ≡ 1 → (h : Held) × List·Memᴰ h hs × (h .page ≡ q)) → (h : Held) × List·Memᴰ h (k ∷ hs) × (h .page ≡ q)
+    go : (b : Bool) → eqb q (k .page) ≡ b → getD (cond b (recordPage k) (pageAt hs q)) capacity 0 ≡ 1
+        → (stateAt (pageAt hs q) 0 ≡ 1 → (h : Held) × List·Memᴰ h hs × (h .page ≡ q)) → (h : Held) × List·Memᴰ h (k ∷ hs) × (h .page ≡ q)
     go true t e f = (k, List·Memᴰ·head refl, sym (eqb-true q (k .page) t))
     go false t e f = let i = f e in (i .0, List·Memᴰ·tail (i .1), i .2)
 
@@ -443,11 +444,11 @@ pub record Spot (root : Row) (pos : ℕ) : Type 0 where
   pub within : In root page holder row before after depth
   pub left : List Item
   pub right : List Item
-  pub split : items (4096 * page + base row) row ≡ left ++ node pos ∷ right
+  pub split : items (pageSize * page + base row) row ≡ left ++ node pos ∷ right
 
 -- Every node of a row that is in a record,
 row-spots : {root : Row} (r : Row) {page holder : ℕ} {row : Row} {before after : List ℕ} {d : ℕ} → In root page holder row before after d
-    → (pos : ℕ) (xs ys : List Item) → items (4096 * page + base row) row ≡ xs ++ (items pos r ++ ys)
+    → (pos : ℕ) (xs ys : List Item) → items (pageSize * page + base row) row ≡ xs ++ (items pos r ++ ys)
     → (n : ℕ) → List·Memᴰ n (spots pos r) → Spot root n
 row-spots nil w pos xs ys e n m = absurd (List·Memᴰ·not-nil m)
 row-spots {root} (agg l cs rest) {page = page} w pos xs ys e n m =
@@ -474,32 +475,32 @@ row-spots {root} (lit l c rest) w pos xs ys e n m =
     first (inr j) i g = g j
 row-spots {root} (rec p s r rest) w pos xs ys e n m =
     let under = sub w xs (items (pos + 8) rest ++ ys) pos p r e in
-    sides (List·Memᴰ·append-cases (spots (4096 * p + base r) r) m)
-    (row-spots r under (4096 * p + base r) [] [] (sym (append-nil (items (4096 * p + base r) r))) n)
+    sides (List·Memᴰ·append-cases (spots (pageSize * p + base r) r) m)
+    (row-spots r under (pageSize * p + base r) [] [] (sym (append-nil (items (pageSize * p + base r) r))) n)
     (row-spots rest w (pos + 8) (xs ++ proxy pos p r ∷ []) ys (e ∙ simp append-assoc) n)
   where
-    sides : List·Memᴰ n (spots (4096 * p + base r) r) ⊎ List·Memᴰ n (spots (pos + 8) rest) → (List·Memᴰ n (spots (4096 * p + base r) r) → Spot root n)
+    sides : List·Memᴰ n (spots (pageSize * p + base r) r) ⊎ List·Memᴰ n (spots (pos + 8) rest) → (List·Memᴰ n (spots (pageSize * p + base r) r) → Spot root n)
         → (List·Memᴰ n (spots (pos + 8) rest) → Spot root n) → Spot root n
     sides (inl k) f g = f k
     sides (inr k) f g = g k
 
 -- and so each position of the document order is a node item of a record.
-pub spot-of : (root : Row) (n : ℕ) → List·Memᴰ n (spots (4096 + base root) root) → Spot root n
-spot-of root n m = row-spots root top (4096 + base root) [] [] (sym (append-nil (items (4096 + base root) root))) n m
+pub spot-of : (root : Row) (n : ℕ) → List·Memᴰ n (spots (pageSize + base root) root) → Spot root n
+spot-of root n m = row-spots root top (pageSize + base root) [] [] (sym (append-nil (items (pageSize + base root) root))) n m
 
 -- Where a node is in the document order.
 pub spot-split : {root : Row} {pos : ℕ} (w : Spot root pos)
-    → spots (4096 + base root) root ≡ (w .before ++ expand (w .left)) ++ pos ∷ (expand (w .right) ++ w .after)
+    → spots (pageSize + base root) root ≡ (w .before ++ expand (w .left)) ++ pos ∷ (expand (w .right) ++ w .after)
 spot-split {root} {pos} w =
-    in-spots (w .within) ∙ rw (spots-split (4096 * w .page + base (w .row)) (w .row) (w .left) (node pos ∷ w .right) (w .split)) (simp append-assoc)
+    in-spots (w .within) ∙ rw (spots-split (pageSize * w .page + base (w .row)) (w .row) (w .left) (node pos ∷ w .right) (w .split)) (simp append-assoc)
 
 module _ (img : List ℕ) (st : Config) (root : Row) (r : Reads img st root) where
   pub in-page : {page holder : ℕ} {row : Row} {before after : List ℕ} {d : ℕ} → In root page holder row before after d → OnPage img page holder row
   in-page top = root-page img st root r
   in-page (sub {page = page} {row = row} w xs ys pos p x e) =
-      proxy-of img page pos pos p x (item-at img page (4096 * page + base row) row (in-page w .here) xs ys (proxy pos p x) e .0) .under
+      proxy-of img page pos pos p x (item-at img page (pageSize * page + base row) row (in-page w .here) xs ys (proxy pos p x) e .0) .under
 
-  pub in-deep : {page holder : ℕ} {row : Row} {before after : List ℕ} {d : ℕ} → In root page holder row before after d → d ≤ 1024
+  pub in-deep : {page holder : ℕ} {row : Row} {before after : List ℕ} {d : ℕ} → In root page holder row before after d → d ≤ mostPages
   in-deep w = omega (arith, in-depth w, root-nesting img st root r)
 
   -- No proxy names page 1, and none names a page twice.
@@ -513,7 +514,7 @@ module _ (img : List ℕ) (st : Config) (root : Row) (r : Reads img st root) whe
   pub last-page : {page holder : ℕ} {row : Row} {before after : List ℕ} {d : ℕ} → In root page holder row before after d → page ≡ 1 → after ≡ []
   last-page top q = refl
   last-page (sub {page = page} {row = row} w xs ys pos p x e) q =
-      absurd (omega (arith, in-other w, rw (eq-eqb 1 p (sym q)) at (count-item pos p x 1 (4096 * page + base row) row (split-mem (proxy pos p x) (items (4096 * page + base row) row) xs ys e))))
+      absurd (omega (arith, in-other w, rw (eq-eqb 1 p (sym q)) at (count-item pos p x 1 (pageSize * page + base row) row (split-mem (proxy pos p x) (items (pageSize * page + base row) row) xs ys e))))
 
   -- One record on a page.
   pub same-row : {page holder holder₁ : ℕ} {row row₁ : Row} {before before₁ after after₁ : List ℕ} {d d₁ : ℕ} → In root page holder row before after d
@@ -524,14 +525,14 @@ module _ (img : List ℕ) (st : Config) (root : Row) (r : Reads img st root) whe
       ap (λ (h : Held). h .row) (one-held (records 0 (store root)) _ _ (a .1) (b .1) refl (pages-once st root (reads-valid img st root r) page))
 
   -- A page is a record's exactly if its trailer begins with 1.
-  pub page-in : (q : ℕ) → q < st .pages → 1 ≤ q → getD img (4096 * q + 4080) 0 ≡ 1
+  pub page-in : (q : ℕ) → q < st .pages → 1 ≤ q → stateAt img (pageSize * q) ≡ 1
       → (holder : ℕ) × (row : Row) × (before after : List ℕ) × (d : ℕ) × In root q holder row before after d
   page-in q high low e =
       let v = reads-valid img st root r in
       let hs = records 0 (store root) in
-      let page : getD (pageOf img q) 4080 0 ≡ 1 = getD-take 4096 (drop (4096 * q) img) 4080 0 (omega arith) ∙ getD-drop (4096 * q) img 4080 0 ∙ e in
+      let page : stateAt (pageOf img q) 0 ≡ 1 = getD-take pageSize (drop (pageSize * q) img) capacity 0 (omega arith) ∙ getD-drop (pageSize * q) img capacity 0 ∙ e in
       let same : pageOf img q ≡ pageAt hs q = ap (λ (l : List ℕ). pageOf l q) (r .same) ∙ image-page st root v q low high in
-      let (h, m, p) = page-held hs q (sym (ap (λ (l : List ℕ). getD l 4080 0) same) ∙ page) in
+      let (h, m, p) = page-held hs q (sym (ap (λ (l : List ℕ). stateAt l 0) same) ∙ page) in
       let s = root-records root h m in
       subst (λ (q : ℕ). (holder : ℕ) × (row : Row) × (before after : List ℕ) × (d : ℕ) × In root q holder row before after d) p
       (s .holder, s .row, s .before, s .after, s .depth, s .within)
@@ -539,25 +540,25 @@ module _ (img : List ℕ) (st : Config) (root : Row) (r : Reads img st root) whe
   -- ── the items of a page, and the places ──
 
   spot-stood : (n : ℕ) (w : Spot root n) → Stood img (w .page) n (node n)
-  spot-stood n w = item-at img (w .page) (4096 * w .page + base (w .row)) (w .row) (in-page (w .within) .here) (w .left) (w .right) (node n) (w .split) .0
+  spot-stood n w = item-at img (w .page) (pageSize * w .page + base (w .row)) (w .row) (in-page (w .within) .here) (w .left) (w .right) (node n) (w .split) .0
 
   pub spot-header : (n : ℕ) (w : Spot root n) → Header img (w .page) n (node n)
   spot-header n w = header-of img (w .page) n (node n) (spot-stood n w)
 
   module _ {page holder : ℕ} {row : Row} {before after : List ℕ} {d : ℕ} (w : In root page holder row before after d) where
     -- A node item of a page's record is a node of the document order,
-    unfoldable pub item-spot : (n : ℕ) → List·Memᴰ (node n) (items (4096 * page + base row) row) → Spot root n
+    unfoldable pub item-spot : (n : ℕ) → List·Memᴰ (node n) (items (pageSize * page + base row) row) → Spot root n
     item-spot n m =
-        let s = mem-split (node n) (items (4096 * page + base row) row) m in
+        let s = mem-split (node n) (items (pageSize * page + base row) row) m in
         record { page = page; holder = holder; row = row; before = before; after = after; depth = d; within = w; left = s .0; right = s .1; split = s .2 }
 
     -- and a node of the document order on this page is a node item of its record.
-    pub spot-item : (n : ℕ) → 4096 * page ≤ n → n < 4096 * page + 4096 → List·Memᴰ n (spots (4096 + base root) root)
-        → List·Memᴰ (node n) (items (4096 * page + base row) row)
+    pub spot-item : (n : ℕ) → pageSize * page ≤ n → n < pageSize * page + pageSize → List·Memᴰ n (spots (pageSize + base root) root)
+        → List·Memᴰ (node n) (items (pageSize * page + base row) row)
     spot-item n low high m =
         let s = spot-of root n m in
         let h = spot-header n s in
         let same : s .page ≡ page = omega (arith, h .low, h .room) in
         let one : s .row ≡ row = same-row (subst (λ (q : ℕ). In root q (s .holder) (s .row) (s .before) (s .after) (s .depth)) same (s .within)) w in
-        let i : List·Memᴰ (node n) (items (4096 * s .page + base (s .row)) (s .row)) = split-mem (node n) (items (4096 * s .page + base (s .row)) (s .row)) (s .left) (s .right) (s .split) in
+        let i : List·Memᴰ (node n) (items (pageSize * s .page + base (s .row)) (s .row)) = split-mem (node n) (items (pageSize * s .page + base (s .row)) (s .row)) (s .left) (s .right) (s .split) in
         rw (same, one) at i

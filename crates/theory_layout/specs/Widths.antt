@@ -7,6 +7,7 @@ use native.Mathlib.Omega.{arith}
 use borrow.Author.Tests.{eqb-true, leb-true, leb-false}
 use lib.ListN.{length, getD}
 use lib.Dec.{leb, eqb}
+use Rattle.model.specs.Limits.{pageSize}
 use Rattle.model.specs.Row.{Row, nil, agg, lit, rec, size, base, recordSize, count, Config}
 use Rattle.model.specs.Reading.{Reads}
 use Rattle.model.specs.Tree.{width}
@@ -28,9 +29,9 @@ one-page : (img : List ℕ) (p holder holder₁ : ℕ) (a b : Row)
     → OnPage img p holder a → OnPage img p holder₁ b → width a ≡ width b
 one-page img p holder holder₁ a b same x y =
     let e : base b ≡ base a = sym (y .first) ∙ x .first in
-    let z : 4096 * p + base b ≡ 4096 * p + base a = ap (λ (n : ℕ). 4096 * p + n) e in
+    let z : pageSize * p + base b ≡ pageSize * p + base a = ap (λ (n : ℕ). pageSize * p + n) e in
     let s : recordSize a ≡ recordSize b = sym (x .used) ∙ y .used in
-    same p p (4096 * p + base a) (x .here) (subst (λ (n : ℕ). Here img p n b) z (y .here)) (omega arith)
+    same p p (pageSize * p + base a) (x .here) (subst (λ (n : ℕ). Here img p n b) z (y .here)) (omega arith)
 
 -- Two rows that stand at one byte with one size show as many nodes.
 same-width : (img : List ℕ) (page page₁ pos : ℕ) (a b : Row) → Here img page pos a → Here img page₁ pos b → size a ≡ size b → width a ≡ width b
@@ -98,7 +99,7 @@ told-at img c page pos (lit h b rest) x t q k =
 told-at img c page pos (rec p s r rest) x t q k =
     let v = rec-view img page pos p s r rest x in
     go v (eqb q p) refl k
-    (told-at img c p (4096 * p + base r) r (v .under .here) (t .1) q)
+    (told-at img c p (pageSize * p + base r) r (v .under .here) (t .1) q)
     (told-at img c page (pos + 8) rest (v .after) (t .2) q)
   where
     Found : Type 0
@@ -127,5 +128,5 @@ widths img c st root x t = record { told = told }
             let w = subst (λ (n : ℕ). OnPage img n holder r) z o in
             absurd (omega (arith, w .back, root-page img st root x .back))
         go false e n =
-            let f = told-at img c 1 4096 root (root-here img st root x) t p (omega arith) in
+            let f = told-at img c 1 pageSize root (root-here img st root x) t p (omega arith) in
             f .3 ∙ page-width img p (f .0) holder (f .1) r (f .2) o

@@ -8,6 +8,7 @@ use Prim.Native.Nat.{ℕ, _+_}
 use native.Mathlib.Omega.{arith}
 use borrow.Author.Tests.{leb-false}
 use lib.Dec.{leb}
+use Rattle.model.specs.Limits.{capacity}
 use Rattle.model.specs.Row.{Row, rec, lone, base, recordSize, Config}
 use Rattle.model.specs.Tree.{placeAt}
 use Rattle.model.specs.Growth.{Work, Out, onRow, separator, counted, freed, kept, close}
@@ -25,14 +26,14 @@ module _ (st : Config) where
   pub kept-inner : (x : Place) (q : ℕ) (o : Out) (i : ℕ) (p : List ℕ) → Inner x (o .0) i p → Inner x (kept st q o .0) i p
   unfolding kept
   kept-inner x q o i p z =
-      cond-case (λ (y : Out). Inner x (y .0) i p) (leb (recordSize (o .0)) 4080) (λ _. z) (λ _. separator-inner st q x (o .0) (counted st (o .0) (o .1)) i p z)
+      cond-case (λ (y : Out). Inner x (y .0) i p) (leb (recordSize (o .0)) capacity) (λ _. z) (λ _. separator-inner st q x (o .0) (counted st (o .0) (o .1)) i p z)
 
   pub close-inner : (x : Place) (q : ℕ) (b : Bool) (rest : Row) (o : Out) (i : ℕ) (p : List ℕ) → Inner x (o .0) i p → Inner x (close st q b rest o .0) i p
   unfolding close
   close-inner x q true rest o i p z = inner-rec x q true (kept st q o .0) rest i p (kept-inner x q o i p z)
   close-inner x q false rest o i p z =
       let w = freed st q (counted st (o .0) (o .1)) in
-      cond-case (λ (y : Out). Inner x (y .0) i p) (leb (recordSize (o .0)) 4080)
+      cond-case (λ (y : Out). Inner x (y .0) i p) (leb (recordSize (o .0)) capacity)
       (λ _. inner-rec x q false (o .0) rest i p z)
       (λ _. inner-left x (separator st q (o .0) w .0) rest i p (separator-inner st q x (o .0) w i p z))
 
@@ -54,25 +55,25 @@ module _ (st : Config) where
   abbrev pub grownPlace : Chain → (r : Row) → Work → (off : ℕ) → Place
   grownPlace c r w off =
       let stays : Place = record { page = lastPage c; offset = base r + off } in
-      cond (leb (recordSize r) 4080) stays (movedRecord st (lastPage c) r (begun c r w) (base r + off))
+      cond (leb (recordSize r) capacity) stays (movedRecord st (lastPage c) r (begun c r w) (base r + off))
 
   close-bare : (c : Chain) (s : Spot) (q : ℕ) (b : Bool) (rest r : Row) (w : Work) (off i : ℕ) (p : List ℕ) → Fits r → Bare r off i p
       → Inner (grownPlace (below c s q b rest) r w off) (close st q b rest (r, w) .0) i p
   unfolding close kept
-  close-bare c s q true rest r w off i p f z = go (leb (recordSize r) 4080) refl
+  close-bare c s q true rest r w off i p f z = go (leb (recordSize r) capacity) refl
     where
-      go : (t : Bool) → leb (recordSize r) 4080 ≡ t
+      go : (t : Bool) → leb (recordSize r) capacity ≡ t
           → Inner (cond t (record { page = q; offset = base r + off }) (movedRecord st q r (counted st r w) (base r + off)))
           (rec q true (cond t (r, w) (separator st q r (counted st r w)) .0) rest) i p
       go true e = inl (bare-width r off i p z .0, bare-place r off i p z q (base r))
       go false e =
           let u = counted st r w in
-          inner-rec (movedRecord st q r u (base r + off)) q true (separator st q r u .0) rest i p (separator-bare st q r u off i p (leb-false (recordSize r) 4080 e) f z)
+          inner-rec (movedRecord st q r u (base r + off)) q true (separator st q r u .0) rest i p (separator-bare st q r u off i p (leb-false (recordSize r) capacity e) f z)
   close-bare c s q false rest r w off i p f z =
       let u = freed st q (counted st r w) in
-      both-case (λ (y : Out) (x : Place). Inner x (y .0) i p) (leb (recordSize r) 4080)
+      both-case (λ (y : Out) (x : Place). Inner x (y .0) i p) (leb (recordSize r) capacity)
       (λ _. inl (bare-width r off i p z .0, bare-place r off i p z q (base r)))
-      (λ e. inner-left (movedRecord st q r u (base r + off)) (separator st q r u .0) rest i p (separator-bare st q r u off i p (leb-false (recordSize r) 4080 e) f z))
+      (λ e. inner-left (movedRecord st q r u (base r + off)) (separator st q r u .0) rest i p (separator-bare st q r u off i p (leb-false (recordSize r) capacity e) f z))
 
   root-grown : (r : Row) (w : Work) (off i : ℕ) (p : List ℕ) → lone r ≡ true → Fits r → Bare r off i p
       → placeAt 1 0 i p (kept st 1 (r, w) .0) ≡ some (grownPlace top r w off)
@@ -81,9 +82,9 @@ module _ (st : Config) where
       let u = counted st r w in
       let e : base r ≡ 0 = ap (λ (b : Bool). cond b 0 6) l in
       let n : 0 + off ≡ base r + off = omega arith in
-      both-case (λ (y : Out) (x : Place). placeAt 1 0 i p (y .0) ≡ some x) (leb (recordSize r) 4080)
+      both-case (λ (y : Out) (x : Place). placeAt 1 0 i p (y .0) ≡ some x) (leb (recordSize r) capacity)
       (λ _. bare-place r off i p z 1 0 ∙ ap (λ (m : ℕ). some (record { page = 1; offset = m })) n)
-      (λ e. inner-place (movedRecord st 1 r u (base r + off)) (separator st 1 r u .0) i p (separator-bare st 1 r u off i p (leb-false (recordSize r) 4080 e) f z) 1 0)
+      (λ e. inner-place (movedRecord st 1 r u (base r + off)) (separator st 1 r u .0) i p (separator-bare st 1 r u off i p (leb-false (recordSize r) capacity e) f z) 1 0)
 
   -- A root record has no helper.
   abbrev pub Rooted : Chain → Row → Type 0

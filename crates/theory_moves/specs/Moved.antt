@@ -9,6 +9,7 @@ use native.Mathlib.Omega.{arith}
 use borrow.Author.Tests.{lt-ltb, le-ltb}
 use lib.ListN.{length}
 use lib.Dec.{ltb}
+use Rattle.model.specs.Limits.{capacity}
 use Rattle.model.specs.Row.{Head, Row, nil, agg, lit, rec, _⊹_, size, isNil, lone, loneRec, base, recordSize, Config}
 use Rattle.model.specs.Tree.{width}
 use Rattle.model.specs.Growth.{Work, Out, freeFrom, group, twoGroups, separate, goOn, stops, rootRow, withRow, splitPoint, separator}
@@ -205,7 +206,7 @@ module _ (st : Config) (near : ℕ) where
   movedRecord r w off = moved st near (splitPoint st (recordSize r)) 6 6 nil (rootRow st (lone r) r) w off
 
   -- A node without children in a record of one node that is too large is under that node.
-  lone-bare : (r : Row) (off i : ℕ) (q : List ℕ) → lone r ≡ true → 4080 < size r → Fits r → Bare r off i q
+  lone-bare : (r : Row) (off i : ℕ) (q : List ℕ) → lone r ≡ true → capacity < size r → Fits r → Bare r off i q
       → (new : Row) (x : Place) → ((o i : ℕ) (q : List ℕ) → off ≡ 6 + o → Bare (rootRow st true r) o i q → Inner x new i q) → Inner x (withRow st true r new) i q
   lone-bare nil off i q l m f z new x k = absurd z
   lone-bare (agg h cs rest) off zero [] l m f z new x k = absurd (omega (arith, ap size (isNil-nil rest l), ap size (isNil-nil cs (z .1))))
@@ -214,12 +215,12 @@ module _ (st : Config) (near : ℕ) where
   lone-bare (lit h c rest) off i q l m f z new x k = absurd (omega (arith, ap size (isNil-nil rest l), f .1))
   lone-bare (rec n s r rest) off i q l m f z new x k = absurd (false≢true l)
 
-  pub separator-bare : (r : Row) (w : Work) (off i : ℕ) (q : List ℕ) → 4080 < recordSize r → Fits r → Bare r off i q
+  pub separator-bare : (r : Row) (w : Work) (off i : ℕ) (q : List ℕ) → capacity < recordSize r → Fits r → Bare r off i q
       → Inner (movedRecord r w (base r + off)) (separator st near r w .0) i q
   unfolding separator
   separator-bare r w off i q m f z = go (lone r) refl m
     where
-      go : (b : Bool) → lone r ≡ b → 4080 < cond b 0 6 + size r
+      go : (b : Bool) → lone r ≡ b → capacity < cond b 0 6 + size r
           → Inner (moved st near (splitPoint st (recordSize r)) 6 6 nil (rootRow st b r) w (cond b 0 6 + off))
           (withRow st b r (separate st near (splitPoint st (recordSize r)) 6 nil (rootRow st b r) w .0)) i q
       go true l m =

@@ -7,7 +7,9 @@ use native.Mathlib.Omega.{arith}
 use borrow.Author.Tests.{eqb-true, le-leb}
 use lib.ListN.{length, replicate}
 use lib.Dec.{eqb, leb}
-use Rattle.model.specs.Row.{Row, nil, agg, lit, rec, store, _⊹_, size, isNil, lone, recordSize, header, bytes, two, trailer, recordPage, count, outside, Config}
+use Rattle.model.specs.Limits.{capacity}
+use Rattle.model.specs.Row.{Row, nil, agg, lit, rec, store, _⊹_, size, isNil, lone, recordSize, header, bytes, two, trailer, recordPage, count}
+use Rattle.model.specs.Row.{Config, noHead, recordOn}
 use Rattle.model.specs.Growth.{Out, onRow, separator, counted, freed, kept, close}
 use Rattle.theory_rows.specs.Fits.{Fits}
 use Rattle.theory_rows.specs.Image.{Stored}
@@ -64,13 +66,13 @@ alike-⊹ : (a x y : Row) → Alike x y → Alike (a ⊹ x) (a ⊹ y)
 alike-⊹ nil x y k = k
 alike-⊹ (agg h cs rest) x y k =
     let z = alike-⊹ rest x y k in
-    record { none = refl; root = z .none; long = ap (λ n. 6 + size cs + n) (z .long); same = ap (λ (l : List ℕ). header 1 (h .label) (6 + size cs) ++ bytes cs ++ l) (z .same) }
+    record { none = refl; root = z .none; long = ap (λ n. 6 + size cs + n) (z .long); same = ap (λ (l : List ℕ). header 1 h (6 + size cs) ++ bytes cs ++ l) (z .same) }
 alike-⊹ (lit h c rest) x y k =
     let z = alike-⊹ rest x y k in
-    record { none = refl; root = z .none; long = ap (λ n. 6 + length c + n) (z .long); same = ap (λ (l : List ℕ). header 2 (h .label) (6 + length c) ++ c ++ l) (z .same) }
+    record { none = refl; root = z .none; long = ap (λ n. 6 + length c + n) (z .long); same = ap (λ (l : List ℕ). header 2 h (6 + length c) ++ c ++ l) (z .same) }
 alike-⊹ (rec p s r rest) x y k =
     let z = alike-⊹ rest x y k in
-    record { none = refl; root = refl; long = ap (λ n. 8 + n) (z .long); same = ap (λ (l : List ℕ). header 3 0 8 ++ two p ++ l) (z .same) }
+    record { none = refl; root = refl; long = ap (λ n. 8 + n) (z .long); same = ap (λ (l : List ℕ). header 3 noHead 8 ++ two p ++ l) (z .same) }
 
 alike-fill : (s : Spot) (x y : Row) → Alike x y → Alike (fill s x) (fill s y)
 alike-fill (here left) x y k = alike-⊹ left x y k
@@ -80,7 +82,7 @@ alike-fill (inside left h rest s) x y k =
       none = refl;
       root = refl;
       long = ap (λ n. 6 + n + size rest) (z .long);
-      same = ap₂ (λ (n : ℕ) (l : List ℕ). header 1 (h .label) (6 + n) ++ l ++ bytes rest) (z .long) (z .same);
+      same = ap₂ (λ (n : ℕ) (l : List ℕ). header 1 h (6 + n) ++ l ++ bytes rest) (z .long) (z .same);
     })
 
 -- A proxy's bytes do not tell what it stands for.
@@ -91,13 +93,13 @@ pub proxy-size : (s : Spot) (q : ℕ) (b : Bool) (x y rest : Row) → recordSize
 proxy-size s q b x y rest = let z = alike-proxy s q b x y rest in ap₂ (λ (l : Bool) (n : ℕ). cond l 0 6 + n) (z .root) (z .long)
 
 pub proxy-page : (p : ℕ) (t : Bool) (h : ℕ) (s : Spot) (q : ℕ) (b : Bool) (x y rest : Row)
-    → recordPage (record { page = p; settled = t; holder = h; row = fill s (rec q b x rest) }) ≡ recordPage (record { page = p; settled = t; holder = h; row = fill s (rec q b y rest) })
+    → recordPage (recordOn p t h (fill s (rec q b x rest))) ≡ recordPage (recordOn p t h (fill s (rec q b y rest)))
 proxy-page p t h s q b x y rest =
     let z = alike-proxy s q b x y rest in
     λ i. page (z .root i) (z .long i) (z .same i)
   where
     page : Bool → ℕ → List ℕ → List ℕ
-    page l n bs = cond l bs (header 4 0 (6 + n) ++ bs) ++ replicate (4080 - (cond l 0 6 + n)) 0 ++ trailer 1 (cond t 1 0) (cond l 0 6 + n) h
+    page l n bs = cond l bs (header 4 noHead (6 + n) ++ bs) ++ replicate (capacity - (cond l 0 6 + n)) 0 ++ trailer 1 (cond t 1 0) (cond l 0 6 + n) h
 
 -- ── around the last record of a chain ──
 
@@ -106,12 +108,12 @@ abbrev pub Around : Mem → Chain → Row → Type 0
 Around m top r = Unit {0}
 Around m (below c s q b rest) r =
     Stored m (lastPage c) (fill s rest)
-    × (m (lastPage c) ≡ recordPage (record { page = lastPage c; settled = lastSettled c; holder = lastHolder c; row = fill s (rec q b r rest) }))
+    × (m (lastPage c) ≡ recordPage (recordOn (lastPage c) (lastSettled c) (lastHolder c) (fill s (rec q b r rest))))
     × Around m c (fill s (rec q b r rest))
 
 -- The whole store, if the last record stands with another row.
 pub assemble : (m : Mem) (c : Chain) (old r : Row) → Around m c old
-    → m (lastPage c) ≡ recordPage (record { page = lastPage c; settled = lastSettled c; holder = lastHolder c; row = r })
+    → m (lastPage c) ≡ recordPage (recordOn (lastPage c) (lastSettled c) (lastHolder c) r)
     → Stored m (lastPage c) r → Stored m 0 (store (whole c r))
 assemble m top old r a e k = (e, k, tt)
 assemble m (below c s q b rest) old r a e k =
@@ -120,7 +122,7 @@ assemble m (below c s q b rest) old r a e k =
     (stored-fill m (lastPage c) s (rec q b r nil) rest (a .0) (e, k, tt))
 
 pub disassemble : (m : Mem) (c : Chain) (r : Row) → Stored m 0 (store (whole c r))
-    → Around m c r × (m (lastPage c) ≡ recordPage (record { page = lastPage c; settled = lastSettled c; holder = lastHolder c; row = r })) × Stored m (lastPage c) r
+    → Around m c r × (m (lastPage c) ≡ recordPage (recordOn (lastPage c) (lastSettled c) (lastHolder c) r)) × Stored m (lastPage c) r
 disassemble m top r k = (tt, k .0, k .1)
 disassemble m (below c s q b rest) r k =
     let z = disassemble m c (fill s (rec q b r rest)) k in
@@ -131,10 +133,10 @@ disassemble m (below c s q b rest) r k =
 
 -- Every record of the chain fits.
 abbrev pub Low : Chain → Row → Type 0
-Low top r = recordSize r ≤ 4080
-Low (below c s q b rest) r = (recordSize r ≤ 4080) × Low c (fill s (rec q b r rest))
+Low top r = recordSize r ≤ capacity
+Low (below c s q b rest) r = (recordSize r ≤ capacity) × Low c (fill s (rec q b r rest))
 
-low-here : (c : Chain) (r : Row) → Low c r → recordSize r ≤ 4080
+low-here : (c : Chain) (r : Row) → Low c r → recordSize r ≤ capacity
 low-here top r k = k
 low-here (below c s q b rest) r k = k .0
 
@@ -183,22 +185,22 @@ module _ (st : Config) where
 
   -- ── growth stops ──
 
-  kept-low : (q : ℕ) (o : Out) → recordSize (o .0) ≤ 4080 → kept st q o ≡ o
+  kept-low : (q : ℕ) (o : Out) → recordSize (o .0) ≤ capacity → kept st q o ≡ o
   unfolding kept
-  kept-low q o z = rw (le-leb (recordSize (o .0)) 4080 z)
+  kept-low q o z = rw (le-leb (recordSize (o .0)) capacity z)
 
-  close-low : (q : ℕ) (b : Bool) (rest : Row) (o : Out) → recordSize (o .0) ≤ 4080 → close st q b rest o ≡ onRow (λ r. rec q b r rest) o
+  close-low : (q : ℕ) (b : Bool) (rest : Row) (o : Out) → recordSize (o .0) ≤ capacity → close st q b rest o ≡ onRow (λ r. rec q b r rest) o
   unfolding close
   close-low q true rest o z = ap (onRow (λ r. rec q true r rest)) (kept-low q o z)
-  close-low q false rest o z = rw (le-leb (recordSize (o .0)) 4080 z)
+  close-low q false rest o z = rw (le-leb (recordSize (o .0)) capacity z)
 
-  close-stays : (q : ℕ) (b : Bool) (rest : Row) (o : Out) → b || leb (recordSize (o .0)) 4080 ≡ true → close st q b rest o ≡ onRow (λ r. rec q b r rest) (kept st q o)
+  close-stays : (q : ℕ) (b : Bool) (rest : Row) (o : Out) → b || leb (recordSize (o .0)) capacity ≡ true → close st q b rest o ≡ onRow (λ r. rec q b r rest) (kept st q o)
   unfolding close kept
   close-stays q true rest o e = refl
   close-stays q false rest o e = rw e
 
   -- Growth changes no record above one that fits.
-  pub rise-low : (c : Chain) (old : Row) (o : Out) → Low c old → recordSize (o .0) ≤ 4080 → rise st c o ≡ onRow (whole c) o
+  pub rise-low : (c : Chain) (old : Row) (o : Out) → Low c old → recordSize (o .0) ≤ capacity → rise st c o ≡ onRow (whole c) o
   unfolding rise
   rise-low top old o k z = kept-low 1 o z
   rise-low (below c s q b rest) old o k z =
@@ -207,7 +209,7 @@ module _ (st : Config) where
       ∙ rise-low c up (fill s (rec q b (o .0) rest), o .1) (k .1) (omega (arith, proxy-size s q b (o .0) old rest, low-here c up (k .1)))
 
   -- Nor above one that stays on its page because it is settled.
-  pub rise-stays : (c : Chain) (s : Spot) (q : ℕ) (b : Bool) (rest old : Row) (o : Out) → b || leb (recordSize (o .0)) 4080 ≡ true → Low (below c s q b rest) old
+  pub rise-stays : (c : Chain) (s : Spot) (q : ℕ) (b : Bool) (rest old : Row) (o : Out) → b || leb (recordSize (o .0)) capacity ≡ true → Low (below c s q b rest) old
       → rise st (below c s q b rest) o ≡ onRow (whole (below c s q b rest)) (kept st q o)
   unfolding rise
   rise-stays c s q b rest old o e k =
@@ -217,7 +219,7 @@ module _ (st : Config) where
       ∙ rise-low c up (fill s (rec q b (u .0) rest), u .1) (k .1) (omega (arith, proxy-size s q b (u .0) old rest, low-here c up (k .1)))
 
   -- An unsettled record that is too large goes on.
-  pub rise-goes : (c : Chain) (s : Spot) (q : ℕ) (rest : Row) (o : Out) → leb (recordSize (o .0)) 4080 ≡ false
+  pub rise-goes : (c : Chain) (s : Spot) (q : ℕ) (rest : Row) (o : Out) → leb (recordSize (o .0)) capacity ≡ false
       → rise st (below c s q false rest) o ≡ rise st c (onRow (λ r. fill s (r ⊹ rest)) (separator st q (o .0) (freed st q (counted st (o .0) (o .1)))))
   unfolding rise close
   rise-goes c s q rest o e = rw e

@@ -3,6 +3,7 @@ use mathlib.Core.Bool.{Bool, true, false, cond, _||_}
 use Prim.Native.Nat.{ℕ, _+_}
 use lib.ListN.{length}
 use lib.Dec.{leb}
+use Rattle.model.specs.Limits.{capacity}
 use Rattle.model.specs.Row.{Row, nil, agg, lit, rec, _⊹_, size, isNil, lone, loneRec, recordSize, Config}
 use Rattle.model.specs.Growth.{Work, Out, onRow, ownRecord, group, twoGroups, separate, goOn, stops, rootRow, withRow, splitPoint, separator, counted, freed, kept, close}
 use Rattle.theory_rows.specs.Bound.{fits-parts}
@@ -84,7 +85,7 @@ module _ (st : Config) where
 
   fits-kept : (q : ℕ) (o : Out) → Fits (kept st q o .0) → Fits (o .0)
   unfolding kept
-  fits-kept q o = either (Fits (o .0)) (leb (recordSize (o .0)) 4080) o (separator st q (o .0) (counted st (o .0) (o .1))) (λ f. f) (λ f. fits-separator q (o .0) (counted st (o .0) (o .1)) f)
+  fits-kept q o = either (Fits (o .0)) (leb (recordSize (o .0)) capacity) o (separator st q (o .0) (counted st (o .0) (o .1))) (λ f. f) (λ f. fits-separator q (o .0) (counted st (o .0) (o .1)) f)
 
   fits-close : (q : ℕ) (b : Bool) (rest : Row) (o : Out) → Fits (close st q b rest o .0) → Fits (o .0)
   unfolding close
@@ -92,7 +93,7 @@ module _ (st : Config) where
   fits-close q false rest o f =
       let w = freed st q (counted st (o .0) (o .1)) in
       let sep = separator st q (o .0) w in
-      either (Fits (o .0)) (leb (recordSize (o .0)) 4080) (onRow (λ r. rec q false r rest) o) (onRow (λ r. r ⊹ rest) sep)
+      either (Fits (o .0)) (leb (recordSize (o .0)) capacity) (onRow (λ r. rec q false r rest) o) (onRow (λ r. r ⊹ rest) sep)
       (λ f. f .1) (λ f. fits-separator q (o .0) w (fits-parts (sep .0) rest f .0)) f
 
   -- Growth from the last record of a chain upwards.

@@ -9,6 +9,7 @@ use borrow.Author.Tests.{ne-eqb, eq-eqb, leb-false, ltb-false, lt-leb}
 use lib.ListN.{length}
 use lib.Seq.{take-at}
 use lib.Dec.{eqb, leb, ltb}
+use Rattle.model.specs.Limits.{pageSize}
 use Rattle.model.specs.Row.{Row, nil, agg, lit, rec, store, count, outside, Held, records, settingsPage, pageAt, pagesFrom, image, Config}
 use Rattle.model.specs.Reading.{pageOf}
 use Rattle.model.specs.Tree.{New}
@@ -55,7 +56,7 @@ module _ (st : Config) (root : Row) (v : Valid st root) where
 
   pub before-settings : before 0 ≡ settingsPage st
   unfolding image
-  before-settings = take-at (settingsPage st) (pagesFrom (records 0 (store root)) (st .pages - 1) 1) 4096 (length-settings st (v .ranges .entries))
+  before-settings = take-at (settingsPage st) (pagesFrom (records 0 (store root)) (st .pages - 1) 1) pageSize (length-settings st (v .ranges .entries))
 
 -- ── the image after growth ──
 
@@ -82,7 +83,7 @@ module _ (st : Config) (x : New) (fits : NewFits x) (root : Row) (v : Valid st r
   new = grow st root path k x
 
   -- Bytes with these pages are the image of the new store, if no page was taken where none was free.
-  pub insert-image : (img : List ℕ) → length img ≡ 4096 * st .pages → pageOf img ≡ after → new .1 .full ≡ false → img ≡ image st (new .0)
+  pub insert-image : (img : List ℕ) → length img ≡ pageSize * st .pages → pageOf img ≡ after → new .1 .full ≡ false → img ≡ image st (new .0)
   insert-image img long same full =
       let g = grow-rises st x root path k t e in
       let ok = valid-grow st x fits root path k v short full in

@@ -5,7 +5,8 @@ use mathlib.Core.List.{List}
 use Prim.Native.Nat.{ℕ, _+_, _<_}
 use native.Mathlib.Omega.{arith}
 use lib.Dec.{eqb, leb}
-use Rattle.model.specs.Row.{Head, Row, nil, agg, lit, rec, store, _⊹_, recordSize, recordPage, count, outside, Config}
+use Rattle.model.specs.Limits.{capacity}
+use Rattle.model.specs.Row.{Head, Row, nil, agg, lit, rec, store, _⊹_, recordSize, recordPage, count, Config}
 use Rattle.model.specs.Tree.{New}
 use Rattle.model.specs.Growth.{Work, Out, mark, freeFrom, taken, separator, counted, freed, kept, apart, place, atRest}
 use Rattle.theory_rows.specs.Bound.{fits-parts}
@@ -70,7 +71,7 @@ module _ (st : Config) (first : List ℕ) where
   kept-done : (c : Chain) (old r : Row) (w : Work) (m : Mem) → (w .full ≡ false → Ready c old r w m)
       → DoneBy c (kept st (lastPage c) (r, w)) (keptMem st (lastPage c) (lastSettled c) (lastHolder c) r w m)
   unfolding kept keptMem
-  kept-done c old r w m ready = go (leb (recordSize r) 4080)
+  kept-done c old r w m ready = go (leb (recordSize r) capacity)
     where
       q : ℕ
       q = lastPage c
@@ -139,7 +140,7 @@ module _ (st : Config) (first : List ℕ) where
       let u = kept st q (r, w) in
       subst (λ (o : Out). Done (o .0) (o .1) (keptMem st q true (lastPage c) r w m)) (sym e)
       (kept-done c′ old r w m ready (fits-whole c′ (u .0) (subst (λ (o : Out). Fits (o .0)) e f)) (subst (λ (o : Out). o .1 .full ≡ false) e full))
-  rise-done (below c s q false rest) old r w m low ready f full = go (leb (recordSize r) 4080) refl (rise-done c)
+  rise-done (below c s q false rest) old r w m low ready f full = go (leb (recordSize r) capacity) refl (rise-done c)
     where
       c′ : Chain
       c′ = below c s q false rest
@@ -150,7 +151,7 @@ module _ (st : Config) (first : List ℕ) where
       up : Row
       up = fill s (sep .row ⊹ rest)
 
-      go : (b : Bool) → leb (recordSize r) 4080 ≡ b
+      go : (b : Bool) → leb (recordSize r) capacity ≡ b
           → ((old r : Row) (w : Work) (m : Mem) → Low c old → (w .full ≡ false → Ready c old r w m)
           → Fits (rise st c (r, w) .0) → rise st c (r, w) .1 .full ≡ false → Done (rise st c (r, w) .0) (rise st c (r, w) .1) (riseMem st c r w m))
           → Done (rise st c′ (r, w) .0) (rise st c′ (r, w) .1) (cond b (keptMem st q false (lastPage c) r w m) (riseMem st c up (sep .work) (sep .mem)))

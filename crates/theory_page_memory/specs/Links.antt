@@ -8,7 +8,8 @@ use borrow.Author.Tests.{eq-eqb}
 use lib.ListN.{length, drop, replicate, length-append, length-replicate}
 use lib.Seq.{take-at, drop-at}
 use lib.Dec.{eqb}
-use Rattle.model.specs.Row.{Row, nil, agg, lit, rec, _⊹_, recordSize, recordBytes, two, recordPage, count}
+use Rattle.model.specs.Limits.{capacity}
+use Rattle.model.specs.Row.{Row, nil, agg, lit, rec, _⊹_, recordSize, recordBytes, two, recordPage, count, recordOn}
 use Rattle.theory_rows.specs.Fits.{Fits}
 use Rattle.theory_rows.specs.Image.{Stored, length-record}
 use Rattle.theory_rows.specs.Pages.{bit}
@@ -20,7 +21,7 @@ abbrev pub Loose : Mem → Row → Type 0
 Loose m nil = Unit {0}
 Loose m (agg l cs rest) = Loose m cs × Loose m rest
 Loose m (lit l c rest) = Loose m rest
-Loose m (rec p s r rest) = ((h : ℕ) × (m p ≡ recordPage (record { page = p; settled = s; holder = h; row = r }))) × Stored m p r × Loose m rest
+Loose m (rec p s r rest) = ((h : ℕ) × (m p ≡ recordPage (recordOn p s h r))) × Stored m p r × Loose m rest
 
 pub stored-loose : (m : Mem) (h : ℕ) (r : Row) → Stored m h r → Loose m r
 stored-loose m h nil k = tt
@@ -91,14 +92,14 @@ relink-parts a t z q e f =
     (ap (drop 4086) (sym (append-assoc a t z)) ∙ drop-at (a ++ t) z 4086 g)
 
 -- A record's page with another holder.
-pub relink-page : (p : ℕ) (s : Bool) (h q : ℕ) (r : Row) → recordSize r ≤ 4080
-    → relink q (recordPage (record { page = p; settled = s; holder = h; row = r })) ≡ recordPage (record { page = p; settled = s; holder = q; row = r })
+pub relink-page : (p : ℕ) (s : Bool) (h q : ℕ) (r : Row) → recordSize r ≤ capacity
+    → relink q (recordPage (recordOn p s h r)) ≡ recordPage (recordOn p s q r)
 relink-page p s h q r f =
-    let z : List ℕ = replicate (4080 - recordSize r) 0 in
+    let z : List ℕ = replicate (capacity - recordSize r) 0 in
     let t : List ℕ = 1 ∷ cond s 1 0 ∷ two (recordSize r) in
     let a : List ℕ = recordBytes r ++ (z ++ t) in
     let n : length a ≡ 4084 = simp (length-append, length-replicate, length-record) (omega arith) in
-    let e : (x : ℕ) → recordPage (record { page = p; settled = s; holder = x; row = r }) ≡ a ++ (two x ++ replicate 10 0) = λ x. simp append-assoc in
+    let e : (x : ℕ) → recordPage (recordOn p s x r) ≡ a ++ (two x ++ replicate 10 0) = λ x. simp append-assoc (append-assoc (recordBytes r) z _) in
     ap (relink q) (e h) ∙ relink-parts a (two h) (replicate 10 0) q n refl ∙ sym (e q)
 
 pub link-other : (q : ℕ) (r : Row) (m : Mem) (p : ℕ) → count p r ≡ 0 → linkMem q r m p ≡ m p
@@ -131,7 +132,7 @@ link-stored q (rec p s r rest) m d f k =
 
 module _ (q : ℕ) (s : Bool) (h : ℕ) (r : Row) (m : Mem) where
   abbrev page : List ℕ
-  page = recordPage (record { page = q; settled = s; holder = h; row = r })
+  page = recordPage (recordOn q s h r)
 
   pub put-other : (p : ℕ) → bit (eqb p q) + count p r ≡ 0 → putMem q s h r m p ≡ m p
   put-other p e = link-other q r (setMem q page m) p (omega arith) ∙ set-other q p page m (omega arith)

@@ -6,7 +6,7 @@ use lib.ListN.{length, take, drop, replicate}
 use lib.Dec.{leb, eqb}
 use Rattle.model.specs.Limits.{pageSize, capacity}
 use Rattle.model.specs.Tree.{New}
-use Rattle.model.specs.Row.{Head, Row, nil, agg, lit, rec, _⊹_, size, isNil, lone, loneRec, recordSize, two, recordPage, Config}
+use Rattle.model.specs.Row.{Head, Row, nil, agg, lit, rec, _⊹_, size, isNil, lone, loneRec, recordSize, two, recordPage, Config, recordOn}
 use Rattle.model.specs.Growth.{Work, freeFrom, group, twoGroups, separate, goOn, stops, splitPoint, rootRow, separator, counted, freed, apart, asRow}
 use Rattle.theory_insert_point.specs.Chain.{fill, Chain, top, below, lastPage}
 
@@ -36,7 +36,7 @@ linkMem q (rec p s r rest) m = linkMem q rest (setMem p (relink q (m p)) m)
 
 -- A record written on page q, and the back links of the records that it holds.
 abbrev pub putMem : (q : ℕ) → (settled : Bool) → (holder : ℕ) → Row → Mem → Mem
-putMem q s h r m = linkMem q r (setMem q (recordPage (record { page = q; settled = s; holder = h; row = r })) m)
+putMem q s h r m = linkMem q r (setMem q (recordPage (recordOn q s h r)) m)
 
 -- ── the split ──
 

@@ -8,6 +8,7 @@ use native.Mathlib.Omega.{arith}
 use borrow.Author.Tests.{leb-false, eq-eqb}
 use lib.ListN.{length}
 use lib.Dec.{leb, ltb}
+use Rattle.model.specs.Limits.{capacity}
 use Rattle.model.specs.Row.{Row, nil, agg, lit, rec, size, base, count, outside, Config}
 use Rattle.model.specs.Tree.{width, placeAt, placeOf}
 use Rattle.model.specs.declared.Place.{Place}
@@ -18,7 +19,7 @@ use Rattle.theory_rows.specs.Laws.{cond-case}
 pub record Inside (st : Config) (x : Place) : Type 0 where
   pub low : 1 ≤ x .page
   pub high : x .page < st .pages
-  pub fits : x .offset + 6 ≤ 4080
+  pub fits : x .offset + 6 ≤ capacity
 
 -- a page that a proxy names
 pub named-page : (pages p n : ℕ) → 1 + n ≤ cond (outside pages p) 0 1 → (1 ≤ p) × (p < pages)
@@ -30,10 +31,10 @@ named-page pages p n h = go (leb p 1) (leb pages p) refl refl h
     go false false d e h = omega (arith, leb-false)
 
 module _ (st : Config) (x : Place) where
-  here : (page at : ℕ) → 1 ≤ page → page < st .pages → at + 6 ≤ 4080 → some (record { page = page; offset = at }) ≡ some x → Inside st x
+  here : (page at : ℕ) → 1 ≤ page → page < st .pages → at + 6 ≤ capacity → some (record { page = page; offset = at }) ≡ some x → Inside st x
   here page at low high f e = subst (Inside st) (Option·some-injective (record { page = page; offset = at }) x e) (record { low = low; high = high; fits = f })
 
-  inside-at : (page at i : ℕ) (path : List ℕ) (row : Row) → 1 ≤ page → page < st .pages → at + size row ≤ 4080 → Fits row → Placed (st .pages) row
+  inside-at : (page at i : ℕ) (path : List ℕ) (row : Row) → 1 ≤ page → page < st .pages → at + size row ≤ capacity → Fits row → Placed (st .pages) row
       → placeAt page at i path row ≡ some x → Inside st x
   unfolding placeAt
   inside-at page at i path nil low high n f d e = absurd (Option·none-ne-some x e)

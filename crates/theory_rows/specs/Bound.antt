@@ -1,6 +1,6 @@
 -- One split of a record suffices: what a split makes fits into pages, for every target and tolerance.
 use mathlib.Core.Path.{_≡_, refl, sym, ap, subst}
-use mathlib.Core.Bool.{Bool, true, false, cond, not, _||_, false≢true, true≢false}
+use mathlib.Core.Bool.{Bool, true, false, cond, _||_, false≢true, true≢false}
 use Prim.Native.Nat.{ℕ, _+_, _*_, _-_, _≤_, _<_, max}
 use native.Mathlib.Omega.{arith}
 use native.Mathlib.Nat.{mul-le-mul-right}
@@ -8,6 +8,7 @@ use borrow.Author.Tests.{ltb-true, ltb-false, leb-true, leb-false}
 use lib.ListN.{length}
 use lib.IntN.{subℕ}
 use lib.Dec.{ltb, T}
+use Rattle.model.specs.Limits.{capacity, mostContent, mostNode}
 use Rattle.model.specs.Row.{Row, nil, agg, lit, rec, _⊹_, size, isNil, lone, loneRec, base, recordSize, Config}
 use Rattle.theory_rows.specs.Fits.{Ranges, Fits, Shape, one, more}
 use Rattle.model.specs.Growth.{Work, Out, group, twoGroups, separate, goOn, stops, startOf, startOfD, rootRow, withRow, splitPoint, separator}
@@ -36,7 +37,7 @@ module _ (st : Config) (p at : ℕ) where
   goOn-false n (lit l c rest) e h = leb-false (at + n) p e
   goOn-false n (rec q s r rest) e h = leb-false (at + n) p e
 
-stops-true : (st : Config) (cs : Row) → st .tolerance ≤ 512 → stops st cs ≡ true → size cs ≤ 520
+stops-true : (st : Config) (cs : Row) → st .tolerance ≤ 512 → stops st cs ≡ true → size cs ≤ mostContent
 stops-true st nil h e = omega arith
 stops-true st (agg l cs rest) h e = omega (arith, ltb-true (6 + size (agg l cs rest)) (st .tolerance) e)
 stops-true st (lit l c rest) h e = omega (arith, ltb-true (6 + size (lit l c rest)) (st .tolerance) e)
@@ -58,23 +59,23 @@ depth (lit l c rest) = max 1 (depth rest)
 depth (rec p s r rest) = max 1 (depth rest)
 
 module _ (st : Config) (p : ℕ) (tol : st .tolerance ≤ 512) where
-  pub start-low : (at : ℕ) (row : Row) → Fits row → p < at + size row → p < startOf st p at row + 526
+  pub start-low : (at : ℕ) (row : Row) → Fits row → p < at + size row → p < startOf st p at row + mostNode
   unfolding startOf
   start-low at nil f h = omega arith
   start-low at (agg l cs rest) f h =
-      cond-case (λ d. p < d + 526) (goOn st p at (6 + size cs) rest)
+      cond-case (λ d. p < d + mostNode) (goOn st p at (6 + size cs) rest)
       (λ e. start-low (at + (6 + size cs)) rest (f .2) (omega arith))
       (λ e.
       let b = goOn-false st p at (6 + size cs) rest e (omega arith) in
-      cond-case (λ d. p < d + 526) (stops st cs)
+      cond-case (λ d. p < d + mostNode) (stops st cs)
       (λ g. omega (arith, stops-true st cs tol g))
       (λ g. start-low (at + 6) cs (f .1) (omega arith)))
   start-low at (lit l c rest) f h =
-      cond-case (λ d. p < d + 526) (goOn st p at (6 + length c) rest)
+      cond-case (λ d. p < d + mostNode) (goOn st p at (6 + length c) rest)
       (λ e. start-low (at + (6 + length c)) rest (f .3) (omega arith))
       (λ e. omega (arith, goOn-false st p at (6 + length c) rest e (omega arith), f .1))
   start-low at (rec q s r rest) f h =
-      cond-case (λ d. p < d + 526) (goOn st p at 8 rest)
+      cond-case (λ d. p < d + mostNode) (goOn st p at 8 rest)
       (λ e. start-low (at + 8) rest (f .2) (omega arith))
       (λ e. omega (arith, goOn-false st p at 8 rest e (omega arith)))
 
@@ -129,7 +130,7 @@ fits-parts (lit h c rest) b f = let z = fits-parts rest b (f .3) in ((f .0, f .1
 fits-parts (rec p s r rest) b f = let z = fits-parts rest b (f .2) in ((f .0, f .1, z .0), z .1)
 
 module _ (st : Config) (near : ℕ) where
-  pub group-fits : (g : Row) (w : Work) → Fits g → size g + 6 ≤ 4080 → Fits (group st near g w .0)
+  pub group-fits : (g : Row) (w : Work) → Fits g → size g + 6 ≤ capacity → Fits (group st near g w .0)
   unfolding group
   group-fits g w f h =
       cond-case (λ (o : Out). Fits (o .0)) (isNil g || loneRec g)
@@ -150,7 +151,7 @@ module _ (st : Config) (near : ℕ) where
   group-size g w = cond-case (λ (o : Out). size (o .0) ≤ 8) (isNil g || loneRec g) (λ e. lone-size g (subst T (sym e) tt)) (λ e. omega arith)
 
   module _ (p : ℕ) where
-    two-fits : (a b : Row) (w : Work) → Fits a → Fits b → size a + 6 ≤ 4080 → size b + 6 ≤ 4080 → Fits (twoGroups st near p a b w .0)
+    two-fits : (a b : Row) (w : Work) → Fits a → Fits b → size a + 6 ≤ capacity → size b + 6 ≤ capacity → Fits (twoGroups st near p a b w .0)
     unfolding twoGroups
     two-fits a b w f g h k = Fits-⊹ (group st near a w .0) (group st near b (group st near a w .1) .0) (group-fits a w f h) (group-fits b (group st near a w .1) g k)
 
@@ -216,7 +217,7 @@ module _ (st : Config) (near p : ℕ) where
       (λ e. two-some left (rec q s r rest) w refl)
 
 -- Every record that a split makes fits: S is the size of the record that is split.
-module _ (st : Config) (near p S : ℕ) (tol : st .tolerance ≤ 512) (left-room : p + 6 ≤ 4080) (right-room : S + 531 ≤ p + 4080) where
+module _ (st : Config) (near p S : ℕ) (tol : st .tolerance ≤ 512) (left-room : p + 6 ≤ capacity) (right-room : S + 531 ≤ p + capacity) where
   pub separate-fits : (at : ℕ) (left row : Row) (w : Work) → Fits left → Fits row
       → size left ≤ at → size left ≤ p → p < at + size row → at + size row ≤ S → Fits (separate st near p at left row w .0)
   unfolding separate
@@ -266,7 +267,7 @@ module _ (st : Config) (near p S : ℕ) (tol : st .tolerance ≤ 512) (left-room
 -- ── every target and tolerance ──
 
 -- what an oversize record's size says of the split point
-module _ (st : Config) (k : Ranges st) (S : ℕ) (over : 4080 < S) (most : S ≤ 4606) where
+module _ (st : Config) (k : Ranges st) (S : ℕ) (over : capacity < S) (most : S ≤ (capacity + mostNode)) where
   p-low : S ≤ 4 * splitPoint st S + 3
   p-low = omega (arith, mul-le-mul-right S (k .low))
 
@@ -291,7 +292,7 @@ not-nil (rec p s r rest) h = refl
 
 module _ (st : Config) (k : Ranges st) (near : ℕ) where
   -- the children of a root, which start at byte 6, in a record of S bytes
-  module _ (row : Row) (w : Work) (S : ℕ) (whole : 6 + size row ≡ S) (f : Fits row) (over : 4080 < S) (most : S ≤ 4606) (deep : depth row ≤ 23) where
+  module _ (row : Row) (w : Work) (S : ℕ) (whole : 6 + size row ≡ S) (f : Fits row) (over : capacity < S) (most : S ≤ (capacity + mostNode)) (deep : depth row ≤ 23) where
     row-fits : Fits (separate st near (splitPoint st S) 6 nil row w .0)
     row-fits =
         let lo = p-low st k S over most in
@@ -313,12 +314,12 @@ module _ (st : Config) (k : Ranges st) (near : ℕ) where
         (omega (arith, start-high st (splitPoint st S) (k .tol) 6 row (not-nil row (omega arith))))
         (omega (arith, start-low st (splitPoint st S) (k .tol) 6 row f (omega arith)))
 
-  pub split-good : (r : Row) (w : Work) → Fits r → 4080 < recordSize r → recordSize r ≤ 4606 → depth (rootRow st (lone r) r) ≤ 23
+  pub split-good : (r : Row) (w : Work) → Fits r → capacity < recordSize r → recordSize r ≤ (capacity + mostNode) → depth (rootRow st (lone r) r) ≤ 23
       → SplitGood (separator st near r w .0) (splitPoint st (recordSize r)) (startOfD st r)
   unfolding separator
   split-good r w f = go (lone r) r refl f
     where
-      go : (b : Bool) (r : Row) → lone r ≡ b → Fits r → 4080 < cond b 0 6 + size r → cond b 0 6 + size r ≤ 4606 → depth (rootRow st b r) ≤ 23
+      go : (b : Bool) (r : Row) → lone r ≡ b → Fits r → capacity < cond b 0 6 + size r → cond b 0 6 + size r ≤ (capacity + mostNode) → depth (rootRow st b r) ≤ 23
           → SplitGood (withRow st b r (separate st near (splitPoint st (cond b 0 6 + size r)) 6 nil (rootRow st b r) w .0)) (splitPoint st (cond b 0 6 + size r))
           (startOf st (splitPoint st (cond b 0 6 + size r)) 6 (rootRow st b r))
       go false r e f over most deep = record {

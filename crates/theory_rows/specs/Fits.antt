@@ -4,6 +4,7 @@ use mathlib.Core.Bool.{Bool, true, false, cond}
 use mathlib.Core.List.{List, [], _∷_}
 use Prim.Native.Nat.{ℕ, _≤_, _<_}
 use lib.ListN.{length}
+use Rattle.model.specs.Limits.{mostPages, capacity, mostContent}
 use Rattle.model.specs.Row.{Head, Row, nil, agg, lit, rec, store, lone, nodeCount, recordSize, isAgg, height, count, outside, Config, every, isEntry}
 
 abbrev pub IsByte : List ℕ → Type 0
@@ -19,18 +20,18 @@ pub data Shape : Bool → Row → Type 0 where
   more : (r : Row) → 2 ≤ nodeCount r → Shape false r
 
 pub record RecordFits (settled : Bool) (r : Row) : Type 0 where
-  pub fits : recordSize r ≤ 4080
+  pub fits : recordSize r ≤ capacity
   pub shape : Shape settled r
 
 abbrev pub Fits : Row → Type 0
 Fits nil = Unit {0}
 Fits (agg h cs rest) = HeadFits h × Fits cs × Fits rest
-Fits (lit h c rest) = HeadFits h × (length c ≤ 520) × IsByte c × Fits rest
+Fits (lit h c rest) = HeadFits h × (length c ≤ mostContent) × IsByte c × Fits rest
 Fits (rec p s r rest) = RecordFits s r × Fits r × Fits rest
 
 pub record Ranges (st : Config) : Type 0 where
   pub few : 2 ≤ st .pages
-  pub many : st .pages ≤ 1024
+  pub many : st .pages ≤ mostPages
   pub low : 64 ≤ st .target
   pub high : st .target ≤ 192
   pub tol : st .tolerance ≤ 512

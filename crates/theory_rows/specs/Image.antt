@@ -1,6 +1,6 @@
 -- The image of a valid store: each record stands on its page.
 use mathlib.Core.Path.{_≡_, refl, sym, ap, subst, _∙_}
-use mathlib.Core.Bool.{Bool, true, false, cond, not}
+use mathlib.Core.Bool.{Bool, true, false, cond}
 use mathlib.Core.List.{List, [], _∷_, _++_, append-assoc, append-nil}
 use Prim.Native.Nat.{ℕ, zero, suc, _+_, _*_, _-_, _≤_, _<_}
 use native.Mathlib.Omega.{arith}
@@ -8,7 +8,9 @@ use borrow.Author.Tests.{eqb-true, eq-eqb}
 use lib.ListN.{length, length-append, length-replicate}
 use lib.Seq.{take-at, drop-append-add}
 use lib.Dec.{eqb}
-use Rattle.model.specs.Row.{Row, nil, agg, lit, rec, size, lone, recordSize, bytes, recordBytes, header, Held, records, recordPage, settingsPage, pageAt, pagesFrom, image, Config, store, count, outside}
+use Rattle.model.specs.Limits.{pageSize, capacity}
+use Rattle.model.specs.Row.{Row, nil, agg, lit, rec, size, lone, recordSize, bytes, recordBytes, header, Held, records, recordPage, settingsPage, pageAt}
+use Rattle.model.specs.Row.{pagesFrom, image, Config, store, count, outside, noHead, recordOn}
 use Rattle.theory_rows.specs.Fits.{Fits, Valid}
 use Rattle.model.specs.Reading.{pageOf}
 use Rattle.theory_rows.specs.Laws.{length-bytes, cond-case}
@@ -18,7 +20,7 @@ abbrev pub Stored : (ℕ → List ℕ) → ℕ → Row → Type 0
 Stored mem h nil = Unit {0}
 Stored mem h (agg l cs rest) = Stored mem h cs × Stored mem h rest
 Stored mem h (lit l c rest) = Stored mem h rest
-Stored mem h (rec p s r rest) = (mem p ≡ recordPage (record { page = p; settled = s; holder = h; row = r })) × Stored mem p r × Stored mem h rest
+Stored mem h (rec p s r rest) = (mem p ≡ recordPage (recordOn p s h r)) × Stored mem p r × Stored mem h rest
 
 -- How often a list of records has a page.
 abbrev tally : ℕ → List Held → ℕ
@@ -54,7 +56,7 @@ stored-in all h (agg l cs rest) pre post e d = (
 )
 stored-in all h (lit l c rest) pre post e d = stored-in all h rest pre post e d
 stored-in all h (rec p s r rest) pre post e d =
-    let held : Held = record { page = p; settled = s; holder = h; row = r } in
+    let held : Held = recordOn p s h r in
     let same : eqb p p ≡ true = eq-eqb p p refl in
     let first : tally p pre ≡ 0 = omega (arith, rw same at (d p)) in (
       ap (λ (a : List Held). pageAt a p) e ∙ skip pre (held ∷ (records p r ++ records h rest ++ post)) p first ∙ rw same,
@@ -67,16 +69,16 @@ stored-in all h (rec p s r rest) pre post e d =
 pub length-record : (r : Row) → length (recordBytes r) ≡ recordSize r
 length-record r = go (lone r)
   where
-    go : (b : Bool) → length (cond b (bytes r) (header 4 0 (6 + size r) ++ bytes r)) ≡ cond b 0 6 + size r
+    go : (b : Bool) → length (cond b (bytes r) (header 4 noHead (6 + size r) ++ bytes r)) ≡ cond b 0 6 + size r
     go true = omega (arith, length-bytes r)
     go false = omega (arith, length-bytes r)
 
-pub length-recordPage : (h : Held) → recordSize (h .row) ≤ 4080 → length (recordPage h) ≡ 4096
+pub length-recordPage : (h : Held) → recordSize (h .row) ≤ capacity → length (recordPage h) ≡ pageSize
 length-recordPage h f = simp (length-append, length-replicate, length-record) (omega arith)
 
 abbrev pub AllFit : List Held → Type 0
 AllFit [] = Unit {0}
-AllFit (h ∷ hs) = (recordSize (h .row) ≤ 4080) × AllFit hs
+AllFit (h ∷ hs) = (recordSize (h .row) ≤ capacity) × AllFit hs
 
 allFit-++ : (a b : List Held) → AllFit a → AllFit b → AllFit (a ++ b)
 allFit-++ [] b f g = g
@@ -88,21 +90,21 @@ fits-records h (agg l cs rest) f = allFit-++ (records h cs) (records h rest) (fi
 fits-records h (lit l c rest) f = fits-records h rest (f .3)
 fits-records h (rec p s r rest) f = (f .0 .fits, allFit-++ (records p r) (records h rest) (fits-records p r (f .1)) (fits-records h rest (f .2)))
 
-pub length-pageAt : (hs : List Held) → AllFit hs → (q : ℕ) → length (pageAt hs q) ≡ 4096
-length-pageAt [] f q = length-replicate {A = ℕ} 4096 0
-length-pageAt (h ∷ hs) f q = cond-case (λ (l : List ℕ). length l ≡ 4096) (eqb q (h .page)) (λ _. length-recordPage h (f .0)) (λ _. length-pageAt hs (f .1) q)
+pub length-pageAt : (hs : List Held) → AllFit hs → (q : ℕ) → length (pageAt hs q) ≡ pageSize
+length-pageAt [] f q = length-replicate {A = ℕ} pageSize 0
+length-pageAt (h ∷ hs) f q = cond-case (λ (l : List ℕ). length l ≡ pageSize) (eqb q (h .page)) (λ _. length-recordPage h (f .0)) (λ _. length-pageAt hs (f .1) q)
 
 page-slice : (hs : List Held) → AllFit hs → (n k q : ℕ) → k < n → pageOf (pagesFrom hs n q) k ≡ pageAt hs (q + k)
 page-slice hs f zero k q h = absurd (omega arith)
 page-slice hs f (suc n) zero q h =
     let e : q + 0 ≡ q = omega arith in
-    rw e (take-at (pageAt hs q) (pagesFrom hs n (suc q)) 4096 (length-pageAt hs f q))
+    rw e (take-at (pageAt hs q) (pagesFrom hs n (suc q)) pageSize (length-pageAt hs f q))
 page-slice hs f (suc n) (suc k) q h =
-    let a : 4096 * suc k ≡ length (pageAt hs q) + 4096 * k = omega (arith, length-pageAt hs f q) in
+    let a : pageSize * suc k ≡ length (pageAt hs q) + pageSize * k = omega (arith, length-pageAt hs f q) in
     let b : q + suc k ≡ suc q + k = omega arith in
-    rw (a, b, drop-append-add (pageAt hs q) (pagesFrom hs n (suc q)) (4096 * k)) (page-slice hs f n k (suc q) (omega arith))
+    rw (a, b, drop-append-add (pageAt hs q) (pagesFrom hs n (suc q)) (pageSize * k)) (page-slice hs f n k (suc q) (omega arith))
 
-pub length-settings : (st : Config) → length (st .matrix) ≡ 256 → length (settingsPage st) ≡ 4096
+pub length-settings : (st : Config) → length (st .matrix) ≡ 256 → length (settingsPage st) ≡ pageSize
 length-settings st m = simp (length-append, length-replicate, m)
 
 module _ (st : Config) (root : Row) (v : Valid st root) where
@@ -114,8 +116,8 @@ module _ (st : Config) (root : Row) (v : Valid st root) where
   image-page zero h k = absurd (omega arith)
   image-page (suc k) h g =
       let b : 1 + k ≡ suc k = omega arith in
-      let a : 4096 * suc k ≡ length (settingsPage st) + 4096 * k = omega (arith, length-settings st (v .ranges .entries)) in
-      rw (a, drop-append-add (settingsPage st) (pagesFrom (records 0 (store root)) (st .pages - 1) 1) (4096 * k))
+      let a : pageSize * suc k ≡ length (settingsPage st) + pageSize * k = omega (arith, length-settings st (v .ranges .entries)) in
+      rw (a, drop-append-add (settingsPage st) (pagesFrom (records 0 (store root)) (st .pages - 1) 1) (pageSize * k))
       (page-slice (records 0 (store root)) all-fit (st .pages - 1) k 1 (omega arith) ∙ ap (pageAt (records 0 (store root))) b)
 
   pub once : (q : ℕ) → count q (store root) ≤ 1

@@ -7,6 +7,7 @@ use native.Mathlib.Omega.{arith}
 use borrow.Author.Tests.{leb-true, leb-false}
 use lib.ListN.{length}
 use lib.Dec.{leb, ltb, eqb}
+use Rattle.model.specs.Limits.{capacity, mostContent, mostNode}
 use Rattle.model.specs.Row.{Head, Row, nil, agg, lit, rec, _⊹_, size, isNil, lone, base, recordSize, Config, nodeCount, height}
 use Rattle.theory_rows.specs.Fits.{Ranges, HeadFits, Fits, RecordFits, Shape, one, more, IsByte}
 use Rattle.model.specs.Tree.{Tree, end, branch, leaf, _⊞_, shown, width, New, newNode, putAt, insertAt}
@@ -101,7 +102,7 @@ lone-one (rec p s r rest) e = absurd (false≢true e)
 -- What growth makes of a row: it fits, is at most 526 bytes larger, and has no fewer nodeCount.
 pub record Grew (row : Row) (o : Out) : Type 0 where
   pub fits : Fits (o .0)
-  pub grown : size (o .0) ≤ size row + 526
+  pub grown : size (o .0) ≤ size row + mostNode
   pub keeps : nodeCount row ≤ nodeCount (o .0)
   pub root : lone row ≡ true → lone (o .0) ≡ true
 
@@ -139,15 +140,15 @@ module _ (st : Config) (k : Ranges st) where
     grown : size (o .0) ≤ size rest + 506
     keeps : suc (nodeCount rest) ≤ nodeCount (o .0)
 
-  close-good : (q : ℕ) (s : Bool) (rest : Row) (o : Out) → Fits rest → Fits (o .0) → Shape s (o .0) → depth (rootRow st (lone (o .0)) (o .0)) ≤ 23 → recordSize (o .0) ≤ 4606
+  close-good : (q : ℕ) (s : Bool) (rest : Row) (o : Out) → Fits rest → Fits (o .0) → Shape s (o .0) → depth (rootRow st (lone (o .0)) (o .0)) ≤ 23 → recordSize (o .0) ≤ (capacity + mostNode)
       → Closed rest (close st q s rest o)
   unfolding close kept
   close-good q true rest o g f (one e) h m =
-      cond-case (λ (y : Out). Closed rest (onRow (λ r. rec q true r rest) y)) (leb (recordSize (o .0)) 4080)
-      (λ t. record { fits = (record { fits = leb-true (recordSize (o .0)) 4080 t; shape = one e }, f, g); grown = omega arith; keeps = omega arith })
+      cond-case (λ (y : Out). Closed rest (onRow (λ r. rec q true r rest) y)) (leb (recordSize (o .0)) capacity)
+      (λ t. record { fits = (record { fits = leb-true (recordSize (o .0)) capacity t; shape = one e }, f, g); grown = omega arith; keeps = omega arith })
       (λ t.
       let w = counted st (o .0) (o .1) in
-      let b = split-good st k q (o .0) w f (leb-false (recordSize (o .0)) 4080 t) m h in
+      let b = split-good st k q (o .0) w f (leb-false (recordSize (o .0)) capacity t) m h in
       let z = separator-lone st q (o .0) w e in
       record {
         fits = (record { fits = rw z (omega (arith, b .small)); shape = one z }, b .fits, g);
@@ -155,11 +156,11 @@ module _ (st : Config) (k : Ranges st) where
         keeps = omega arith;
       })
   close-good q false rest o g f a h m =
-      cond-case (Closed rest) (leb (recordSize (o .0)) 4080)
-      (λ t. record { fits = (record { fits = leb-true (recordSize (o .0)) 4080 t; shape = a }, f, g); grown = omega arith; keeps = omega arith })
+      cond-case (Closed rest) (leb (recordSize (o .0)) capacity)
+      (λ t. record { fits = (record { fits = leb-true (recordSize (o .0)) capacity t; shape = a }, f, g); grown = omega arith; keeps = omega arith })
       (λ t.
       let w = freed st q (counted st (o .0) (o .1)) in
-      let b = split-good st k q (o .0) w f (leb-false (recordSize (o .0)) 4080 t) m h in
+      let b = split-good st k q (o .0) w f (leb-false (recordSize (o .0)) capacity t) m h in
       let sep = separator st q (o .0) w .0 in
       record {
         fits = Fits-⊹ sep rest (b .fits) g;
@@ -174,11 +175,11 @@ module _ (st : Config) (k : Ranges st) where
       (omega (arith, depth-root st (lone (o .0)) (o .0), depth-height (o .0) (b .fits)))
       (omega (arith, base-kept r (o .0) (a .shape) (b .keeps) (b .root), a .fits, b .grown))
 
-  module _ (x : New) (label : HeadFits (x .head)) (long : length (x .content) ≤ 520) (byte : IsByte (x .content)) where
+  module _ (x : New) (label : HeadFits (x .head)) (long : length (x .content) ≤ mostContent) (byte : IsByte (x .content)) where
     -- the new node in front of a row
     record Placed (rest : Row) (o : Out) : Type 0 where
       fits : Fits (o .0)
-      grown : size (o .0) ≤ size rest + 526
+      grown : size (o .0) ≤ size rest + mostNode
       keeps : suc (nodeCount rest) ≤ nodeCount (o .0)
 
     asRow-good : (rest : Row) (w : Work) → Fits rest → Placed rest (asRow st x rest, w)
@@ -202,7 +203,7 @@ module _ (st : Config) (k : Ranges st) where
     -- a row that grew by a node, or in one of its records
     pub record Longer (row : Row) (o : Out) : Type 0 where
       pub fits : Fits (o .0)
-      pub grown : size (o .0) ≤ size row + 526
+      pub grown : size (o .0) ≤ size row + mostNode
       pub keeps : nodeCount row ≤ nodeCount (o .0)
 
     pub after-height : (l : Head) (page i : ℕ) (row : Row) (w : Work) → height row ≤ 23 → height (after st x l page i row w .0) ≤ 23
@@ -283,13 +284,13 @@ module _ (st : Config) (k : Ranges st) where
     -- ── the whole store ──
 
     -- the root record: an aggregate whose children grew
-    root-good : (m : Head) (cs cs′ : Row) (w : Work) → HeadFits m → Fits cs′ → recordSize (agg m cs nil) ≤ 4080 → size cs′ ≤ size cs + 526 → height cs′ ≤ 23
+    root-good : (m : Head) (cs cs′ : Row) (w : Work) → HeadFits m → Fits cs′ → recordSize (agg m cs nil) ≤ capacity → size cs′ ≤ size cs + mostNode → height cs′ ≤ 23
         → Fits (close st 1 true nil (agg m cs′ nil, w) .0)
     root-good m cs cs′ w lm f fit s h =
         close-good 1 true nil (agg m cs′ nil, w) tt (lm, f, tt) (one refl) (omega (arith, depth-height cs′ f)) (omega arith) .fits
 
     -- An insert keeps the rules for records: in a root aggregate of at most 24 levels, under a path of at most 22 entries.
-    pub grow-fits : (m : Head) (cs : Row) (path : List ℕ) (n : ℕ) → HeadFits m → Fits cs → recordSize (agg m cs nil) ≤ 4080 → height cs ≤ 23 → length path ≤ 22
+    pub grow-fits : (m : Head) (cs : Row) (path : List ℕ) (n : ℕ) → HeadFits m → Fits cs → recordSize (agg m cs nil) ≤ capacity → height cs ≤ 23 → length path ≤ 22
         → Fits (rec 1 true (grow st (agg m cs nil) path n x .0) nil)
     unfolding grow inserted close
     grow-fits m cs [] n lm f fit h p =

@@ -8,6 +8,7 @@ use native.Mathlib.Nat.{sub-zero, suc-sub-suc}
 use borrow.Author.Tests.{ltb-true, ltb-false}
 use lib.ListN.{length, length-append}
 use lib.Dec.{leb, ltb, eqb}
+use Rattle.model.specs.Limits.{capacity}
 use Rattle.model.specs.Row.{Head, Row, nil, agg, lit, rec, _⊹_, size, isNil, lone, loneRec, recordSize, bytes, Config}
 use Rattle.model.specs.Tree.{Tree, end, branch, leaf, _⊞_, shown, width, breadth, New, newNode, putAt, insertAt}
 use Rattle.model.specs.Growth.{Work, Out, group, twoGroups, separate, goOn, stops, rootRow, withRow, separator, kept, close, counted, freed, asRow, place, apart, after, child, inserted, atRest, grow}
@@ -136,13 +137,13 @@ module _ (st : Config) where
   pub shown-kept : (q : ℕ) (o : Out) → Shows (shown (o .0)) (kept st q o)
   unfolding kept
   shown-kept q o =
-      cond-case (Shows (shown (o .0))) (leb (recordSize (o .0)) 4080) (λ e. refl) (λ e. shown-separator q (o .0) (counted st (o .0) (o .1)))
+      cond-case (Shows (shown (o .0))) (leb (recordSize (o .0)) capacity) (λ e. refl) (λ e. shown-separator q (o .0) (counted st (o .0) (o .1)))
 
   pub shown-close : (q : ℕ) (s : Bool) (rest : Row) (o : Out) → Shows (shown (o .0) ⊞ shown rest) (close st q s rest o)
   unfolding close
   shown-close q true rest o = ap (λ t. t ⊞ shown rest) (shown-kept q o)
   shown-close q false rest o =
-      cond-case (Shows (shown (o .0) ⊞ shown rest)) (leb (recordSize (o .0)) 4080)
+      cond-case (Shows (shown (o .0) ⊞ shown rest)) (leb (recordSize (o .0)) capacity)
       (λ e. refl)
       (λ e.
       let w = freed st q (counted st (o .0) (o .1)) in

@@ -8,6 +8,7 @@ use borrow.Author.Tests.{leb-false}
 use lib.ListN.{length}
 use lib.IntN.{pos}
 use lib.Dec.{leb, ltb, eqb}
+use Rattle.model.specs.Limits.{capacity, mostNode}
 use Rattle.model.specs.Row.{Head, Row, nil, agg, lit, rec, _⊹_, size, isNil, lone, loneRec, recordSize, Config, height}
 use Rattle.model.specs.Tree.{width, New}
 use Rattle.model.specs.Growth.{Work, Out, group, twoGroups, separate, goOn, stops, rootRow, separator, kept, close, counted, freed, place, apart, after, child, inserted, atRest, grow}
@@ -62,14 +63,14 @@ module _ (st : Config) (near p : ℕ) where
 -- What one split suffices for, if it is too large.
 record Splittable (st : Config) (r : Row) : Type 0 where
   fits : Fits r
-  most : recordSize r ≤ 4606
+  most : recordSize r ≤ (capacity + mostNode)
   deep : depth (rootRow st (lone r) r) ≤ 23
 
 module _ (st : Config) (k : Ranges st) where
   -- where the groups go (`near`) does not matter to the lean
-  lean-counted : (r : Row) (w : Work) → Splittable st r → leb (recordSize r) 4080 ≡ false → Leaned w → Leaned (counted st r w)
+  lean-counted : (r : Row) (w : Work) → Splittable st r → leb (recordSize r) capacity ≡ false → Leaned w → Leaned (counted st r w)
   lean-counted r w m t l = (
-    cond-case InLean (eqb (w .splits) 0) (λ _. split-good st k 0 r w (m .fits) (leb-false (recordSize r) 4080 t) (m .most) (m .deep) .lean) (λ _. l .0),
+    cond-case InLean (eqb (w .splits) 0) (λ _. split-good st k 0 r w (m .fits) (leb-false (recordSize r) capacity t) (m .most) (m .deep) .lean) (λ _. l .0),
     λ e. absurd (omega arith),
   )
 
@@ -80,14 +81,14 @@ module _ (st : Config) (k : Ranges st) where
   lean-kept : (q : ℕ) (o : Out) → Splittable st (o .0) → Leans o → Leans (kept st q o)
   unfolding kept
   lean-kept q o m l =
-      cond-case Leans (leb (recordSize (o .0)) 4080) (λ _. l)
+      cond-case Leans (leb (recordSize (o .0)) capacity) (λ _. l)
       (λ t. lean-separator q (o .0) (counted st (o .0) (o .1)) (lean-counted (o .0) (o .1) m t l))
 
   lean-close : (q : ℕ) (s : Bool) (rest : Row) (o : Out) → Splittable st (o .0) → Leans o → Leans (close st q s rest o)
   unfolding close
   lean-close q true rest o m l = lean-kept q o m l
   lean-close q false rest o m l =
-      cond-case Leans (leb (recordSize (o .0)) 4080) (λ _. l)
+      cond-case Leans (leb (recordSize (o .0)) capacity) (λ _. l)
       (λ t. lean-separator q (o .0) (freed st q (counted st (o .0) (o .1))) (lean-counted (o .0) (o .1) m t l))
 
   -- a record whose row grew
@@ -148,8 +149,8 @@ module _ (st : Config) (k : Ranges st) where
 -- ── the whole store ──
 
 -- the root record: an aggregate whose children grew
-root-splittable : (st : Config) (m : Head) (cs new rest : Row) → lone (agg m cs rest) ≡ true → recordSize (agg m cs rest) ≤ 4080 → Fits (agg m cs rest)
-    → Fits new → size new ≤ size cs + 526 → height new ≤ 23 → Splittable st (agg m new rest)
+root-splittable : (st : Config) (m : Head) (cs new rest : Row) → lone (agg m cs rest) ≡ true → recordSize (agg m cs rest) ≤ capacity → Fits (agg m cs rest)
+    → Fits new → size new ≤ size cs + mostNode → height new ≤ 23 → Splittable st (agg m new rest)
 root-splittable st m cs new rest e fit g f grown high = record { fits = (g .0, f, g .2); most = omega arith; deep = rw e (omega (arith, depth-height new f)) }
 
 module _ (st : Config) (x : New) (f : NewFits x) where
@@ -172,7 +173,7 @@ module _ (st : Config) (x : New) (f : NewFits x) where
       start : Leaned w
       start = (omega arith, λ _. refl)
 
-      close-root : (o : Out) → Fits (o .0) → size (o .0) ≤ size cs + 526 → height (o .0) ≤ 23 → Leans o → Leans (kept st 1 (agg m (o .0) rest, o .1))
+      close-root : (o : Out) → Fits (o .0) → size (o .0) ≤ size cs + mostNode → height (o .0) ≤ 23 → Leans o → Leans (kept st 1 (agg m (o .0) rest, o .1))
       close-root o g grown tall l =
           lean-kept st (v .ranges) 1 (agg m (o .0) rest, o .1)
           (root-splittable st m cs (o .0) rest (settled-lone root (v .rows .0 .shape)) (v .rows .0 .fits) (v .rows .1) g grown tall) l

@@ -7,6 +7,7 @@ use native.Mathlib.Omega.{arith}
 use borrow.Author.Tests.{eqb-true, lt-ltb}
 use lib.ListN.{length}
 use lib.Dec.{leb, ltb, eqb}
+use Rattle.model.specs.Limits.{capacity}
 use Rattle.model.specs.Row.{Head, Row, nil, agg, lit, rec, _⊹_, size, isNil, lone, loneRec, recordSize, count, outside, Config}
 use Rattle.model.specs.Tree.{width, New}
 use Rattle.model.specs.Growth.{Work, Out, onRow, freeFrom, taken, ownRecord, group, twoGroups, separate, goOn, stops, rootRow, withRow, splitPoint, separator, kept, close, counted, freed, asRow, place, apart, after, child, inserted, atRest, grow}
@@ -130,7 +131,7 @@ module _ (st : Config) where
 
   tally-kept : (e : ℕ → ℕ) (q : ℕ) (o : Out) → Tallies e o → Tallies e (kept st q o)
   unfolding kept
-  tally-kept e q o t = cond-case (Tallies e) (leb (recordSize (o .0)) 4080) (λ _. t) (λ _. tally-separator e q (o .0) (counted st (o .0) (o .1)) t)
+  tally-kept e q o t = cond-case (Tallies e) (leb (recordSize (o .0)) capacity) (λ _. t) (λ _. tally-separator e q (o .0) (counted st (o .0) (o .1)) t)
 
   -- e counts the record's own page, which its proxy names
   tally-close : (e : ℕ → ℕ) (k : ℕ) (s : Bool) (rest : Row) (o : Out) → Tally e (λ q. cond (eqb q k) 1 0 + (count q (o .0) + count q rest)) (o .1)
@@ -140,7 +141,7 @@ module _ (st : Config) where
       let u = tally-kept (λ q. e q + cond (eqb q k) 1 0 + count q rest) k o (λ full q. omega (arith, t full q)) in
       λ full q. omega (arith, u full q)
   tally-close e k false rest o t =
-      cond-case (Tallies e) (leb (recordSize (o .0)) 4080)
+      cond-case (Tallies e) (leb (recordSize (o .0)) capacity)
       (λ _ full q. omega (arith, t full q))
       (λ _.
       let w = freed st k (counted st (o .0) (o .1)) in

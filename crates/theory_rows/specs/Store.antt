@@ -1,10 +1,11 @@
 -- An insert that finds the pages it wants leaves a valid store, which shows the plain tree's insert.
 use mathlib.Core.Path.{_≡_, refl, ap, _∙_}
-use mathlib.Core.Bool.{Bool, true, false, not, false≢true}
+use mathlib.Core.Bool.{Bool, true, false, false≢true}
 use mathlib.Core.List.{List, [], _∷_}
 use Prim.Native.Nat.{ℕ, _≤_}
 use native.Mathlib.Omega.{arith}
 use lib.ListN.{length}
+use Rattle.model.specs.Limits.{capacity, mostContent}
 use Rattle.model.specs.Row.{Head, Row, nil, agg, lit, rec, lone, recordSize, Config, height, isAgg, store}
 use Rattle.theory_rows.specs.Fits.{HeadFits, Fits, Shape, one, IsByte, Valid}
 use Rattle.model.specs.Tree.{Tree, end, branch, leaf, shown, New, insertAt}
@@ -15,7 +16,7 @@ use Rattle.theory_rows.specs.Pages.{placed-grow}
 
 pub record NewFits (x : New) : Type 0 where
   pub head : HeadFits (x .head)
-  pub long : length (x .content) ≤ 520
+  pub long : length (x .content) ≤ mostContent
   pub byte : IsByte (x .content)
 
 -- a settled record has one node
@@ -48,7 +49,7 @@ module _ (st : Config) (x : New) (a : NewFits x) where
       let root = agg m cs rest in
       let new = grow st root path n x .0 in
       let e = isNil-nil rest (settled-lone root (v .rows .0 .shape)) in
-      let fit : recordSize (agg m cs nil) ≤ 4080 = rw e at (v .rows .0 .fits) in
+      let fit : recordSize (agg m cs nil) ≤ capacity = rw e at (v .rows .0 .fits) in
       let high : height cs ≤ 23 = omega (arith, v .levels) in (
         rw e (grow-fits st (v .ranges) x (a .head) (a .long) (a .byte) m cs path n (v .rows .1 .0) (v .rows .1 .1) fit high p),
         omega (arith, height-shown new, ap levels (shown-grow st x root path n), levels-insertAt x n 0 path (shown root), height-shown root, v .levels),

@@ -3,19 +3,20 @@ use mathlib.Core.Path.{_≡_, refl, ap, _∙_}
 use mathlib.Core.Bool.{false}
 use mathlib.Core.List.{List, [], _∷_, _++_}
 use Prim.Native.Nat.{ℕ, zero, suc, _+_, _*_}
-use lib.ListN.{length, take, replicate}
+use lib.ListN.{take, replicate}
 use lib.IntN.{ℤ, pos, negsuc}
-use Rattle.model.specs.Row.{Row, nil, agg, lit, rec, _⊹_, recordSize, header, bytes, Config, image, inRange, valid}
+use Rattle.model.specs.Limits.{pageSize, capacity, mostContent, mostNode, longestPath}
+use Rattle.model.specs.Row.{Row, nil, agg, lit, rec, _⊹_, recordSize, header, bytes, Config, image, inRange, valid, noHead}
 use Rattle.model.specs.Tree.{placeAt}
 use Rattle.model.specs.Growth.{grow, inserted, after, kept, close, separator, separate, group, twoGroups, freeFrom, startOf, startOfD, splitPoint}
-use Rattle.model.specs.Reading.{lengthOk, twoAt, pageOf, nodesIn, sameBytes, reading}
+use Rattle.model.specs.Reading.{lengthOk, twoAt, pageOf, nodesIn, sameBytes, reading, usedAt}
 use Rattle.model.specs.Answers.{usualSettings, findRefused, insertRefused}
 use Rattle.model.specs.Calls.{config, insertNumber, findIn, formatNumber, opened, formatOf, insertOf, findOf}
 use Rattle.model.specs.declared.InsertAnswer.{InsertAnswer}
 
 -- An image of n pages with the usual settings, formatted with root label 7.
 abbrev fresh : (pages : ℕ) → List ℕ
-fresh n = formatOf (replicate (4096 * n) 0) (usualSettings n) (replicate 256 2) 7 .1
+fresh n = formatOf (replicate (pageSize * n) 0) (usualSettings n) (replicate 256 2) 7 .1
 
 -- A literal of n zero bytes put in at child k of the root: the answer, and the image after it.
 abbrev put : (img : List ℕ) → (k n : ℕ) → InsertAnswer × List ℕ
@@ -24,11 +25,11 @@ put img k n = insertOf img [] k 2 9 (replicate n 0)
 -- So many literals of 520 bytes put in from child k on.
 abbrev filled : (count k : ℕ) → (img : List ℕ) → List ℕ
 filled zero k img = img
-filled (suc n) k img = filled n (suc k) (put img k 520 .1)
+filled (suc n) k img = filled n (suc k) (put img k mostContent .1)
 
 -- The length used of a page, and its first bytes.
 abbrev used : (img : List ℕ) → (page : ℕ) → ℕ
-used img q = twoAt (pageOf img q) 4082
+used img q = usedAt (pageOf img q) 0
 
 abbrev answer : (page offset splits : ℕ) → (lean : ℤ) → InsertAnswer
 answer p o s l = record { number = 0; place = record { page = p; offset = o }; splits = s; lean = l }
@@ -45,12 +46,12 @@ abbrev seven : List ℕ
 seven = filled 7 0 (fresh 5)
 
 abbrev eight : InsertAnswer × List ℕ
-eight = put seven 7 520
+eight = put seven 7 mostContent
 
 -- The root record of seven literals of 520 bytes and one of n, as a row.
 abbrev lits : ℕ → Row
 lits zero = nil
-lits (suc n) = lit (record { label = 9 }) (replicate 520 0) (lits n)
+lits (suc n) = lit (record { label = 9 }) (replicate mostContent 0) (lits n)
 
 abbrev withLast : ℕ → Row
 withLast n = agg (record { label = 7 }) (lits 7 ⊹ lit (record { label = 9 }) (replicate n 0) nil) nil
@@ -62,7 +63,7 @@ chain (suc n) img = let r = chain n img in insertOf r (replicate (4 * n) 0) 0 1 
 
 -- A record's bytes: a helper over so many literals of 520 zero bytes.
 abbrev helperOf : (count : ℕ) → List ℕ
-helperOf k = header 4 0 (6 + k * 526) ++ bytes (lits k)
+helperOf k = header 4 noHead (6 + k * mostNode) ++ bytes (lits k)
 
 pub record BenchSheet : Type 0 where
   -- Page 1 of the listing's image begins so; length 20.
@@ -72,7 +73,7 @@ pub record BenchSheet : Type 0 where
   -- Root and seven 520-byte literals: 3,688 bytes. A last literal of 386 bytes gives 4,080 and no split.
   pub sevenUsed : used seven 1 ≡ 3688
   pub last386 : put seven 7 386 .0 ≡ answer 1 3688 0 (pos 0)
-  pub last386Used : used (put seven 7 386 .1) 1 ≡ 4080
+  pub last386Used : used (put seven 7 386 .1) 1 ≡ capacity
   -- With 387 bytes instead: S 4,081, p 2,040, d starts at 1,584, lean -456.
   pub last387S : recordSize (withLast 387) ≡ 4081
   pub last387p : splitPoint (usual 5) 4081 ≡ 2040
@@ -84,17 +85,17 @@ pub record BenchSheet : Type 0 where
   pub last520Used : (used (eight .1) 1 ≡ 22) × (used (eight .1) 2 ≡ 1584) × (used (eight .1) 3 ≡ 2636)
   pub last520Pages : (take 1584 (pageOf (eight .1) 2) ≡ helperOf 3) × (take 2636 (pageOf (eight .1) 3) ≡ helperOf 5)
   -- The same in a 3-page image: 12.
-  pub full : put (filled 7 0 (fresh 3)) 7 520 .0 ≡ insertRefused 12
+  pub full : put (filled 7 0 (fresh 3)) 7 mostContent .0 ≡ insertRefused 12
   -- Three more appended in five pages: page 3 splits to pages 3 and 4, the root is 30 bytes, one split reported.
-  pub more : put (filled 2 8 (eight .1)) 10 520 .0 ≡ answer 4 2110 1 (negsuc 522)
+  pub more : put (filled 2 8 (eight .1)) 10 mostContent .0 ≡ answer 4 2110 1 (negsuc 522)
   pub moreUsed : (used (filled 3 8 (eight .1)) 1 ≡ 30) × (used (filled 3 8 (eight .1)) 2 ≡ 1584) × (used (filled 3 8 (eight .1)) 3 ≡ 1584)
       × (used (filled 3 8 (eight .1)) 4 ≡ 2636)
   -- Content 520 goes in; 521 gives 6; 521 under a path of 23 gives 4.
-  pub content520 : put (fresh 3) 0 520 .0 ≡ answer 1 6 0 (pos 0)
+  pub content520 : put (fresh 3) 0 mostContent .0 ≡ answer 1 6 0 (pos 0)
   pub content521 : put (fresh 3) 0 521 .0 ≡ insertRefused 6
-  pub deep521 : insertOf (fresh 3) (replicate 92 0) 0 2 9 (replicate 521 0) .0 ≡ insertRefused 4
+  pub deep521 : insertOf (fresh 3) (replicate longestPath 0) 0 2 9 (replicate 521 0) .0 ≡ insertRefused 4
   -- In a chain of 24 nodes, Find with 23 zeros gives the last; with 24 it gives 4.
-  pub chain23 : findOf (chain 23 (fresh 3)) (replicate 92 0) ≡ record { number = 0; place = record { page = 1; offset = 138 } }
+  pub chain23 : findOf (chain 23 (fresh 3)) (replicate longestPath 0) ≡ record { number = 0; place = record { page = 1; offset = 138 } }
   pub chain24 : findOf (chain 23 (fresh 3)) (replicate 96 0) ≡ findRefused 4
 
 -- ── the images, one call after another ──
@@ -134,7 +135,7 @@ seven-in-three : filled 7 0 (fresh 3) ≡ sevenImage 3
 unfolding computed
 seven-in-three = refl
 
-eight-is : put (sevenImage 5) 7 520 ≡ (answer 3 2110 1 (negsuc 522), eightImage)
+eight-is : put (sevenImage 5) 7 mostContent ≡ (answer 3 2110 1 (negsuc 522), eightImage)
 unfolding computed
 eight-is = refl
 
@@ -142,7 +143,7 @@ ten-is : filled 2 8 eightImage ≡ tenImage
 unfolding computed
 ten-is = refl
 
-eleven-is : put tenImage 10 520 ≡ (answer 4 2110 1 (negsuc 522), elevenImage)
+eleven-is : put tenImage 10 mostContent ≡ (answer 4 2110 1 (negsuc 522), elevenImage)
 unfolding computed
 eleven-is = refl
 
@@ -160,11 +161,11 @@ last387-is : put (sevenImage 5) 7 387 .0 ≡ answer 3 2110 1 (negsuc 455)
 unfolding computed
 last387-is = refl
 
-full-is : put (sevenImage 3) 7 520 .0 ≡ insertRefused 12
+full-is : put (sevenImage 3) 7 mostContent .0 ≡ insertRefused 12
 unfolding computed
 full-is = refl
 
-sizes : (used (sevenImage 5) 1 ≡ 3688) × (used (image (usual 5) (withLast 386)) 1 ≡ 4080) × (used eightImage 1 ≡ 22) × (used eightImage 2 ≡ 1584) × (used eightImage 3 ≡ 2636)
+sizes : (used (sevenImage 5) 1 ≡ 3688) × (used (image (usual 5) (withLast 386)) 1 ≡ capacity) × (used eightImage 1 ≡ 22) × (used eightImage 2 ≡ 1584) × (used eightImage 3 ≡ 2636)
     × (used elevenImage 1 ≡ 30) × (used elevenImage 2 ≡ 1584) × (used elevenImage 3 ≡ 1584) × (used elevenImage 4 ≡ 2636)
 unfolding image twoAt
 sizes = (refl, refl, refl, refl, refl, refl, refl, refl, refl)
@@ -173,17 +174,17 @@ pages : (take 1584 (pageOf eightImage 2) ≡ helperOf 3) × (take 2636 (pageOf e
 unfolding image twoAt
 pages = (refl, refl)
 
-found : (findOf (image (usual 3) (rootOf (chainRow 23))) (replicate 92 0) ≡ record { number = 0; place = record { page = 1; offset = 138 } })
+found : (findOf (image (usual 3) (rootOf (chainRow 23))) (replicate longestPath 0) ≡ record { number = 0; place = record { page = 1; offset = 138 } })
     × (findOf (image (usual 3) (rootOf (chainRow 23))) (replicate 96 0) ≡ findRefused 4)
 unfolding computed
 found = (refl, refl)
 
 -- Eight and eleven literals, from the first image on.
 eight-all : eight ≡ (answer 3 2110 1 (negsuc 522), eightImage)
-eight-all = ap (λ (img : List ℕ). put img 7 520) seven-is ∙ eight-is
+eight-all = ap (λ (img : List ℕ). put img 7 mostContent) seven-is ∙ eight-is
 
-eleven-all : put (filled 2 8 (eight .1)) 10 520 ≡ (answer 4 2110 1 (negsuc 522), elevenImage)
-eleven-all = ap (λ (z : InsertAnswer × List ℕ). put (filled 2 8 (z .1)) 10 520) eight-all ∙ ap (λ (img : List ℕ). put img 10 520) ten-is ∙ eleven-is
+eleven-all : put (filled 2 8 (eight .1)) 10 mostContent ≡ (answer 4 2110 1 (negsuc 522), elevenImage)
+eleven-all = ap (λ (z : InsertAnswer × List ℕ). put (filled 2 8 (z .1)) 10 mostContent) eight-all ∙ ap (λ (img : List ℕ). put img 10 mostContent) ten-is ∙ eleven-is
 
 on-eight : (q n : ℕ) → used eightImage q ≡ n → used (eight .1) q ≡ n
 on-eight q n e = ap (λ (z : InsertAnswer × List ℕ). used (z .1) q) eight-all ∙ e
@@ -193,8 +194,8 @@ on-eleven q n e = ap (λ (z : InsertAnswer × List ℕ). used (z .1) q) eleven-a
 
 plain : (take 20 (pageOf listing 1)
     ≡ 0x01 ∷ 0x00 ∷ 0x07 ∷ 0x00 ∷ 0x14 ∷ 0x00 ∷ 0x01 ∷ 0x00 ∷ 0x2c ∷ 0x01 ∷ 0x06 ∷ 0x00 ∷ 0x02 ∷ 0x00 ∷ 0x09 ∷ 0x00 ∷ 0x08 ∷ 0x00 ∷ 0x41 ∷ 0x42 ∷ [])
-    × (used listing 1 ≡ 20) × (startOfD (usual 5) (withLast 387) ≡ 1584) × (put (fresh 3) 0 520 .0 ≡ answer 1 6 0 (pos 0)) × (put (fresh 3) 0 521 .0 ≡ insertRefused 6)
-    × (insertOf (fresh 3) (replicate 92 0) 0 2 9 (replicate 521 0) .0 ≡ insertRefused 4)
+    × (used listing 1 ≡ 20) × (startOfD (usual 5) (withLast 387) ≡ 1584) × (put (fresh 3) 0 mostContent .0 ≡ answer 1 6 0 (pos 0)) × (put (fresh 3) 0 521 .0 ≡ insertRefused 6)
+    × (insertOf (fresh 3) (replicate longestPath 0) 0 2 9 (replicate 521 0) .0 ≡ insertRefused 4)
 unfolding computed
 plain = (refl, refl, refl, refl, refl, refl)
 
@@ -216,12 +217,12 @@ bench-sheet = record {
     ap (λ (z : InsertAnswer × List ℕ). take 1584 (pageOf (z .1) 2)) eight-all ∙ pages .0,
     ap (λ (z : InsertAnswer × List ℕ). take 2636 (pageOf (z .1) 3)) eight-all ∙ pages .1,
   );
-  full = ap (λ (img : List ℕ). put img 7 520 .0) seven-in-three ∙ full-is;
+  full = ap (λ (img : List ℕ). put img 7 mostContent .0) seven-in-three ∙ full-is;
   more = ap (λ (z : InsertAnswer × List ℕ). z .0) eleven-all;
   moreUsed = (on-eleven 1 30 (sizes .5), on-eleven 2 1584 (sizes .6), on-eleven 3 1584 (sizes .7), on-eleven 4 2636 (sizes .8));
   content520 = plain .3;
   content521 = plain .4;
   deep521 = plain .5;
-  chain23 = ap (λ (img : List ℕ). findOf img (replicate 92 0)) chain-is ∙ found .0;
+  chain23 = ap (λ (img : List ℕ). findOf img (replicate longestPath 0)) chain-is ∙ found .0;
   chain24 = ap (λ (img : List ℕ). findOf img (replicate 96 0)) chain-is ∙ found .1;
 }

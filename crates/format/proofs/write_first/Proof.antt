@@ -5,17 +5,18 @@ use Prim.Native.Nat.{_*_}
 use native.Mathlib.Omega.{arith}
 use borrow.Author.Needs.{needs}
 use lib.ListN.{length}
+use Rattle.model.specs.Limits.{pageSize}
 use Rattle.format.specs.First.{zeros}
 use Rattle.format.specs.Store.{whole, cleared, numbers-of, room, page-0, room-1, page-1, all-written}
 use Rattle.format.proofs.write_first.Statement.{statement}
 use Rattle.format.proofs.write_first.Tie as tie
 
 -- After the call of clear the image is zero,
-zeroed : (c : tie.After-clear) → c .clear .last .0 ≡ zeros (4096 * c .before .before .before .before .args .settings .pages)
+zeroed : (c : tie.After-clear) → c .clear .last .0 ≡ zeros (pageSize * c .before .before .before .before .args .settings .pages)
 zeroed c = cleared (now (c .before .before .before .before .args .image)) (c .clear .last .0) _ (c .clear .ensures) (c .before .before .before .before .pre .0)
 
 -- and what put_settings leaves is a page.
-paged : (c : tie.After-put-settings) → length (c .put-settings .last .0) ≡ 4096
+paged : (c : tie.After-put-settings) → length (c .put-settings .last .0) ≡ pageSize
 paged c = c .put-settings .kept .0 ∙ whole (page-0 _ _ (c .before .before .before .before .before .before .before .before .pre .1) (zeroed (c .before .before .before .before)))
 
 clear-requires : tie.Need-clear-requires

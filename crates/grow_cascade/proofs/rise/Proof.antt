@@ -4,12 +4,14 @@ use Prim.Native.Nat.{_+_, _-_, _*_, _≤_, _<_}
 use mathlib.Core.Bool.{_||_}
 use native.Mathlib.Omega.{arith}
 use borrow.Author.Needs.{needs}
-use lib.ListN.{length, take, getD, replicate}
+use lib.ListN.{length, take, replicate}
 use lib.Seq.{length-take-le}
 use lib.IntN.{pos}
 use mir.Syntax.{w32}
 use mir.Val.{toZ, ofZ}
 use mir.Facts.{toZ-ofZ}
+use Rattle.model.specs.Reading.{settledAt}
+use Rattle.model.specs.Limits.{mostPages, pageSize, capacity}
 use Rattle.grow_split_point.specs.Lean.{lean-signed}
 use Rattle.model.specs.Row.{recordSize}
 use Rattle.theory_insert_point.specs.Chain.{lastSettled}
@@ -36,7 +38,7 @@ Inv-loop image₀ used₀ pages target tolerance first buf₀ size missing dry p
     Onward (goalOf w) (memOf w) image₀ dry pages target tolerance page len full splits (toZ w32 lean) buf used image) × (length buf ≡ 4608)
 
 abbrev μ-loop : tie.MeasureT-loop
-μ-loop image₀ used₀ pages target tolerance first buf₀ size missing dry page₀ len₀ full₀ splits₀ lean₀ image used buf page len full splits lean = 1024 - splits
+μ-loop image₀ used₀ pages target tolerance first buf₀ size missing dry page₀ len₀ full₀ splits₀ lean₀ image used buf page len full splits lean = mostPages - splits
 
 -- src/lib.rt:56:5
 loop-holds : tie.Need-loop-holds Inv-loop μ-loop
@@ -95,7 +97,7 @@ returns c =
     λ w.
     let o = c .before .before .before .before .before .before .before .before .before .loop .inv .0 w in
     let r = o .now .rising in
-    let fit : recordSize (o .now .row) ≤ 4080 = omega (arith, r .long, c .before .before .before .before .before .if1 .taken) in
+    let fit : recordSize (o .now .row) ≤ capacity = omega (arith, r .long, c .before .before .before .before .before .if1 .taken) in
     onward-end o (low-done r fit (c .before .before .before .before .before .before .two .ensures .0 ∙ holder-is r) (c .before .before .keep .ensures (content r fit) (lastSettled (o .now .chain)) (settled-is r)))
 
 slice-reshare-prefix-lean-now : tie.Need-slice-reshare-prefix-lean-now Inv-loop μ-loop
@@ -129,7 +131,7 @@ split-off-requires c κs =
 -- the record is split
 large : (x : tie.After-split-off Inv-loop μ-loop) → let s = x .before .before .before .before .before .before .before .before .before .before .before .before .before .before in
     (w : Cascade (s .args .dry) (s .args .pages) (s .args .target) (s .args .tolerance) (s .args .first) (s .args .size) (s .args .missing) 0 (pos 0) (s .args .buf .now) (s .args .used .now) (s .args .image .now))
-    → 4080 < recordSize (x .before .before .before .before .before .before .before .before .before .before .before .loop .inv .0 w .now .row)
+    → capacity < recordSize (x .before .before .before .before .before .before .before .before .before .before .before .loop .inv .0 w .now .row)
 large x w = omega (arith, x .before .before .before .before .before .before .before .before .before .before .before .loop .inv .0 w .now .rising .long, x .before .before .before .before .before .before .before .if1 .left)
 
 cut-of : (x : tie.After-split-off Inv-loop μ-loop) → let s = x .before .before .before .before .before .before .before .before .before .before .before .before .before .before in
@@ -207,7 +209,7 @@ slice-aggregate-lift c = taken-end (c .before .before .before .before .before .b
 
 -- the record above
 above : (x : tie.After-split-off Inv-loop μ-loop) → let s = x .before .before .before .before .before .before .before .before .before .before .before .before .before .before in let l = x .before .before .before .before .before .before .before .before .before .before .before .loop in let z = x .split-off .last .1 .1 .1 in
-    (getD (l .image) (4096 * l .page + 4081) 0 ≡ 1 → ⊥)
+    (settledAt (l .image) (pageSize * l .page) ≡ 1 → ⊥)
     → (w : Cascade (s .args .dry) (s .args .pages) (s .args .target) (s .args .tolerance) (s .args .first) (s .args .size) (s .args .missing) 0 (pos 0) (s .args .buf .now) (s .args .used .now) (s .args .image .now))
     → Ahead (goalOf w) (memOf w) (s .args .image .now) (s .args .dry) (s .args .pages) (s .args .target) (s .args .tolerance) (x .before .before .before .before .before .before .before .before .two .result) (l .page) (x .split-off .result .end) (l .full || x .split-off .result .full) (l .splits + 1) (toZ w32 (ofZ w32 (x .before .before .before .before .before .lean-now .result))) (l .buf) (z .1 .0) (z .0) (z .1 .1 .1 .1 .1 .1 .0)
 above x e w =

@@ -10,6 +10,7 @@ use lib.ListN.{length, take, replicate}
 use lib.Seq.{length-take-le}
 use mir.Syntax.{w32}
 use mir.Facts.{toZ-ofZ}
+use Rattle.model.specs.Limits.{mostNode}
 use Rattle.model.specs.Row.{Row, nil, size, bytes, Config}
 use Rattle.model.specs.Reading.{Reads}
 use Rattle.model.specs.Tree.{shown}
@@ -71,7 +72,7 @@ node-is : (y : tie.After-put-node) → let s = y .before .before .before .before
 node-is y st =
     let s = y .before .before .before .before .before .before .before .before .before in
     let row = asRow st (newOf (s .args .kind) (s .args .label) (s .args .content .now)) nil in
-    (λ i. take (y .put-node .ensures .0 st i) (y .put-node .ensures .1 st i)) ∙ take-over (size row) (bytes row) (replicate 526 0) (length-bytes row)
+    (λ i. take (y .put-node .ensures .0 st i) (y .put-node .ensures .1 st i)) ∙ take-over (size row) (bytes row) (replicate mostNode 0) (length-bytes row)
 
 node-fits : (y : tie.After-put-node) → y .put-node .result ≤ length (y .put-node .last .0)
 node-fits y =

@@ -8,6 +8,7 @@ use lib.Seq.{length-take-le}
 use lib.IntN.{ℤ}
 use mir.Syntax.{w32}
 use mir.Facts.{toZ-ofZ}
+use Rattle.model.specs.Limits.{pageSize, mostNode}
 use Rattle.grow_split_point.specs.Lean.{lean-signed}
 use Rattle.base_numbers.specs.Over.{over}
 use Rattle.theory_insert_point.specs.Chain.{fill}
@@ -52,7 +53,7 @@ place-node-requires : tie.Need-place-node-requires
 place-node-requires c κs =
     let s = c .before .before .before .before .before .before .before .before .before .before .before .before .before .before in
     let w = s .pre in
-    let z : length (s .args .node .now) ≤ 526 = omega (arith, ap length (w .is), length-bytes (asRow (st w) (w .x) nil), node-most (st w) (w .x) (w .fits)) in
+    let z : length (s .args .node .now) ≤ mostNode = omega (arith, ap length (w .is), length-bytes (asRow (st w) (w .x) nil), node-most (st w) (w .x) (w .fits)) in
     (start-env w (ap (λ (r : Receiver). r .page) (c .before .before .before .find-receiver .ensures (w .aim))) (omega (arith, long w)) (c .before .before .before .before .before .usage .ensures (st w) (root w) (w .aim .reads)), (omega arith, (z, omega arith)))
 
 -- where the node goes
@@ -61,7 +62,7 @@ where-is : (x : tie.After-place-node) → let s = x .before .before .before .bef
 where-is x w = x .before .before .before .before .find-receiver .ensures (w .aim)
 
 pages-is : (x : tie.After-place-node) → let s = x .before .before .before .before .before .before .before .before .before .before .before .before .before .before .before in (w : Begin (s .args .dry) (s .args .image .now) (s .args .parent) (s .args .k) (s .args .left) (s .args .label) (s .args .node .now))
-    → st w .pages ≡ length (s .args .image .now) / 4096
+    → st w .pages ≡ length (s .args .image .now) / pageSize
 pages-is x w = omega (arith, long w)
 
 marks-is : (x : tie.After-place-node) → let s = x .before .before .before .before .before .before .before .before .before .before .before .before .before .before .before in (w : Begin (s .args .dry) (s .args .image .now) (s .args .parent) (s .args .k) (s .args .left) (s .args .label) (s .args .node .now))
@@ -69,7 +70,7 @@ marks-is : (x : tie.After-place-node) → let s = x .before .before .before .bef
 marks-is x w = x .before .before .before .before .before .before .usage .ensures (st w) (root w) (w .aim .reads)
 
 placed-is : (x : tie.After-place-node) → let s = x .before .before .before .before .before .before .before .before .before .before .before .before .before .before .before in (w : Begin (s .args .dry) (s .args .image .now) (s .args .parent) (s .args .k) (s .args .left) (s .args .label) (s .args .node .now)) → let z = x .place-node .last in
-    Placed (st w) (w .x) (h w) (x .before .before .before .before .find-receiver .result .page) (W w) (s .args .dry) (s .args .image .now) (replicate 526 0) (x .place-node .result .size) (x .place-node .result .full) (z .1 .0) (z .0) (z .1 .1 .1 .1 .1 .1 .1 .1 .0)
+    Placed (st w) (w .x) (h w) (x .before .before .before .before .find-receiver .result .page) (W w) (s .args .dry) (s .args .image .now) (replicate mostNode 0) (x .place-node .result .size) (x .place-node .result .full) (z .1 .0) (z .0) (z .1 .1 .1 .1 .1 .1 .1 .1 .0)
 placed-is x w =
     x .place-node .ensures (st w) (root w) (w .aim .reads) (pages-is x w) (W w) (marks-is x w) (w .x) (h w)
     (sym (x .before .before .before .before .before .before .before .before .two2 .ensures .0 ∙ parent-label _ _ _ (w .aim) .1)) (w .named) (w .is)

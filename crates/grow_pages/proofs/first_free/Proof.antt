@@ -3,6 +3,7 @@ use mathlib.Core.Path.{_≡_, refl, _∙_}
 use mathlib.Core.Logic.{⊎-elim}
 use Prim.Native.Nat.{_<_}
 use native.Mathlib.Omega.{arith}
+use Rattle.model.specs.Limits.{mostPages}
 use Rattle.model.specs.Row.{Config}
 use Rattle.model.specs.Growth.{freeFrom}
 use Rattle.grow_pages.specs.Write.{usedBy, after, after-less, after-last, free-here, free-turn, free-none}
@@ -10,7 +11,7 @@ use Rattle.grow_pages.proofs.first_free.Statement.{statement}
 use Rattle.grow_pages.proofs.first_free.Tie as tie
 
 abbrev Inv-loop : tie.InvT-loop
-Inv-loop used pages from q₀ left₀ q left = ((st : Config) → st .pages ≡ pages → freeFrom st left (usedBy used) q ≡ freeFrom st pages (usedBy used) from) × (q < 1024)
+Inv-loop used pages from q₀ left₀ q left = ((st : Config) → st .pages ≡ pages → freeFrom st left (usedBy used) q ≡ freeFrom st pages (usedBy used) from) × (q < mostPages)
 
 abbrev μ-loop : tie.MeasureT-loop
 μ-loop used pages from q₀ left₀ q left = left

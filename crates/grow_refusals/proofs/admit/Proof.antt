@@ -3,6 +3,7 @@ use mathlib.Core.Path.{_≡_, refl, sym, _∙_}
 use Prim.Native.Nat.{_+_, _*_}
 use native.Mathlib.Omega.{arith}
 use borrow.Author.Needs.{needs}
+use Rattle.model.specs.Limits.{pageSize}
 use Rattle.model.specs.Tree.{Node}
 use Rattle.theory_layout.specs.Nodes.{ReadAt}
 use Rattle.theory_calls.specs.Open.{passing}
@@ -55,12 +56,12 @@ returns-4 c =
 
 -- The parent's byte.
 parent-at : (f : tie.After-find-in) → (f .find-in .result .number ≡ 0) → let s = f .before .before .before .before .before .before .before .before in
-    4096 * f .find-in .result .place .page + f .find-in .result .place .offset ≡ foundAt (s .args .image .now) (s .args .path .now)
+    pageSize * f .find-in .result .place .page + f .find-in .result .place .offset ≡ foundAt (s .args .image .now) (s .args .path .now)
 parent-at f z = parent-is _ _ (f .before .before .before .before .before .before .before .before .args .child) _ _ (formed (f .before)) _ (f .find-in .ensures) z refl
 
 -- What is read there.
 parent-node : (f : tie.After-find-in) → (f .find-in .result .number ≡ 0) → let s = f .before .before .before .before .before .before .before .before in
-    (n : Node) × ReadAt (s .args .image .now) n (4096 * f .find-in .result .place .page + f .find-in .result .place .offset)
+    (n : Node) × ReadAt (s .args .image .now) n (pageSize * f .find-in .result .place .page + f .find-in .result .place .offset)
 parent-node f z =
     let s = f .before .before .before .before .before .before .before .before in
     let (t, r) = passing (s .args .image .now) (s .pre .0) in

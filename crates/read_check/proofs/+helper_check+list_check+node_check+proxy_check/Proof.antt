@@ -8,6 +8,7 @@ use denote.Ref.{now}
 use borrow.Author.Needs.{needs}
 use borrow.Fn.Kinds.{In}
 use borrow.Fn.PlainCycle.{Measures, is, falls, and}
+use Rattle.model.specs.Limits.{pageSize}
 use Rattle.model.specs.Row.{nil}
 use Rattle.theory_check.specs.Tests.{sizeOf}
 use Rattle.theory_check.specs.Walk.{State, state, node, Decoded, listOf, proxyOf}
@@ -501,7 +502,7 @@ pub +helper-check+list-check+node-check+proxy-check-spec : {M : Type 1} → stat
     let a = s .args in
     let f = goes _ _ _ _ _ (k .before .enters .ensures) (k .if1 .left) in
     let n = c .before .before .before .before .before .two in
-    let long = length-part (now (a .image)) (4096 * a .p) (4096 * a .p + n .result - 4096 * a .p) in (
+    let long = length-part (now (a .image)) (pageSize * a .p) (pageSize * a .p + n .result - pageSize * a .p) in (
       omega (arith, s .pre .0, f .room, f .used, n .ensures .0, used-is (now (a .image)) (a .p), long),
       (search needs, s .pre .1 .0, omega (arith, s .pre .1 .1), omega (arith, n .ensures .1, long)),
     ))
@@ -510,8 +511,8 @@ pub +helper-check+list-check+node-check+proxy-check-spec : {M : Type 1} → stat
     let s = c .before .before .before .before .before .before .before .before .before .before .before .before in
     let a = s .args in
     let n = c .before .before .before .before .before .before .before .two in
-    let long = length-part (now (a .image)) (4096 * a .p) (4096 * a .p + n .result - 4096 * a .p) in
-    let part = take (4096 * a .p + n .result - 4096 * a .p) (drop (4096 * a .p) (now (a .image))) in
+    let long = length-part (now (a .image)) (pageSize * a .p) (pageSize * a .p + n .result - pageSize * a .p) in
+    let part = take (pageSize * a .p + n .result - pageSize * a .p) (drop (pageSize * a .p) (now (a .image))) in
     omega (arith, c .before .node-check .ensures .1, node-small (now (a .image)) part (a .p) 0 (a .level) (a .left - 1) (c .before .before .before .before .before .set-mark .last .0) (omega (arith, n .ensures .1, long)) (omega (arith, s .pre .1 .1))))
     -- mul-widths
     (λ c. let k = c .before .before .before .before .before .before .before .before in omega (arith, goes _ _ _ _ _ (k .before .enters .ensures) (k .if1 .left) .low))

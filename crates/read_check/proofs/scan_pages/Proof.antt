@@ -5,6 +5,7 @@ use Prim.Native.Nat.{_≤_, _-_, _+_, _*_}
 use native.Mathlib.Omega.{arith}
 use denote.Ref.{now}
 use borrow.Author.Needs.{needs}
+use Rattle.model.specs.Limits.{pageSize}
 use Rattle.theory_check.specs.Check.{scanFrom}
 use Rattle.read_check.proofs.Scans.{scan-bad, scan-record, scan-free, scan-end, page-long}
 use Rattle.read_check.proofs.scan_pages.Statement.{statement}
@@ -36,7 +37,7 @@ part-page-state-end : tie.Need-part-page-state-end Inv-loop μ-loop
 part-page-state-end c = search needs
 
 page-state-requires : tie.Need-page-state-requires Inv-loop μ-loop
-page-state-requires c κs = let s = c .before .before .before .before in let a = s .args in let l = c .before .before .loop in page-long (now (a .image)) (4096 * l .p) (omega arith)
+page-state-requires c κs = let s = c .before .before .before .before in let a = s .args in let l = c .before .before .loop in page-long (now (a .image)) (pageSize * l .p) (omega arith)
 
 returns : tie.Need-returns Inv-loop μ-loop
 returns c =

@@ -5,6 +5,7 @@ use lib.ListN.{length}
 use denote.Ref.{now}
 use borrow.Author.Needs.{needs}
 use borrow.Author.Tests.{ne-eqb}
+use Rattle.model.specs.Limits.{pageSize}
 use Rattle.theory_check.specs.Check.{walkOk}
 use Rattle.theory_check.specs.Steps.{length-part}
 use Rattle.read_check.proofs.Checks.{length-fits, first-used, walked, walked-table}
@@ -40,7 +41,7 @@ node-check-requires : tie.Need-node-check-requires
 node-check-requires c κs =
     let s = c .before .before .before .before .before .before .before in
     let n = c .before .before .before .two in
-    (omega arith, omega arith, s .pre .2, omega (arith, n .ensures .1, length-part (now (s .args .image)) 4096 (4096 + n .result - 4096)))
+    (omega arith, omega arith, s .pre .2, omega (arith, n .ensures .1, length-part (now (s .args .image)) pageSize (pageSize + n .result - pageSize)))
 
 returns-2 : tie.Need-returns-2
 returns-2 c =

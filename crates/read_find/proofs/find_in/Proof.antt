@@ -6,13 +6,14 @@ use native.Mathlib.Omega.{arith}
 use borrow.Author.Needs.{needs}
 use borrow.Author.Tests.{not-true, not-false}
 use lib.ListN.{length}
+use Rattle.model.specs.Limits.{pageSize}
 use Rattle.model.specs.declared.Place.{Place}
 use Rattle.read_find.specs.Find.{Finds, Down, goal, starting, too-long, not-whole, nowhere, there, place-room, arrived, entry, ends-here, down}
 use Rattle.read_find.proofs.find_in.Statement.{statement}
 use Rattle.read_find.proofs.find_in.Tie as tie
 
 abbrev Inv-loop : tie.InvT-loop
-Inv-loop image widths path pos₀ i₀ pos i = (t : Option Place) → Finds image path 4096 0 t → Finds image path pos i t
+Inv-loop image widths path pos₀ i₀ pos i = (t : Option Place) → Finds image path pageSize 0 t → Finds image path pos i t
 
 abbrev μ-loop : tie.MeasureT-loop
 μ-loop image widths path pos₀ i₀ pos i = length path - i

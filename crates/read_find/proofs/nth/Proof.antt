@@ -4,6 +4,7 @@ use mathlib.Core.Path.{_≡_, refl}
 use Prim.Native.Nat.{ℕ, _+_, _*_, _-_, _≤_, _<_}
 use native.Mathlib.Omega.{arith}
 use lib.ListN.{length}
+use Rattle.model.specs.Limits.{pageSize, mostBytes}
 use Rattle.read_find.specs.declared.NthNode.{NthNode}
 use Rattle.read_find.specs.Rowed.{Rowed, Passed, Entered, Sought, Proxied, width-steps, startOn, endOn, short, room, pass, proxied, enter, seeking, sought, seek-here, seek-node, seek-inside, seek-past}
 use Rattle.read_find.proofs.nth.Statement.{statement}
@@ -13,13 +14,13 @@ abbrev Inv-loop : tie.InvT-loop
 Inv-loop image widths pos end k depth left₀ i₀ stop₀ deep₀ left i stop deep = (t : NthNode) → Sought image pos end depth k t → Sought image i stop deep left t
 
 abbrev μ-loop : tie.MeasureT-loop
-μ-loop image widths pos end k depth left₀ i₀ stop₀ deep₀ left i stop deep = 4096 * deep + (stop - i)
+μ-loop image widths pos end k depth left₀ i₀ stop₀ deep₀ left i stop deep = pageSize * deep + (stop - i)
 
 -- The row that is left at the loop's head, and its room.
 here : (c : tie.At-loop Inv-loop μ-loop) → Rowed (c .before .before .args .image .now) (c .loop .i) (c .loop .stop) (c .loop .deep)
 here c = c .loop .inv _ (seeking _ _ _ _ _ (c .before .before .pre .0)) .rest
 
-in-room : (c : tie.At-loop Inv-loop μ-loop) → (c .loop .stop + 16 ≤ length (c .before .before .args .image .now)) × (c .loop .stop < 4194304)
+in-room : (c : tie.At-loop Inv-loop μ-loop) → (c .loop .stop + 16 ≤ length (c .before .before .args .image .now)) × (c .loop .stop < mostBytes)
 in-room c = room _ _ _ _ (here c)
 
 -- Past a node, and at a proxy.

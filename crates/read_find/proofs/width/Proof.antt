@@ -4,41 +4,42 @@ use Prim.Native.Nat.{ℕ, _+_, _-_, _≤_, _<_}
 use native.Mathlib.Omega.{arith}
 use lib.ListN.{length}
 use Rattle.model.specs.Tree as tree
+use Rattle.model.specs.Limits.{mostPages, mostBytes}
 use Rattle.read_find.specs.Rowed.{Rowed, Passed, Entered, Counted, Proxied, startOn, endOn, width-steps, room, pass, proxied, enter, counting, counted, count-node, count-proxy}
 use Rattle.read_find.proofs.width.Statement.{statement}
 use Rattle.read_find.proofs.width.Tie as tie
 
 abbrev Inv-loop : tie.InvT-loop
-Inv-loop image widths pos end n₀ i₀ n i = (t : ℕ) → Counted image pos end 1024 0 t → Counted image i end 1024 n t
+Inv-loop image widths pos end n₀ i₀ n i = (t : ℕ) → Counted image pos end mostPages 0 t → Counted image i end mostPages n t
 
 abbrev μ-loop : tie.MeasureT-loop
 μ-loop image widths pos end n₀ i₀ n i = end - i
 
 -- The count as it stands at the loop's head, its room, and its bound.
 here : (c : tie.At-loop Inv-loop μ-loop) → let s = c .before .before in
-    Counted (s .args .image .now) (c .loop .i) (s .args .end) 1024 (c .loop .n) (tree.width (s .pre .0 .row))
+    Counted (s .args .image .now) (c .loop .i) (s .args .end) mostPages (c .loop .n) (tree.width (s .pre .0 .row))
 here c = c .loop .inv _ (counting _ _ _ _ (c .before .before .pre .0))
 
-in-room : (c : tie.At-loop Inv-loop μ-loop) → let s = c .before .before in (s .args .end + 16 ≤ length (s .args .image .now)) × (s .args .end < 4194304)
+in-room : (c : tie.At-loop Inv-loop μ-loop) → let s = c .before .before in (s .args .end + 16 ≤ length (s .args .image .now)) × (s .args .end < mostBytes)
 in-room c = room _ _ _ _ (here c .rest)
 
-within : (c : tie.At-loop Inv-loop μ-loop) → c .loop .n + tree.width (here c .rest .row) ≤ 4194304
+within : (c : tie.At-loop Inv-loop μ-loop) → c .loop .n + tree.width (here c .rest .row) ≤ mostBytes
 within c =
     let w = c .before .before .pre .0 in
     omega (arith, here c .sum, width-steps (w .row), w .few)
 
 -- Past a node, and at a proxy.
 passed : (c : tie.Else1 Inv-loop μ-loop) → let l = c .before .before .before .before in let s = l .before .before in
-    (w : Rowed (s .args .image .now) (l .loop .i) (s .args .end) 1024) → Passed (s .args .image .now) (l .loop .i) (s .args .end) 1024 (c .before .before .two .result) (w .row)
+    (w : Rowed (s .args .image .now) (l .loop .i) (s .args .end) mostPages) → Passed (s .args .image .now) (l .loop .i) (s .args .end) mostPages (c .before .before .two .result) (w .row)
 passed c w = pass _ _ _ _ _ (c .before .before .before .loop-test .taken) (c .before .before .two .ensures .0) (c .if1 .left) w
 
 proxy : (c : tie.After-two2 Inv-loop μ-loop) → let l = c .before .before .before .before .before in let s = l .before .before in
-    Proxied (s .args .image .now) (l .loop .i) 1024 (c .two2 .result)
+    Proxied (s .args .image .now) (l .loop .i) mostPages (c .two2 .result)
 proxy c = proxied _ _ _ _ (c .before .before .before .before .loop-test .taken) (c .before .if1 .taken) _ (c .two2 .ensures .0) (here (c .before .before .before .before .before) .rest)
 
 entered : (c : tie.After-two2 Inv-loop μ-loop) → let l = c .before .before .before .before .before in let s = l .before .before in
-    (w : Rowed (s .args .image .now) (l .loop .i) (s .args .end) 1024)
-    → Entered (s .args .image .now) (l .loop .i) (s .args .end) 1024 (c .before .before .before .two .result) (c .two2 .result)
+    (w : Rowed (s .args .image .now) (l .loop .i) (s .args .end) mostPages)
+    → Entered (s .args .image .now) (l .loop .i) (s .args .end) mostPages (c .before .before .before .two .result) (c .two2 .result)
     (startOn (s .args .image .now) (c .two2 .result)) (endOn (s .args .image .now) (c .two2 .result)) (w .row)
 entered c w = enter _ _ _ _ (c .before .before .before .before .loop-test .taken) (c .before .if1 .taken) _ _ _ _ (c .before .before .before .two .ensures .0) (c .two2 .ensures .0) refl refl w
 

@@ -5,13 +5,14 @@ use Prim.Native.Nat.{ℕ}
 use borrow.Author.Needs.{needs}
 use denote.Ref.{now}
 use lib.ListN.{length-replicate}
+use Rattle.model.specs.Limits.{mostPages}
 use Rattle.model.specs.declared.InsertAnswer.{InsertAnswer}
 use Rattle.store.specs.Refused.{insert-refused}
 use Rattle.store.proofs.insert.Statement.{statement}
 use Rattle.store.proofs.insert.Tie as tie
 
 check-widths-requires : tie.Need-check-widths-requires
-check-widths-requires c κs = length-replicate {A = ℕ} 1024 0
+check-widths-requires c κs = length-replicate {A = ℕ} mostPages 0
 
 same-length : tie.Need-same-length
 same-length c = search needs

@@ -4,12 +4,13 @@ use Prim.Native.Nat.{ℕ}
 use borrow.Author.Needs.{needs}
 use denote.Ref.{now}
 use lib.ListN.{length-replicate}
+use Rattle.model.specs.Limits.{mostPages}
 use Rattle.store.specs.Refused.{read-refused}
 use Rattle.store.proofs.read_node.Statement.{statement}
 use Rattle.store.proofs.read_node.Tie as tie
 
 check-widths-requires : tie.Need-check-widths-requires
-check-widths-requires c κs = length-replicate {A = ℕ} 1024 0
+check-widths-requires c κs = length-replicate {A = ℕ} mostPages 0
 
 returns : tie.Need-returns
 returns c =
