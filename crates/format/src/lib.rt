@@ -60,7 +60,7 @@ fn put_settings(page: &mut [u8], settings: Settings, matrix: &[u8])
     put16(page, 4, settings.tolerance);
     put16(page, 6, settings.form);
     copy_in(matrix, page, 16);
-    put16(page, 4080, 2);
+    put16(page, Settings::CAPACITY, 2);
     put16(page, 4082, 272);
 }
 
@@ -72,7 +72,7 @@ fn put_root(page: &mut [u8], label: u16)
     put16(page, 0, 1);
     put16(page, 2, label as usize);
     put16(page, 4, 6);
-    put16(page, 4080, 257);
+    put16(page, Settings::CAPACITY, 257);
     put16(page, 4082, 6);
 }
 
@@ -91,13 +91,13 @@ pub fn write_first(image: &mut [u8], settings: Settings, matrix: &[u8], label: u
 pub fn length_ok(n: usize) -> bool
     ensures { λ r. ⌜ r ≡ lengthOk n ⌝ }
 {
-    if n % 4096 != 0 {
+    if n % Settings::PAGE != 0 {
         return false;
     }
-    if n / 4096 < 2 {
+    if n / Settings::PAGE < 2 {
         return false;
     }
-    n / 4096 <= 1024
+    n / Settings::PAGE <= Settings::PAGES
 }
 
 // Whether the settings are in range, for an image of so many pages.
@@ -123,7 +123,7 @@ pub fn format_image(image: &mut [u8], settings: Settings, matrix: &[u8], root_la
     if !length_ok(n) {
         return 1;
     }
-    if !settings_fit(settings, matrix, n / 4096) {
+    if !settings_fit(settings, matrix, n / Settings::PAGE) {
         return 2;
     }
     write_first(image, settings, matrix, root_label);

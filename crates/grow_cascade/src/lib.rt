@@ -4,6 +4,7 @@ use grow_replace_proxy::lift;
 use grow_write_back::first_lean;
 use grow_write_back::keep;
 use grow_write_back::split_off;
+use model::Settings;
 ghost use mathlib.Core.Path.{_≡_};
 ghost use Prim.Native.Nat.{_+_};
 ghost use lib.ListN.{length};
@@ -35,7 +36,7 @@ fn lean_now(splits: u32, lean: i32, buf: &[u8], target: usize, tolerance: usize)
 // The record on page `first` has the new content buf[..size]. A dry run counts and leaves the image.
 pub fn rise(
     image: &mut [u8],
-    used: &mut [u8; 1024],
+    used: &mut [u8; Settings::PAGES],
     pages: usize,
     target: usize,
     tolerance: usize,
@@ -55,10 +56,10 @@ pub fn rise(
     let mut splits: u32 = 0;
     let mut lean: i32 = 0;
     loop {
-        let a = 4096 * page;
+        let a = Settings::PAGE * page;
         let settled = image[a + 4081] as usize;
         let holder = two(image, a + 4084);
-        if len <= 4080 {
+        if len <= Settings::CAPACITY {
             keep(image, pages, page, &buf[..len], settled, holder, dry);
             return Grown { full, splits, lean };
         }

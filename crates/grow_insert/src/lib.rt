@@ -12,6 +12,7 @@ use grow_split_point::split_point;
 use grow_write_back::leave;
 use model::InsertAnswer;
 use model::Place;
+use model::Settings;
 ghost use mathlib.Core.Path.{_≡_};
 ghost use lib.ListN.{length};
 ghost use Rattle.model.specs.Row.{recordSize, recordBytes};
@@ -29,7 +30,7 @@ fn take_in(image: &[u8], page: usize, at: usize, par: usize, new: &[u8], buf: &m
     ensures { λ r. ⌜ ((w : Taken (now (image .entry)) page at par (now (new .entry)))
         → (r ≡ recordSize (taken w)) × (now (buf .exit) ≡ over 0 (recordBytes (taken w)) (now (buf .entry)))) ⌝ }
 {
-    let a = 4096 * page;
+    let a = Settings::PAGE * page;
     let e = a + two(image, a + 4082);
     splice(&image[a..e], at, par, 0, new, buf)
 }
@@ -38,7 +39,7 @@ fn take_in(image: &[u8], page: usize, at: usize, par: usize, new: &[u8], buf: &m
 // the root of its own record; else it stays in its record, or goes where the record's split moves it, and later splits do not move it. The image stays.
 fn new_place(
     image: &mut [u8],
-    used: [u8; 1024],
+    used: [u8; Settings::PAGES],
     pages: usize,
     target: usize,
     tolerance: usize,
@@ -57,14 +58,14 @@ fn new_place(
         };
     }
     let n = content.len();
-    if n <= 4080 {
+    if n <= Settings::CAPACITY {
         return Place {
             page: page,
             offset: at,
         };
     }
     let mut marks = used;
-    let settled = image[4096 * page + 4081] as usize;
+    let settled = image[Settings::PAGE * page + 4081] as usize;
     leave(image, &mut marks, page, settled, true);
     let p = split_point(target, n);
     moved_to(content, at, p, tolerance, image, &mut marks, pages, page)
@@ -91,13 +92,13 @@ fn once(
     requires { ⌜ Begin dry (now image) parent k left label (now node) ⌝ }
     ensures { λ r. ⌜ ((w : Begin dry (now (image .entry)) parent k left label (now (node .entry))) → Grew w (r .full) (r .splits) (r .lean) (r .place) (now (image .exit))) ⌝ }
 {
-    let pages = image.len() / 4096;
+    let pages = image.len() / Settings::PAGE;
     let target = image[2] as usize;
     let tolerance = two(image, 4);
     let above = two(image, parent + 2);
     let mut used = usage(image, pages);
     let t = find_receiver(image, parent, k, left);
-    let mut new = [0u8; 526];
+    let mut new = [0u8; Settings::NODE];
     let f = place_node(
         image,
         &mut used,
@@ -156,7 +157,7 @@ fn refused(number: u32) -> InsertAnswer
 // Insert, on an image that passes the check. The dry run finds whether the store is full, so that a refused insert alters no byte.
 pub fn insert_of(
     image: &mut [u8],
-    widths: &[u32; 1024],
+    widths: &[u32; Settings::PAGES],
     path: &[u8],
     child: u32,
     kind: usize,
@@ -173,7 +174,7 @@ pub fn insert_of(
     if a.number != 0 {
         return refused(a.number);
     }
-    let mut node = [0u8; 526];
+    let mut node = [0u8; Settings::NODE];
     let n = put_node(&mut node, kind, l, content);
     let tried = once(image, a.parent, k, a.left, l, &node[..n], true);
     if tried.full {

@@ -1,5 +1,6 @@
 // Where the new node of an insert goes, on an image that passes the check.
 use base_numbers::two;
+use model::Settings;
 use read_next::find_proxy;
 ghost use mathlib.Core.Path.{_≡_};
 ghost use mathlib.Core.Bool.{cond};
@@ -21,11 +22,11 @@ fn behind(image: &[u8], s: usize) -> usize
     requires { ⌜ ((next : ℕ) × Behind (now image) s next) ⌝ }
     ensures { λ r. ⌜ ((next : ℕ) → Behind (now (image .entry)) s next → r ≡ next) ⌝ }
 {
-    if s % 4096 != 0 {
+    if s % Settings::PAGE != 0 {
         return s + two(image, s + 4);
     }
     let holder = two(image, s + 4084);
-    find_proxy(image, holder, s / 4096) + 8
+    find_proxy(image, holder, s / Settings::PAGE) + 8
 }
 
 // The byte of the image where child k of the aggregate at `parent` goes; its left sibling, if it has one, stands at `left`.
@@ -43,8 +44,8 @@ fn place(image: &[u8], parent: usize, k: usize, left: usize) -> usize
 fn offset_on(parent: usize, page: usize) -> usize
     ensures { λ r. ⌜ r ≡ cond (eqb (parent / pageSize) page) (parent % pageSize) 0 ⌝ }
 {
-    if parent / 4096 == page {
-        return parent % 4096;
+    if parent / Settings::PAGE == page {
+        return parent % Settings::PAGE;
     }
     0
 }
@@ -55,11 +56,11 @@ pub fn find_receiver(image: &[u8], parent: usize, k: usize, left: usize) -> Rece
     ensures { λ r. ⌜ ((w : Aimed (now (image .entry)) parent k) → r ≡ receiverOf (w .t)) ⌝ }
 {
     let pos = place(image, parent, k, left);
-    let page = pos / 4096;
+    let page = pos / Settings::PAGE;
     let par = offset_on(parent, page);
     Receiver {
         page: page,
-        at: pos % 4096,
+        at: pos % Settings::PAGE,
         par: par,
     }
 }

@@ -4,6 +4,7 @@ use base_numbers::put16;
 use grow_pages::first_free;
 use grow_pages::put_record;
 use grow_split::put_proxy;
+use model::Settings;
 ghost use mathlib.Core.Path.{_≡_};
 ghost use mathlib.Core.Bool.{true};
 ghost use Prim.Native.Nat.{_+_, _*_, _≤_, _<_};
@@ -29,14 +30,14 @@ pub struct Fresh {
 }
 
 // The pages that are not free: 0, 1, those past the end, and those whose trailer begins with 1.
-pub fn usage(image: &[u8], pages: usize) -> [u8; 1024]
+pub fn usage(image: &[u8], pages: usize) -> [u8; Settings::PAGES]
     requires { ⌜ (pages ≤ mostPages) × (pageSize * pages ≡ length (now image)) ⌝ }
     ensures { λ r. ⌜ ((st : Config) (root : Row) → Reads (now (image .entry)) st root → Marked r (atRest st root)) ⌝ }
 {
-    let mut used = [1u8; 1024];
+    let mut used = [1u8; Settings::PAGES];
     let mut p = 2;
     while p < pages {
-        used[p] = image[4096 * p + 4080];
+        used[p] = image[Settings::PAGE * p + Settings::CAPACITY];
         p += 1;
     }
     used
@@ -77,7 +78,7 @@ pub fn is_apart(image: &[u8], parent: usize, child: usize) -> bool
 // A dry run leaves the image.
 pub fn place_apart(
     image: &mut [u8],
-    used: &mut [u8; 1024],
+    used: &mut [u8; Settings::PAGES],
     pages: usize,
     page: usize,
     node: &[u8],
@@ -100,7 +101,7 @@ pub fn place_apart(
 // Writes what stands for the new node in its row to the front of out: the node, or the proxy of its own record if the matrix sets it apart.
 pub fn place_node(
     image: &mut [u8],
-    used: &mut [u8; 1024],
+    used: &mut [u8; Settings::PAGES],
     pages: usize,
     page: usize,
     parent: usize,

@@ -3,6 +3,7 @@ use base_numbers::clear;
 use base_numbers::copy_in;
 use base_numbers::put16;
 use base_numbers::two;
+use model::Settings;
 ghost use mathlib.Core.Path.{_≡_};
 ghost use Prim.Native.Nat.{_+_, _*_, _≤_, _<_};
 ghost use lib.ListN.{length, replicate};
@@ -13,7 +14,7 @@ ghost use Rattle.grow_pages.specs.Write.{usedBy, setPage, pageBytesOf};
 ghost use Rattle.grow_pages.specs.Links.{Linked, links};
 
 // The first free page counting up from `from`, page 2 following the last; 0 if none is free. A page is used where its byte is not 0.
-pub fn first_free(used: &[u8; 1024], pages: usize, from: usize) -> usize
+pub fn first_free(used: &[u8; Settings::PAGES], pages: usize, from: usize) -> usize
     requires { ⌜ (1 ≤ from) × ((from < pages) × (pages ≤ mostPages)) ⌝ }
     ensures { λ r. ⌜ ((st : Config) → st .pages ≡ pages → r ≡ freeFrom st pages (usedBy (now (used .entry))) from) ⌝ }
 {
@@ -34,11 +35,11 @@ pub fn put_record(image: &mut [u8], page: usize, content: &[u8], settled: usize,
     requires { ⌜ (page < mostPages) × ((pageSize * page + pageSize ≤ length (now image)) × ((length (now content) ≤ capacity) × ((settled ≤ 1) × (holder < mostPages)))) ⌝ }
     ensures { λ _. ⌜ now (image .exit) ≡ setPage page (pageBytesOf (now (content .entry)) settled holder) (now (image .entry)) ⌝ }
 {
-    let base = 4096 * page;
+    let base = Settings::PAGE * page;
     let n = content.len();
     copy_in(content, image, base);
-    clear(image, base + n, 4080 - n);
-    put16(image, base + 4080, 1 + 256 * settled);
+    clear(image, base + n, Settings::CAPACITY - n);
+    put16(image, base + Settings::CAPACITY, 1 + 256 * settled);
     put16(image, base + 4082, n);
     put16(image, base + 4084, holder);
     clear(image, base + 4086, 10);
@@ -49,7 +50,7 @@ pub fn clear_page(image: &mut [u8], page: usize)
     requires { ⌜ (page < mostPages) × (pageSize * page + pageSize ≤ length (now image)) ⌝ }
     ensures { λ _. ⌜ now (image .exit) ≡ setPage page (replicate pageSize 0) (now (image .entry)) ⌝ }
 {
-    clear(image, 4096 * page, 4096);
+    clear(image, Settings::PAGE * page, Settings::PAGE);
 }
 
 // Sets the back link of each record whose proxy stands in the row to page q.
@@ -64,7 +65,7 @@ pub fn relink(row: &[u8], image: &mut [u8], pages: usize, q: usize)
             pos += 6;
         } else if kind == 3 {
             let p = two(row, pos + 6);
-            put16(image, 4096 * p + 4084, q);
+            put16(image, Settings::PAGE * p + 4084, q);
             pos += 8;
         } else {
             pos += two(row, pos + 4);

@@ -1,5 +1,6 @@
 // Every refusal of an insert but a full store's, on an image that passes the check.
 use base_numbers::two;
+use model::Settings;
 use read_find::find_in;
 use read_find::nth;
 ghost use mathlib.Core.Path.{_≡_};
@@ -51,7 +52,7 @@ struct Tried {
 
 // The tests of the node at the byte `parent` as the parent of a new child: 8 for a literal, 9 if the child's number is above its number of children.
 // The search for the left sibling is the test, so that the children are passed one time.
-fn try_parent(image: &[u8], widths: &[u32; 1024], parent: usize, child: usize) -> Tried
+fn try_parent(image: &[u8], widths: &[u32; Settings::PAGES], parent: usize, child: usize) -> Tried
     requires { ⌜ ((n : Node) × ReadAt (now image) n parent) × Widths (now image) (now widths) ⌝ }
     ensures { λ r. ⌜ ((n : Node) → ReadAt (now (image .entry)) n parent → r .number ≡ parentNumber n child) ⌝ }
     ensures { λ r. ⌜ (r .number ≡ 0 → LeftAt (now (image .entry)) parent child (r .left)) ⌝ }
@@ -63,7 +64,7 @@ fn try_parent(image: &[u8], widths: &[u32; 1024], parent: usize, child: usize) -
         return Tried { number: 0, left: 0 };
     }
     let end = parent + two(image, parent + 4);
-    let left = nth(image, widths, parent + 6, end, child - 1, 1024);
+    let left = nth(image, widths, parent + 6, end, child - 1, Settings::PAGES);
     if !left.found {
         return Tried { number: 9, left: 0 };
     }
@@ -76,7 +77,7 @@ fn try_parent(image: &[u8], widths: &[u32; 1024], parent: usize, child: usize) -
 // The tests of an insert in the order of the refusal table.
 pub fn admit(
     image: &[u8],
-    widths: &[u32; 1024],
+    widths: &[u32; Settings::PAGES],
     path: &[u8],
     child: usize,
     kind: usize,
@@ -88,13 +89,13 @@ pub fn admit(
     ensures { λ r. ⌜ (r .number ≡ 0 → r .parent ≡ pageSize * findOf (now (image .entry)) (now (path .entry)) .place .page + findOf (now (image .entry)) (now (path .entry)) .place .offset) ⌝ }
     ensures { λ r. ⌜ (r .number ≡ 0 → LeftAt (now (image .entry)) (r .parent) child (r .left)) ⌝ }
 {
-    if 88 < path.len() {
+    if Settings::PARENT_PATH < path.len() {
         return refused(4);
     }
     if kind_bad(kind, content.len()) {
         return refused(5);
     }
-    if 520 < content.len() {
+    if Settings::CONTENT < content.len() {
         return refused(6);
     }
     let found = find_in(image, widths, path);
@@ -102,7 +103,7 @@ pub fn admit(
         return refused(7);
     }
     let place = found.place;
-    let parent = 4096 * place.page + place.offset;
+    let parent = Settings::PAGE * place.page + place.offset;
     let t = try_parent(image, widths, parent, child);
     Admitted {
         number: t.number,

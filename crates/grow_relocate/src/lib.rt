@@ -6,6 +6,7 @@ use grow_split_point::child;
 use grow_split_point::enters;
 use grow_split_point::stays;
 use model::Place;
+use model::Settings;
 ghost use mathlib.Core.Path.{_≡_};
 ghost use mathlib.Core.Bool.{true};
 ghost use mathlib.Core.List.{List};
@@ -38,7 +39,7 @@ pub fn base_of(part: &[u8]) -> usize
 // Where the node at `target` goes if it is in the group that part is, which starts at `start`.
 pub fn in_group(
     part: &[u8],
-    used: &[u8; 1024],
+    used: &[u8; Settings::PAGES],
     pages: usize,
     near: usize,
     start: usize,
@@ -62,7 +63,7 @@ pub fn in_group(
 }
 
 // Marks the page that a group's record takes.
-pub fn mark_group(part: &[u8], used: &mut [u8; 1024], pages: usize, near: usize)
+pub fn mark_group(part: &[u8], used: &mut [u8; Settings::PAGES], pages: usize, near: usize)
     requires { ⌜ (1 ≤ near) × ((near < pages) × (pages ≤ mostPages)) ⌝ }
     ensures { λ _. ⌜ ((g : Row) → now (part .entry) ≡ bytes g → (st : Config) → st .pages ≡ pages → (img : List ℕ) → now (used .exit) ≡ groupI st near true g (now (used .entry)) img .used) ⌝ }
 {
@@ -81,7 +82,7 @@ pub fn mark_level(
     p: usize,
     tolerance: usize,
     image: &mut [u8],
-    used: &mut [u8; 1024],
+    used: &mut [u8; Settings::PAGES],
     pages: usize,
     near: usize,
 )
@@ -114,7 +115,7 @@ pub fn moved_in(
     p: usize,
     tolerance: usize,
     image: &mut [u8],
-    used: &mut [u8; 1024],
+    used: &mut [u8; Settings::PAGES],
     pages: usize,
     near: usize,
     target: usize,
@@ -158,7 +159,7 @@ pub fn moved_to(
     p: usize,
     tolerance: usize,
     image: &mut [u8],
-    used: &mut [u8; 1024],
+    used: &mut [u8; Settings::PAGES],
     pages: usize,
     near: usize,
 ) -> Place

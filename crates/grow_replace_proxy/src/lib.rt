@@ -1,6 +1,7 @@
 // One step of a cascade: a separator in the place of the proxy to the record that was split.
 use base_numbers::two;
 use grow_splice::splice;
+use model::Settings;
 ghost use mathlib.Core.Path.{_≡_};
 ghost use Prim.Native.Nat.{_≤_};
 ghost use lib.ListN.{length};
@@ -57,7 +58,7 @@ pub fn lift(image: &[u8], holder: usize, page: usize, sep: &[u8], buf: &mut [u8]
         → (r ≡ recordSize (lifted (now (image .entry)) holder page (now (sep .entry)) w))
         × (now (buf .exit) ≡ over 0 (recordBytes (lifted (now (image .entry)) holder page (now (sep .entry)) w)) (now (buf .entry)))) ⌝ }
 {
-    let a = 4096 * holder;
+    let a = Settings::PAGE * holder;
     let e = a + two(image, a + 4082);
     let rec = &image[a..e];
     let at = proxy_in(rec, page);

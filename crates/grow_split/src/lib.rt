@@ -8,6 +8,7 @@ use grow_pages::relink;
 use grow_split_point::child;
 use grow_split_point::enters;
 use grow_split_point::stays;
+use model::Settings;
 ghost use mathlib.Core.Path.{_≡_};
 ghost use mathlib.Core.Bool.{false};
 ghost use Prim.Native.Nat.{_+_, _-_, _*_, _≤_, _<_};
@@ -48,7 +49,7 @@ pub fn put_content(image: &mut [u8], pages: usize, q: usize, part: &[u8])
     if two(part, 4) == n {
         put_record(image, q, part, 0, 0);
     } else {
-        let mut content = [0u8; 4080];
+        let mut content = [0u8; Settings::CAPACITY];
         content[0] = 4;
         put16(&mut content, 4, n + 6);
         copy_in(part, &mut content, 6);
@@ -69,7 +70,7 @@ pub fn put_nodes(image: &mut [u8], pages: usize, q: usize, part: &[u8])
 pub fn put_group(
     part: &[u8],
     image: &mut [u8],
-    used: &mut [u8; 1024],
+    used: &mut [u8; Settings::PAGES],
     pages: usize,
     near: usize,
     dry: bool,
@@ -107,7 +108,7 @@ pub fn separate(
     p: usize,
     tolerance: usize,
     image: &mut [u8],
-    used: &mut [u8; 1024],
+    used: &mut [u8; Settings::PAGES],
     pages: usize,
     near: usize,
     dry: bool,
@@ -160,7 +161,7 @@ pub fn separator(
     p: usize,
     tolerance: usize,
     image: &mut [u8],
-    used: &mut [u8; 1024],
+    used: &mut [u8; Settings::PAGES],
     pages: usize,
     near: usize,
     dry: bool,

@@ -7,6 +7,7 @@ use grow_split::separator;
 use grow_split_point::lean;
 use grow_split_point::split_point;
 use grow_split_point::start_of;
+use model::Settings;
 ghost use mathlib.Core.Path.{_≡_};
 ghost use mathlib.Core.Bool.{Bool, cond};
 ghost use Prim.Native.Nat.{_+_, _*_, _≤_, _<_};
@@ -67,7 +68,13 @@ pub fn keep(
 }
 
 // Frees the page of a record that is split, unless the record is settled. A dry run leaves the image.
-pub fn leave(image: &mut [u8], used: &mut [u8; 1024], page: usize, settled: usize, dry: bool)
+pub fn leave(
+    image: &mut [u8],
+    used: &mut [u8; Settings::PAGES],
+    page: usize,
+    settled: usize,
+    dry: bool,
+)
     requires { ⌜ (page < mostPages) × (pageSize * page + pageSize ≤ length (now image)) ⌝ }
     ensures { λ _. ⌜ ((stays : Bool) → settled ≡ cond stays 1 0
         → (now (used .exit) ≡ cond stays (now (used .entry)) (set (now (used .entry)) page 0)) × (now (image .exit) ≡ leftImage dry stays page (now (image .entry)))) ⌝ }
@@ -89,7 +96,7 @@ pub fn split_off(
     target: usize,
     tolerance: usize,
     image: &mut [u8],
-    used: &mut [u8; 1024],
+    used: &mut [u8; Settings::PAGES],
     pages: usize,
     page: usize,
     settled: usize,

@@ -2,6 +2,7 @@
 use base_numbers::copy_in;
 use base_numbers::two;
 use base_numbers::wide;
+use model::Settings;
 use read_find::row_end;
 use read_find::row_start;
 use read_records::count_pages;
@@ -223,7 +224,7 @@ pub fn listing(image: &[u8], out: &mut [u8]) -> usize
     requires { ⌜ (checkOf (now image) ≡ 0) × (length (now image) ≤ 61440) × (135168 ≤ length (now out)) ⌝ }
     ensures { λ r. ⌜ Wrote (listingOn (now (image .entry))) 0 (now (out .entry)) (now (out .exit)) r ⌝ }
 {
-    let pages = image.len() / 4096;
+    let pages = image.len() / Settings::PAGE;
     let n = count_pages(image, pages);
     let at = head(pages, pages - 1 - n, n, out, 0);
     let start = row_start(image, 1);

@@ -2,7 +2,11 @@
 use mathlib.Core.List.{List, [], _∷_}
 use mathlib.Core.Bool.{Bool, cond}
 use Prim.Native.Nat.{ℕ}
+use lib.ListN.{replicate}
 use lib.IntN.{pos}
+use Rattle.model.specs.Limits.{pageSize, capacity, mostPages, mostLevels, mostContent, mostNode, leastTarget, mostTarget, mostTolerance, theForm, matrixEntries}
+use Rattle.model.specs.Limits.{longestPath, longestParent}
+use Rattle.model.specs.declared.Limits.{Limits}
 use Rattle.model.specs.declared.Settings.{Settings}
 use Rattle.model.specs.declared.Place.{Place}
 use Rattle.model.specs.declared.Kind.{Kind}
@@ -17,6 +21,27 @@ use Rattle.model.specs.declared.ReadNode.{ReadNode}
 
 abbrev pub usualSettings : (pages : ℕ) → Settings
 usualSettings n = record { pages = n; target = 128; tolerance = 409; form = 1 }
+
+abbrev pub usualMatrix : List ℕ
+usualMatrix = replicate matrixEntries 2
+
+-- The limits as the settings type names them.
+abbrev pub theLimits : Limits
+theLimits = record {
+  page = pageSize;
+  capacity = capacity;
+  levels = mostLevels;
+  pages = mostPages;
+  content = mostContent;
+  node = mostNode;
+  least = leastTarget;
+  most = mostTarget;
+  tolerance = mostTolerance;
+  form = theForm;
+  path = longestPath;
+  parent = longestParent;
+  entries = matrixEntries;
+}
 
 -- The number of a kind.
 abbrev pub kindNumber : Kind → ℕ

@@ -1,6 +1,6 @@
 // The types of the calls' arguments and answers. What the calls do is in specs/.
 ghost use mathlib.Core.Path.{_≡_};
-ghost use Rattle.model.specs.Answers.{kindNumber, usualSettings};
+ghost use Rattle.model.specs.Answers.{kindNumber, usualSettings, usualMatrix, theLimits};
 
 // The numbers of the settings; the split matrix goes beside them as a slice, since one of any length may be handed over.
 pub struct Settings {
@@ -17,14 +17,55 @@ impl Settings {
     pub const CAPACITY: usize = 4080;
 
     pub const LEVELS: usize = 24;
-    // Further limits: pages of an image, content bytes of a literal, matrix entries.
+    // The most pages of an image, content bytes of a literal, bytes of a new node with its header.
     pub const PAGES: usize = 1024;
 
     pub const CONTENT: usize = 520;
 
+    pub const NODE: usize = 526;
+    // The range of the target, the largest tolerance, the form.
+    pub const LEAST_TARGET: usize = 64;
+
+    pub const MOST_TARGET: usize = 192;
+
+    pub const MOST_TOLERANCE: usize = 512;
+
+    pub const FORM: usize = 1;
+    // The longest paths in bytes: of a node, and of the parent of an insert.
+    pub const PATH: usize = 92;
+
+    pub const PARENT_PATH: usize = 88;
+    // Matrix entries, and the usual split matrix: free choice for every pair.
     pub const ENTRIES: usize = 256;
-    // The usual split matrix: free choice for every pair.
+
     pub const MATRIX: [u8; 256] = [2u8; 256];
+
+    // The named values above: what holds each to its definition.
+    pub fn limits() -> Limits
+        ensures { λ r. ⌜ r ≡ theLimits ⌝ }
+    {
+        Limits {
+            page: Settings::PAGE,
+            capacity: Settings::CAPACITY,
+            levels: Settings::LEVELS,
+            pages: Settings::PAGES,
+            content: Settings::CONTENT,
+            node: Settings::NODE,
+            least: Settings::LEAST_TARGET,
+            most: Settings::MOST_TARGET,
+            tolerance: Settings::MOST_TOLERANCE,
+            form: Settings::FORM,
+            path: Settings::PATH,
+            parent: Settings::PARENT_PATH,
+            entries: Settings::ENTRIES,
+        }
+    }
+
+    pub fn usual_matrix() -> [u8; Settings::ENTRIES]
+        ensures { λ r. ⌜ r ≡ usualMatrix ⌝ }
+    {
+        Settings::MATRIX
+    }
 
     // The usual settings for an image of so many pages.
     pub fn usual(pages: usize) -> Settings
@@ -34,9 +75,26 @@ impl Settings {
             pages: pages,
             target: 128,
             tolerance: 409,
-            form: 1,
+            form: Settings::FORM,
         }
     }
+}
+
+// The limits, each under its name.
+pub struct Limits {
+    pub page: usize,
+    pub capacity: usize,
+    pub levels: usize,
+    pub pages: usize,
+    pub content: usize,
+    pub node: usize,
+    pub least: usize,
+    pub most: usize,
+    pub tolerance: usize,
+    pub form: usize,
+    pub path: usize,
+    pub parent: usize,
+    pub entries: usize,
 }
 
 // Where a node starts: a page, and a byte offset in it.

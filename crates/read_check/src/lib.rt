@@ -2,6 +2,7 @@
 use base_node_kinds::may_stand;
 use base_numbers::two;
 use base_numbers::wide;
+use model::Settings;
 ghost use mathlib.Core.Path.{_≡_};
 ghost use mathlib.Core.Bool.{true};
 ghost use Prim.Native.Nat.{_+_, _-_, _*_, _≤_, _<_};
@@ -61,7 +62,7 @@ pub fn shaped(part: &[u8], kind: usize) -> bool
         return two_children(&part[6..]);
     }
     if kind == 2 {
-        return part.len() <= 526;
+        return part.len() <= Settings::NODE;
     }
     true
 }
@@ -129,7 +130,7 @@ pub fn literal(part: &[u8], holder: usize, level: usize) -> bool
     requires { ⌜ (6 ≤ length (now part)) × (holder < 5) ⌝ }
     ensures { λ r. ⌜ r ≡ literalOf (now (part .entry)) holder level ⌝ }
 {
-    if 526 < two(part, 4) {
+    if Settings::NODE < two(part, 4) {
         return false;
     }
     stands(part, 2, holder, level)
@@ -182,17 +183,17 @@ pub fn names(image: &[u8], p: usize, page: usize) -> bool
     if p < 2 {
         return false;
     }
-    if 1024 <= p {
+    if Settings::PAGES <= p {
         return false;
     }
-    if image.len() < 4096 * p + 4096 {
+    if image.len() < Settings::PAGE * p + Settings::PAGE {
         return false;
     }
-    let t = 4096 * p + 4080;
+    let t = Settings::PAGE * p + Settings::CAPACITY;
     if image[t] != 1 {
         return false;
     }
-    if 4080 < two(image, t + 2) {
+    if Settings::CAPACITY < two(image, t + 2) {
         return false;
     }
     two(image, t + 4) == page
@@ -203,10 +204,10 @@ pub fn root_fits(image: &[u8], p: usize) -> bool
     requires { ⌜ (p < mostPages) × (pageSize * p + pageSize ≤ length (now image)) ⌝ }
     ensures { λ r. ⌜ r ≡ rootFits (now (image .entry)) p ⌝ }
 {
-    if image[4096 * p + 4081] != 1 {
+    if image[Settings::PAGE * p + 4081] != 1 {
         return true;
     }
-    image[4096 * p] != 4
+    image[Settings::PAGE * p] != 4
 }
 
 // Whether the walk can go on in page p. `left` is one more than the record pages still to be reached.
@@ -239,7 +240,7 @@ fn proxy_check<'a>(
     level: usize,
     left: usize,
     marks: &mut [u8; 128],
-    widths: &mut [u32; 1024],
+    widths: &mut [u32; Settings::PAGES],
 ) -> Walked
     requires { ⌜ (level ≤ 25) × (left ≤ mostPages) ⌝ }
     ensures { λ r. ⌜ Came (proxyOf (now (image .entry)) p page level (state left (now (marks .entry)))) (r .left) (now (marks .exit)) (now (widths .entry)) (now (widths .exit))
@@ -248,7 +249,7 @@ fn proxy_check<'a>(
     if !enters(image, p, page, left, marks) {
         return Walked { left: 0, width: 0 };
     }
-    let a = 4096 * p;
+    let a = Settings::PAGE * p;
     let n = two(image, a + 4082);
     let e = a + n;
     set_mark(marks, p);
@@ -266,7 +267,7 @@ fn node_check<'a>(
     level: usize,
     left: usize,
     marks: &mut [u8; 128],
-    widths: &mut [u32; 1024],
+    widths: &mut [u32; Settings::PAGES],
 ) -> Walked
     requires { ⌜ (holder < 5) × (level ≤ 25) × (left ≤ mostPages) × (length (now part) < 65536) ⌝ }
     ensures { λ r. ⌜ Came (nodeOf (now (image .entry)) (now (part .entry)) page holder level (state left (now (marks .entry)))) (r .left) (now (marks .exit)) (now (widths .entry)) (now (widths .exit))
@@ -309,7 +310,7 @@ fn list_check<'a>(
     level: usize,
     left: usize,
     marks: &mut [u8; 128],
-    widths: &mut [u32; 1024],
+    widths: &mut [u32; Settings::PAGES],
 ) -> usize
     requires { ⌜ (level ≤ 25) × (left ≤ mostPages) × (length (now part) < 65536) ⌝ }
     ensures { λ r. ⌜ Came (listOf (now (image .entry)) (now (part .entry)) page 1 level (state left (now (marks .entry)))) r (now (marks .exit)) (now (widths .entry)) (now (widths .exit)) ⌝ }
@@ -348,7 +349,7 @@ fn helper_check<'a>(
     level: usize,
     left: usize,
     marks: &mut [u8; 128],
-    widths: &mut [u32; 1024],
+    widths: &mut [u32; Settings::PAGES],
 ) -> Walked
     requires { ⌜ (level ≤ 25) × (left ≤ mostPages) × (length (now part) < 65536) ⌝ }
     ensures { λ r. ⌜ Came (listOf (now (image .entry)) (now (part .entry)) page 4 level (state left (now (marks .entry)))) (r .left) (now (marks .exit)) (now (widths .entry)) (now (widths .exit))
@@ -426,20 +427,20 @@ pub fn page_state(page: &[u8]) -> usize
     requires { ⌜ length (now page) ≡ pageSize ⌝ }
     ensures { λ r. ⌜ r ≡ stateOf (now (page .entry)) ⌝ }
 {
-    if page[4080] == 0 {
+    if page[Settings::CAPACITY] == 0 {
         if zeros(page) {
             return 1;
         }
         return 0;
     }
-    if page[4080] != 1 {
+    if page[Settings::CAPACITY] != 1 {
         return 0;
     }
     if 1 < page[4081] {
         return 0;
     }
     let used = two(page, 4082);
-    if 4080 < used {
+    if Settings::CAPACITY < used {
         return 0;
     }
     if !zeros(&page[used..4080]) {
@@ -491,7 +492,7 @@ pub fn settings_ok(page: &[u8], pages: usize) -> bool
     if !zeros(&page[272..4080]) {
         return false;
     }
-    if two(page, 4080) != 2 {
+    if two(page, Settings::CAPACITY) != 2 {
         return false;
     }
     if two(page, 4082) != 272 {
@@ -522,8 +523,8 @@ pub fn scan_pages(image: &[u8], pages: usize) -> usize
     let mut n = 0;
     let mut p = 2;
     while p < pages {
-        let a = 4096 * p;
-        let e = a + 4096;
+        let a = Settings::PAGE * p;
+        let e = a + Settings::PAGE;
         let k = page_state(&image[a..e]);
         if k == 0 {
             return 0;
@@ -543,7 +544,7 @@ pub fn trailers(image: &[u8]) -> usize
     requires { ⌜ lengthOk (length (now image)) ≡ true ⌝ }
     ensures { λ r. ⌜ r ≡ trailersOf (now (image .entry)) ⌝ }
 {
-    let pages = image.len() / 4096;
+    let pages = image.len() / Settings::PAGE;
     if !settings_ok(&image[0..4096], pages) {
         return 0;
     }
@@ -554,15 +555,15 @@ pub fn trailers(image: &[u8]) -> usize
 }
 
 // Whether the walk from page 1, whose root is an aggregate, reaches every record page one time.
-pub fn walk_ok(image: &[u8], left: usize, widths: &mut [u32; 1024]) -> bool
+pub fn walk_ok(image: &[u8], left: usize, widths: &mut [u32; Settings::PAGES]) -> bool
     requires { ⌜ (lengthOk (length (now image)) ≡ true) × (trailersOf (now image) ≡ 0 → ⊥) × (left ≤ mostPages) ⌝ }
     ensures { λ r. ⌜ (r ≡ walkOk (now (image .entry)) left) × (r ≡ true → now (widths .exit) ≡ widthsAfter (walkOf (now (image .entry)) left .row) (now (widths .entry))) ⌝ }
 {
-    if image[4096] != 1 {
+    if image[Settings::PAGE] != 1 {
         return false;
     }
     let used = two(image, 8178);
-    let e = 4096 + used;
+    let e = Settings::PAGE + used;
     let mut marks = [0u8; 128];
     let r = node_check(image, &image[4096..e], 1, 0, 1, left, &mut marks, widths);
     r.left == 1
@@ -572,17 +573,17 @@ pub fn walk_ok(image: &[u8], left: usize, widths: &mut [u32; 1024]) -> bool
 pub fn length_ok(n: usize) -> bool
     ensures { λ r. ⌜ r ≡ lengthOk n ⌝ }
 {
-    if n % 4096 != 0 {
+    if n % Settings::PAGE != 0 {
         return false;
     }
-    if n / 4096 < 2 {
+    if n / Settings::PAGE < 2 {
         return false;
     }
-    n / 4096 <= 1024
+    n / Settings::PAGE <= Settings::PAGES
 }
 
 // The check, which leaves in a table how many nodes the record on each page shows.
-pub fn check_widths(image: &[u8], widths: &mut [u32; 1024]) -> u32
+pub fn check_widths(image: &[u8], widths: &mut [u32; Settings::PAGES]) -> u32
     ensures { λ r. ⌜ (r ≡ checkBy (now (image .entry)))
         × (r ≡ 0 → now (widths .exit) ≡ widthsAfter (walkOf (now (image .entry)) (trailersOf (now (image .entry))) .row) (now (widths .entry))) ⌝ }
 {
@@ -600,6 +601,6 @@ pub fn check_widths(image: &[u8], widths: &mut [u32; 1024]) -> u32
 pub fn check(image: &[u8]) -> u32
     ensures { λ r. ⌜ r ≡ checkBy (now (image .entry)) ⌝ }
 {
-    let mut widths = [0u32; 1024];
+    let mut widths = [0u32; Settings::PAGES];
     check_widths(image, &mut widths)
 }

@@ -3,6 +3,7 @@ use base_numbers::copy_in;
 use base_numbers::put32;
 use base_numbers::two;
 use model::Place;
+use model::Settings;
 use model::WriteAnswer;
 use read_find::row_start;
 use read_next::find_proxy;
@@ -19,7 +20,7 @@ ghost use Rattle.read_climb.specs.Rise.{Rose, placeAtByte};
 ghost use Rattle.read_climb.specs.Search.{Standing, first, Search, Tracing, numberOf, wayOf, Wrote};
 
 // How many nodes the one at byte i shows: a proxy as many as its record, which `widths` has.
-fn nodes_in(image: &[u8], widths: &[u32; 1024], i: usize) -> usize
+fn nodes_in(image: &[u8], widths: &[u32; Settings::PAGES], i: usize) -> usize
     requires { ⌜ Standing (now image) i × Widths (now image) (now widths) ⌝ }
     ensures { λ r. ⌜ ((w : Standing (now (image .entry)) i) → r ≡ first (w .row)) ⌝ }
 {
@@ -37,7 +38,7 @@ struct Child {
 }
 
 // The node of the row at pos that holds byte target.
-fn child_at(image: &[u8], widths: &[u32; 1024], pos: usize, target: usize) -> Child
+fn child_at(image: &[u8], widths: &[u32; Settings::PAGES], pos: usize, target: usize) -> Child
     requires { ⌜ Search (now image) pos target × Widths (now image) (now widths) ⌝ }
     ensures { λ r. ⌜ ((w : Search (now (image .entry)) pos target) → (r .at ≡ spot (w .has)) × (r .before ≡ before (w .has))) ⌝ }
 {
@@ -60,11 +61,11 @@ struct Traced {
 // sought among those that it shows.
 fn trace(
     image: &[u8],
-    widths: &[u32; 1024],
+    widths: &[u32; Settings::PAGES],
     pos: usize,
     target: usize,
     carry: usize,
-    path: &mut [u8; 92],
+    path: &mut [u8; Settings::PATH],
     at: usize,
 ) -> Traced
     requires { ⌜ Tracing (now image) pos target carry at × Widths (now image) (now widths) × (length (now path) ≡ longestPath) ⌝ }
@@ -87,15 +88,20 @@ fn trace(
 }
 
 // Writes the path of the node at byte pos to the end of `path`, and gives where it starts. At most `left` records are above.
-fn climb_path(image: &[u8], widths: &[u32; 1024], pos: usize, path: &mut [u8; 92]) -> usize
+fn climb_path(
+    image: &[u8],
+    widths: &[u32; Settings::PAGES],
+    pos: usize,
+    path: &mut [u8; Settings::PATH],
+) -> usize
     requires { ⌜ NodeAt (now image) pos × Widths (now image) (now widths) × (length (now path) ≡ longestPath) ⌝ }
     ensures { λ r. ⌜ ((w : NodeAt (now (image .entry)) pos) → Rose (w .root) (placeAtByte pos) r (now (path .exit))) × (length (now (path .exit)) ≡ longestPath) ⌝ }
 {
-    let mut page = pos / 4096;
+    let mut page = pos / Settings::PAGE;
     let mut target = pos;
     let mut carry = 0;
-    let mut at = 92;
-    let mut left: usize = 1024;
+    let mut at = Settings::PATH;
+    let mut left: usize = Settings::PAGES;
     loop {
         let t = trace(
             image,
@@ -111,7 +117,7 @@ fn climb_path(image: &[u8], widths: &[u32; 1024], pos: usize, path: &mut [u8; 92
         if page == 1 {
             return at;
         }
-        let holder = two(image, 4096 * page + 4084);
+        let holder = two(image, Settings::PAGE * page + 4084);
         target = find_proxy(image, holder, page);
         page = holder;
         left = left - 1;
@@ -119,7 +125,12 @@ fn climb_path(image: &[u8], widths: &[u32; 1024], pos: usize, path: &mut [u8; 92
 }
 
 // Climb: writes the path of the node at a place to the front of the buffer; 10 where no node stands, 11 where the buffer is short.
-pub fn climb_of(image: &[u8], widths: &[u32; 1024], x: Place, buffer: &mut [u8]) -> WriteAnswer
+pub fn climb_of(
+    image: &[u8],
+    widths: &[u32; Settings::PAGES],
+    x: Place,
+    buffer: &mut [u8],
+) -> WriteAnswer
     requires { ⌜ (checkOf (now image) ≡ 0) × Widths (now image) (now widths) ⌝ }
     ensures { λ r. ⌜ (r ≡ climbOf (now (image .entry)) x (now (buffer .entry)) .0) × (now (buffer .exit) ≡ climbOf (now (image .entry)) x (now (buffer .entry)) .1) ⌝ }
 {
@@ -130,9 +141,9 @@ pub fn climb_of(image: &[u8], widths: &[u32; 1024], x: Place, buffer: &mut [u8])
             written: 0,
         };
     }
-    let mut path = [0u8; 92];
+    let mut path = [0u8; Settings::PATH];
     let at = climb_path(image, widths, pos, &mut path);
-    let n = 92 - at;
+    let n = Settings::PATH - at;
     if buffer.len() < n {
         return WriteAnswer {
             number: 11,

@@ -2,6 +2,7 @@
 use base_numbers::two;
 use model::FindAnswer;
 use model::Place;
+use model::Settings;
 ghost use mathlib.Core.Path.{_≡_};
 ghost use mathlib.Core.Bool.{cond};
 ghost use Prim.Native.Nat.{_+_, _*_, _<_};
@@ -24,7 +25,7 @@ pub fn row_start(image: &[u8], p: usize) -> usize
     requires { ⌜ PageIn (now image) p ⌝ }
     ensures { λ r. ⌜ r ≡ pageSize * p + cond (eqb (getD (now (image .entry)) (pageSize * p) 0) 4) 6 0 ⌝ }
 {
-    let a = 4096 * p;
+    let a = Settings::PAGE * p;
     if image[a] == 4 { a + 6 } else { a }
 }
 
@@ -33,12 +34,12 @@ pub fn row_end(image: &[u8], p: usize) -> usize
     requires { ⌜ PageIn (now image) p ⌝ }
     ensures { λ r. ⌜ r ≡ pageSize * p + twoAt (now (image .entry)) (pageSize * p + 4082) ⌝ }
 {
-    let a = 4096 * p;
+    let a = Settings::PAGE * p;
     a + two(image, a + 4082)
 }
 
 // How many nodes the row from pos to end shows. `widths` has how many each record shows.
-pub fn width(image: &[u8], widths: &[u32; 1024], pos: usize, end: usize) -> usize
+pub fn width(image: &[u8], widths: &[u32; Settings::PAGES], pos: usize, end: usize) -> usize
     requires { ⌜ Rowed (now image) pos end mostPages × Widths (now image) (now widths) ⌝ }
     ensures { λ r. ⌜ ((w : Rowed (now (image .entry)) pos end mostPages) → r ≡ tree.width (w .row)) ⌝ }
 {
@@ -66,7 +67,7 @@ pub struct NthNode {
 // Node k of those that the row from pos to end shows. `widths` has how many nodes each record shows, so that only the records that hold the node are read.
 pub fn nth(
     image: &[u8],
-    widths: &[u32; 1024],
+    widths: &[u32; Settings::PAGES],
     pos: usize,
     end: usize,
     k: usize,
@@ -127,24 +128,24 @@ fn found(pos: usize) -> FindAnswer
     FindAnswer {
         number: 0,
         place: Place {
-            page: pos / 4096,
-            offset: pos % 4096,
+            page: pos / Settings::PAGE,
+            offset: pos % Settings::PAGE,
         },
     }
 }
 
 // Find, on an image that passes the check: the place of the node that the path names.
-pub fn find_in(image: &[u8], widths: &[u32; 1024], path: &[u8]) -> FindAnswer
+pub fn find_in(image: &[u8], widths: &[u32; Settings::PAGES], path: &[u8]) -> FindAnswer
     requires { ⌜ (checkOf (now image) ≡ 0) × Widths (now image) (now widths) ⌝ }
     ensures { λ r. ⌜ r ≡ findOf (now (image .entry)) (now (path .entry)) ⌝ }
 {
-    if 92 < path.len() {
+    if Settings::PATH < path.len() {
         return refused(4);
     }
     if path.len() % 4 != 0 {
         return refused(7);
     }
-    let mut pos = 4096;
+    let mut pos = Settings::PAGE;
     let mut i = 0;
     while i < path.len() {
         if image[pos] != 1 {
@@ -152,7 +153,7 @@ pub fn find_in(image: &[u8], widths: &[u32; 1024], path: &[u8]) -> FindAnswer
         }
         let k = four(path, i);
         let end = pos + two(image, pos + 4);
-        let r = nth(image, widths, pos + 6, end, k, 1024);
+        let r = nth(image, widths, pos + 6, end, k, Settings::PAGES);
         if !r.found {
             return refused(7);
         }

@@ -6,6 +6,7 @@ use model::NextAnswer;
 use model::NextNode;
 use model::Place;
 use model::ReadNode;
+use model::Settings;
 use read_find::row_end;
 use read_find::row_start;
 use read_find::width;
@@ -71,11 +72,11 @@ pub fn node_at(image: &[u8], page: usize, offset: usize) -> usize
     if page == 0 {
         return 0;
     }
-    if image.len() / 4096 <= page {
+    if image.len() / Settings::PAGE <= page {
         return 0;
     }
-    let a = 4096 * page;
-    if image[a + 4080] != 1 {
+    let a = Settings::PAGE * page;
+    if image[a + Settings::CAPACITY] != 1 {
         return 0;
     }
     if two(image, a + 4082) <= offset {
@@ -114,14 +115,14 @@ fn climb(image: &[u8], pos: usize) -> usize
     requires { ⌜ NodeAt (now image) pos ⌝ }
     ensures { λ r. ⌜ Climbed (now (image .entry)) pos r ⌝ }
 {
-    let mut page = pos / 4096;
+    let mut page = pos / Settings::PAGE;
     let mut at = flat(image, pos);
-    let mut left: usize = 1024;
+    let mut left: usize = Settings::PAGES;
     while at == row_end(image, page) {
         if page == 1 {
             return 0;
         }
-        let holder = two(image, 4096 * page + 4084);
+        let holder = two(image, Settings::PAGE * page + 4084);
         at = find_proxy(image, holder, page) + 8;
         page = holder;
         left = left - 1;
@@ -135,7 +136,7 @@ fn enter(image: &[u8], item: usize) -> usize
     ensures { λ r. ⌜ ((pos : ℕ) → Ahead (now (image .entry)) pos item → Follows (now (image .entry)) pos r × (1 ≤ r)) ⌝ }
 {
     let mut at = item;
-    let mut left: usize = 1024;
+    let mut left: usize = Settings::PAGES;
     while image[at] == 3 {
         at = row_start(image, two(image, at + 6));
         left = left - 1;
@@ -186,8 +187,8 @@ pub fn next_of(image: &[u8], x: Place) -> NextAnswer
     }
     let kind = kind_at(image, at);
     let place = Place {
-        page: at / 4096,
-        offset: at % 4096,
+        page: at / Settings::PAGE,
+        offset: at % Settings::PAGE,
     };
     NextAnswer {
         number: 0,
@@ -201,7 +202,7 @@ pub fn next_of(image: &[u8], x: Place) -> NextAnswer
 // ── a node's numbers ──
 
 // An aggregate's; `widths` has how many nodes each record shows.
-fn read_agg(image: &[u8], widths: &[u32; 1024], pos: usize) -> ReadNode
+fn read_agg(image: &[u8], widths: &[u32; Settings::PAGES], pos: usize) -> ReadNode
     requires { ⌜ (pos + 5 < length (now image)) × (pos < mostBytes) × Inner (now image) pos × Widths (now image) (now widths) ⌝ }
     ensures { λ r. ⌜ ((w : Inner (now (image .entry)) pos) → r ≡ aggRead (now (image .entry)) pos (w .row)) ⌝ }
 {
@@ -247,7 +248,7 @@ fn read_lit(image: &[u8], pos: usize) -> ReadNode
 }
 
 // Read: 0, or 10 where the place is no node's; the content is a part of the image.
-pub fn read_of(image: &[u8], widths: &[u32; 1024], x: Place) -> ReadNode
+pub fn read_of(image: &[u8], widths: &[u32; Settings::PAGES], x: Place) -> ReadNode
     requires { ⌜ (checkOf (now image) ≡ 0) × Widths (now image) (now widths) ⌝ }
     ensures { λ r. ⌜ r ≡ readOf (now (image .entry)) x ⌝ }
 {

@@ -1,5 +1,6 @@
 // Records: the pages that hold a record, ascending, as two-byte numbers.
 use base_numbers::put16;
+use model::Settings;
 use model::WriteAnswer;
 ghost use mathlib.Core.Path.{_≡_};
 ghost use Prim.Native.Nat.{_-_, _*_, _≤_};
@@ -17,7 +18,7 @@ pub fn count_pages(image: &[u8], pages: usize) -> usize
     let mut n = 0;
     let mut p = 1;
     while p < pages {
-        if image[4096 * p + 4080] == 1 {
+        if image[Settings::PAGE * p + Settings::CAPACITY] == 1 {
             n += 1;
         }
         p += 1;
@@ -34,7 +35,7 @@ fn put_pages(image: &[u8], pages: usize, buffer: &mut [u8])
     let mut at = 0;
     let mut p = 1;
     while p < pages {
-        if image[4096 * p + 4080] == 1 {
+        if image[Settings::PAGE * p + Settings::CAPACITY] == 1 {
             put16(buffer, at, p);
             at += 2;
         }
@@ -48,7 +49,7 @@ pub fn records_of(image: &[u8], buffer: &mut [u8]) -> WriteAnswer
     ensures { λ r. ⌜ r ≡ recordsOf (upPages (now (image .entry))) (now (image .entry)) (now (buffer .entry)) .0 ⌝ }
     ensures { λ _. ⌜ now (buffer .exit) ≡ recordsOf (upPages (now (image .entry))) (now (image .entry)) (now (buffer .entry)) .1 ⌝ }
 {
-    let pages = image.len() / 4096;
+    let pages = image.len() / Settings::PAGE;
     let n = count_pages(image, pages);
     if buffer.len() < 2 * n {
         return WriteAnswer {

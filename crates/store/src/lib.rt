@@ -30,7 +30,7 @@ pub fn check(image: &[u8]) -> u32
 }
 
 // The check, for calls that count the nodes of rows: it leaves in a table how many nodes the record on each page shows.
-fn check_widths(image: &[u8], widths: &mut [u32; 1024]) -> u32
+fn check_widths(image: &[u8], widths: &mut [u32; Settings::PAGES]) -> u32
     requires { ⌜ length (now widths) ≡ mostPages ⌝ }
     ensures { λ r. ⌜ (r ≡ checkOf (now (image .entry))) × (r ≡ 0 → Widths (now (image .entry)) (now (widths .exit))) ⌝ }
 {
@@ -49,7 +49,7 @@ pub fn insert(
     ensures answer { λ r. ⌜ r ≡ insertOf (now (image .entry)) (now (path .entry)) child kind label (now (content .entry)) .0 ⌝ }
     ensures image { λ _. ⌜ now (image .exit) ≡ insertOf (now (image .entry)) (now (path .entry)) child kind label (now (content .entry)) .1 ⌝ }
 {
-    let mut widths = [0u32; 1024];
+    let mut widths = [0u32; Settings::PAGES];
     let n = check_widths(image, &mut widths);
     if n != 0 {
         return InsertAnswer {
@@ -66,7 +66,7 @@ pub fn insert(
 pub fn find(image: &[u8], path: &[u8]) -> FindAnswer
     ensures { λ r. ⌜ r ≡ findOf (now (image .entry)) (now (path .entry)) ⌝ }
 {
-    let mut widths = [0u32; 1024];
+    let mut widths = [0u32; Settings::PAGES];
     let n = check_widths(image, &mut widths);
     if n != 0 {
         return FindAnswer {
@@ -82,7 +82,7 @@ pub fn climb(image: &[u8], place: Place, buffer: &mut [u8]) -> WriteAnswer
     ensures answer { λ r. ⌜ r ≡ climbOf (now (image .entry)) place (now (buffer .entry)) .0 ⌝ }
     ensures buffer { λ _. ⌜ now (buffer .exit) ≡ climbOf (now (image .entry)) place (now (buffer .entry)) .1 ⌝ }
 {
-    let mut widths = [0u32; 1024];
+    let mut widths = [0u32; Settings::PAGES];
     let n = check_widths(image, &mut widths);
     if n != 0 {
         return WriteAnswer {
@@ -97,7 +97,7 @@ pub fn climb(image: &[u8], place: Place, buffer: &mut [u8]) -> WriteAnswer
 pub fn read_node(image: &[u8], place: Place) -> ReadNode
     ensures { λ r. ⌜ r ≡ readOf (now (image .entry)) place ⌝ }
 {
-    let mut widths = [0u32; 1024];
+    let mut widths = [0u32; Settings::PAGES];
     let n = check_widths(image, &mut widths);
     if n != 0 {
         return ReadNode {
