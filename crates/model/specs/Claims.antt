@@ -8,14 +8,20 @@ use Prim.Native.Nat.{ℕ, _+_, _≤_, _<_, max}
 use lib.ListN.{length, drop}
 use lib.IntN.{ℤ, pos, negsuc, subℕ}
 use Rattle.model.specs.Limits.{capacity}
-use Rattle.model.specs.Row.{Row, store, size, lone, Held, records, recordSize, Config, every, isByte, inRange, headFits, fits, height, valid}
+use Rattle.model.specs.Row.{Row, store, size, base, lone, Held, records, recordSize, Config, every, isByte, inRange, headFits, fits, height, valid}
 use Rattle.model.specs.Tree.{Tree, shown, Node, nodes, named, New, insertAt, placeOf}
 use Rattle.model.specs.Growth.{Work, splitPoint, startOfD, rootRow, separator}
 use Rattle.model.specs.Reading.{Reads, lengthOk, reading}
 use Rattle.model.specs.Answers.{notPassed, wrongLength, noFreePage}
-use Rattle.model.specs.Calls.{pathOf, namedBy, opened, onStore, insertNumber, newOf, grown, checkOf, insertOf, findOf, climbOf, IsOrder}
+use Rattle.model.specs.Common.{pathOf, namedBy, opened, onStore, treeOn}
+use Rattle.model.specs.Effect.{Effect, roomy, feedOf, handedOf}
+use Rattle.model.specs.Calls.Check.{checkOf}
+use Rattle.model.specs.Calls.Insert.{insertNumber, grown}
+use Rattle.model.specs.Calls.Find.{findOf}
+use Rattle.model.specs.Calls.Climb.{climbOf}
+use Rattle.model.specs.Calls.Records.{IsOrder}
+use Rattle.model.specs.Calls.{Call}
 use Rattle.model.specs.declared.Place.{Place}
-use Rattle.model.specs.Plain.{Call, format, insert, ask, Typed, answerOf, imageAfter, growthOn, feedOf, handedOf, plainAnswer, plainAfter}
 
 -- ── one reading ──
 
@@ -37,9 +43,10 @@ abbrev pub InLean : ℤ → Type 0
 InLean (pos n) = n ≤ 132
 InLean (negsuc n) = n < 525
 
--- A split of a record r: the separator is at most 506 bytes, each record that it holds at most 4,080, and the lean is in range.
+-- A split of a record r: the separator with its root's header is at most 506 bytes (`base`: that of a helper root, which is dropped from the row), each record
+-- that it holds at most 4,080, and the lean is in range.
 pub record SplitHolds (st : Config) (near : ℕ) (r : Row) (w : Work) : Type 0 where
-  pub separated : size (separator st near r w .0) ≤ 506
+  pub separated : base r + size (separator st near r w .0) ≤ 506
   pub records : largest (records near (separator st near r w .0)) ≤ capacity
   pub lean : InLean (subℕ (startOfD st r) (splitPoint st (recordSize r)))
 
@@ -81,46 +88,43 @@ Growth = (st : Config) (root : Row) (path : List ℕ) (k : ℕ) (x : New) → va
 abbrev pub largestOn : (img : List ℕ) → ℕ
 largestOn img = onStore (opened img) (λ n. 0) (λ st root. largest (records 0 (store root)))
 
-abbrev pub treeOn : (img : List ℕ) → Option Tree
-treeOn img = onStore (opened img) (λ n. none) (λ st root. some (shown root))
-
 -- Find then climb gives the path back, byte for byte, into any buffer at least as long.
 pub record ClimbsBack (img path buffer : List ℕ) : Type 0 where
   pub found : findOf img path .number ≡ 0
   pub back : climbOf img (findOf img path .place) buffer ≡ (record { number = 0; written = length path }, path ++ drop (length path) buffer)
 
 -- What holds of the image and the plain tree between calls.
-pub record Stands (img : List ℕ) (t : Tree) : Type 0 where
+pub record Matches (img : List ℕ) (t : Tree) : Type 0 where
   pub passes : checkOf img ≡ 0
   pub shows : treeOn img ≡ some t
   pub fits : largestOn img ≤ capacity
-  pub climbs : (path buffer : List ℕ) (n : Node) → every isByte path ≡ true → namedBy t path ≡ some n → length path ≤ length buffer → ClimbsBack img path buffer
+  pub climbs : (path buffer : List ℕ) (n : Node) → every isByte path ≡ true → namedBy t path ≡ some n → length path ≤ length buffer
+      → ClimbsBack img path buffer
 
--- 12 comes exactly when, with no lower refusal, growth takes a page and none is free.
-abbrev pub FullExactly : (img : List ℕ) → Tree → Call → Type 0
-FullExactly img t (format s m label) = Unit {0}
-FullExactly img t (insert path child kind label content) =
-    (insertOf img path child kind label content .0 .number ≡ noFreePage)
-    ↔ ((insertNumber t path child (newOf kind label content) false ≡ 0) × (growthOn img (insert path child kind label content) .full ≡ true))
-FullExactly img t (ask q) = Unit {0}
+module _ (order : (img buffer : List ℕ) → List ℕ) where
+  -- What holds of one call in a list. `full`: 12 comes exactly when, with no lower refusal, growth takes a page and none is free.
+  pub record CallHolds (img : List ℕ) (t : Tree) (c : Effect) : Type 0 where
+    pub answer : c .onImage img .0 ≡ c .onTree (feedOf img c) (handedOf order img c) t .0
+    pub full : (c .number (c .onImage img .0) ≡ noFreePage)
+        ↔ ((c .number (c .onTree (roomy (feedOf img c)) (handedOf order img c) t .0) ≡ 0) × (feedOf img c .full ≡ true))
+    pub after : Matches (c .onImage img .1) (c .onTree (feedOf img c) (handedOf order img c) t .1)
 
--- What holds of one call in a list.
-pub record Step (order : (img buffer : List ℕ) → List ℕ) (img : List ℕ) (t : Tree) (c : Call) : Type 0 where
-  pub answer : answerOf order img c ≡ plainAnswer (feedOf img c) (handedOf order img c) t c
-  pub full : FullExactly img t c
-  pub after : Stands (imageAfter img c) (plainAfter (feedOf img c) t c)
+  -- A list of calls, whose arguments are of their types.
+  abbrev pub Calls : Type 1
+  Calls = List ((c : Effect) × (Call order c × c .Typed))
 
--- And of each call of a list, one after the other.
-abbrev pub Agrees : (order : (img buffer : List ℕ) → List ℕ) → (img : List ℕ) → Tree → List Call → Type 0
-Agrees order img t [] = Unit {0}
-Agrees order img t (c ∷ cs) = Step order img t c × Agrees order (imageAfter img c) (plainAfter (feedOf img c) t c) cs
+  -- What holds of each call of a list, one after the other.
+  abbrev pub Agrees : (img : List ℕ) → Tree → Calls → Type 0
+  Agrees img t [] = Unit {0}
+  Agrees img t (x ∷ xs) =
+      let c = x .0 in
+      CallHolds img t c × Agrees (c .onImage img .1) (c .onTree (feedOf img c) (handedOf order img c) t .1) xs
 
-abbrev pub AllTyped : List Call → Type 0
-AllTyped [] = Unit {0}
-AllTyped (c ∷ cs) = Typed c × AllTyped cs
+-- The pages that Records writes are those of the image's records, each one time.
+abbrev pub Orders : (order : (img buffer : List ℕ) → List ℕ) → Type 0
+Orders order = (img buffer : List ℕ) (st : Config) (root : Row) → Reads img st root → IsOrder root (order img buffer)
 
--- Demand 3, whole: on any image that passes the check, for every list of calls and every order of Records.
-abbrev pub Demand3 : Type 0
-Demand3 = (order : (img buffer : List ℕ) → List ℕ) → ((img buffer : List ℕ) (st : Config) (root : Row) → Reads img st root → IsOrder root (order img buffer))
-    → (img : List ℕ) → checkOf img ≡ 0 → (calls : List Call) → AllTyped calls
-    → (t : Tree) × Stands img t × Agrees order img t calls
+-- Demand 3, whole: on any image that passes the check, for every list of calls, with any order of Records.
+abbrev pub Demand3 : Type 1
+Demand3 = (order : (img buffer : List ℕ) → List ℕ) → Orders order → (img : List ℕ) → checkOf img ≡ 0 → (calls : Calls order)
+    → (t : Tree) × Matches img t × Agrees order img t calls

@@ -4,6 +4,7 @@ pub mod Tree
 pub mod Growth
 pub mod Reading
 pub mod Answers
+pub mod Common
+pub mod Effect
 pub mod Calls
-pub mod Plain
 pub mod Claims

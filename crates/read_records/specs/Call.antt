@@ -11,7 +11,7 @@ use Rattle.model.specs.declared.WriteAnswer.{WriteAnswer}
 use Rattle.base_numbers.specs.Over.{over, over-front}
 use Rattle.theory_decoding.specs.Reading.{reads-valid, reads-length}
 use Rattle.theory_calls.specs.Open.{passing}
-use Rattle.theory_calls.specs.Query.{length-pageBytes}
+use Rattle.theory_calls.specs.Records.{length-pageBytes}
 use Rattle.theory_calls.specs.Navigate.{records-write, records-short}
 use Rattle.read_records.specs.Up.{left, few-up, upPages}
 

@@ -7,7 +7,7 @@ use lib.ListN.{length}
 use Rattle.model.specs.Row.{two}
 use Rattle.model.specs.Calls.{pageBytes}
 use Rattle.base_numbers.specs.Over.{over, over-next, over-nil, length-over}
-use Rattle.theory_calls.specs.Query.{length-pageBytes}
+use Rattle.theory_calls.specs.Records.{length-pageBytes}
 use Rattle.theory_places.specs.Marks.{mark}
 use Rattle.read_records.specs.Up.{left, is-up, not-up, none-left}
 

@@ -1,7 +1,7 @@
 -- Insert in a list of calls.
 use mathlib.Core.Path.{_≡_, refl, sym, ap, subst, _∙_}
 use mathlib.Core.Logic.{_↔_}
-use mathlib.Core.Bool.{Bool, true, false, cond, false≢true}
+use mathlib.Core.Bool.{Bool, true, false, cond}
 use mathlib.Core.List.{List, [], _∷_, _++_}
 use Prim.Native.Nat.{ℕ, _+_, _≤_}
 use native.Mathlib.Omega.{arith}
@@ -13,10 +13,10 @@ use Rattle.model.specs.Row.{Row, Config, image}
 use Rattle.model.specs.Tree.{Tree, shown, New, insertAt, placeOf}
 use Rattle.model.specs.Growth.{Work, Out}
 use Rattle.model.specs.Reading.{Reads}
-use Rattle.model.specs.Answers.{lowest, insertRefused}
-use Rattle.model.specs.Calls.{accept, pathOf, placeOr, namedBy, kindBad, isNone, isLiteral, childrenBelow, insertNumber, newOf, grown, insertOf}
-use Rattle.model.specs.Plain.{insert, Typed, inserted, growthOn, placesOn}
-use Rattle.model.specs.Claims.{Stands, FullExactly, Step}
+use Rattle.model.specs.Answers.{insertRefused}
+use Rattle.model.specs.Common.{accept, pathOf, placeOr, namedBy, isNone, placesOn}
+use Rattle.model.specs.Claims.{Matches, CallHolds}
+use Rattle.model.specs.Calls.Insert.{kindBad, isLiteral, childrenBelow, insertNumber, newOf, grown, insertOf, insertWork, insertCall}
 use Rattle.model.specs.declared.InsertAnswer.{InsertAnswer}
 use Rattle.theory_rows.specs.Laws.{shown-grow}
 use Rattle.theory_rows.specs.Store.{NewFits, valid-grow}
@@ -24,21 +24,38 @@ use Rattle.theory_decoding.specs.Valid.{bytes-say, valid-holds}
 use Rattle.theory_decoding.specs.Reading.{reads-valid}
 use Rattle.theory_calls.specs.Open.{opens}
 use Rattle.theory_calls.specs.Paths.{path-length}
-use Rattle.theory_calls.specs.Stand.{stands}
+use Rattle.theory_calls.specs.Lowest.{Without, accept-number, lowest-clear, last-unasked, last-false, last-exactly}
+use Rattle.theory_calls.specs.Matches.{image-matches}
 
 -- ── the tests of an insert ──
 
--- 12 is the last test's number and no other's.
-last-test : (a b c d e f g : Bool) → (lowest ((4, a) ∷ (5, b) ∷ (6, c) ∷ (7, d) ∷ (8, e) ∷ (9, f) ∷ (12, g) ∷ []) ≡ 12)
-    ↔ ((lowest ((4, a) ∷ (5, b) ∷ (6, c) ∷ (7, d) ∷ (8, e) ∷ (9, f) ∷ (12, false) ∷ []) ≡ 0) × (g ≡ true))
-last-test true b c d e f g = (λ z. absurd (omega arith), λ z. absurd (omega (arith, z .0)))
-last-test false true c d e f g = (λ z. absurd (omega arith), λ z. absurd (omega (arith, z .0)))
-last-test false false true d e f g = (λ z. absurd (omega arith), λ z. absurd (omega (arith, z .0)))
-last-test false false false true e f g = (λ z. absurd (omega arith), λ z. absurd (omega (arith, z .0)))
-last-test false false false false true f g = (λ z. absurd (omega arith), λ z. absurd (omega (arith, z .0)))
-last-test false false false false false true g = (λ z. absurd (omega arith), λ z. absurd (omega (arith, z .0)))
-last-test false false false false false false true = (λ z. (refl, refl), λ z. refl)
-last-test false false false false false false false = (λ z. absurd (omega arith), λ z. absurd (false≢true (z .1)))
+-- All but the last, which is for a full store.
+abbrev pub insertTests : Tree → (path : List ℕ) → (k : ℕ) → New → List (ℕ × Bool)
+insertTests t path k x =
+    let parent = namedBy t path in
+    (4, ltb longestParent (length path)) ∷ (5, kindBad x) ∷ (6, ltb mostContent (length (x .content)))
+    ∷ (7, isNone parent) ∷ (8, isLiteral parent) ∷ (9, childrenBelow k parent) ∷ []
+
+module _ (t : Tree) (path : List ℕ) (k : ℕ) (x : New) where
+  abbrev tests : List (ℕ × Bool)
+  tests = insertTests t path k x
+
+  -- None has the number 0 or 12.
+  not-0 : Without 0 tests
+  not-0 = (omega arith, (omega arith, (omega arith, (omega arith, (omega arith, (omega arith, tt))))))
+
+  not-12 : Without 12 tests
+  not-12 = (omega arith, (omega arith, (omega arith, (omega arith, (omega arith, (omega arith, tt))))))
+
+  -- 12 comes exactly where no other test applies and the store is full.
+  pub full-last : (full : Bool) → (insertNumber t path k x full ≡ 12) ↔ ((insertNumber t path k x false ≡ 0) × (full ≡ true))
+  unfolding insertNumber
+  full-last full = last-exactly tests 12 full not-0 not-12 (omega arith)
+
+  -- Where another applies it does not matter.
+  pub full-unasked : (full : Bool) → (insertNumber t path k x false ≡ 0 → ⊥) → insertNumber t path k x false ≡ insertNumber t path k x full
+  unfolding insertNumber
+  full-unasked full z = let e = last-false tests 12 in e ∙ sym (last-unasked tests 12 full (λ y. z (e ∙ y)))
 
 -- No test of an accepted insert applies.
 pub record Accepted (t : Tree) (path : List ℕ) (k : ℕ) (x : New) (full : Bool) : Type 0 where
@@ -50,28 +67,25 @@ pub record Accepted (t : Tree) (path : List ℕ) (k : ℕ) (x : New) (full : Boo
   pub within : childrenBelow k (namedBy t path) ≡ false
   pub room : full ≡ false
 
-no-test : (a b c d e f g : Bool) → lowest ((4, a) ∷ (5, b) ∷ (6, c) ∷ (7, d) ∷ (8, e) ∷ (9, f) ∷ (12, g) ∷ []) ≡ 0
-    → (a ≡ false) × (b ≡ false) × (c ≡ false) × (d ≡ false) × (e ≡ false) × (f ≡ false) × (g ≡ false)
-no-test true b c d e f g z = absurd (omega arith)
-no-test false true c d e f g z = absurd (omega arith)
-no-test false false true d e f g z = absurd (omega arith)
-no-test false false false true e f g z = absurd (omega arith)
-no-test false false false false true f g z = absurd (omega arith)
-no-test false false false false false true g z = absurd (omega arith)
-no-test false false false false false false true z = absurd (omega arith)
-no-test false false false false false false false z = (refl, refl, refl, refl, refl, refl, refl)
-
 pub accepted : (t : Tree) (path : List ℕ) (k : ℕ) (x : New) (full : Bool) → insertNumber t path k x full ≡ 0 → Accepted t path k x full
 unfolding insertNumber
 accepted t path k x full z =
-    let p = namedBy t path in
-    let u = no-test (ltb longestParent (length path)) (kindBad x) (ltb mostContent (length (x .content))) (isNone p) (isLiteral p) (childrenBelow k p) full z in
-    record { short = ltb-false _ _ (u .0); kind = u .1; small = ltb-false _ _ (u .2); named = u .3; aggregate = u .4; within = u .5; room = u .6 }
+    let u = lowest-clear (insertTests t path k x ++ (12, full) ∷ [])
+    (omega arith, (omega arith, (omega arith, (omega arith, (omega arith, (omega arith, (omega arith, tt))))))) z in
+    record {
+      short = ltb-false _ _ (u .0);
+      kind = u .1 .0;
+      small = ltb-false _ _ (u .1 .1 .0);
+      named = u .1 .1 .1 .0;
+      aggregate = u .1 .1 .1 .1 .0;
+      within = u .1 .1 .1 .1 .1 .0;
+      room = u .1 .1 .1 .1 .1 .1 .0;
+    }
 
 -- ── an insert ──
 
 module _ (order : (img buffer : List ℕ) → List ℕ) (img : List ℕ) (st : Config) (root : Row) (r : Reads img st root)
-    (path : List ℕ) (child kind label : ℕ) (content : List ℕ) (typed : Typed (insert path child kind label content)) where
+    (path : List ℕ) (child kind label : ℕ) (content : List ℕ) (typed : insertCall path child kind label content .Typed) where
   x : New
   x = newOf kind label content
 
@@ -100,7 +114,7 @@ module _ (order : (img buffer : List ℕ) → List ℕ) (img : List ℕ) (st : C
   unfolding insertOf outcome new-answer n o x
   insert-is = rw (opens img st root r)
 
-  growth-is : growthOn img (insert path child kind label content) ≡ o .1
+  growth-is : insertWork img path child x ≡ o .1
   unfolding o x
   growth-is = rw (opens img st root r)
 
@@ -112,21 +126,25 @@ module _ (order : (img buffer : List ℕ) → List ℕ) (img : List ℕ) (st : C
       go true e = sym (eqb-true n 0 e)
       go false e = refl
 
-  full-exactly : FullExactly img (shown root) (insert path child kind label content)
-  unfolding n x insertNumber
-  full-exactly =
-      let p = namedBy (shown root) path in
-      let t = last-test (ltb longestParent (length path)) (kindBad x) (ltb mostContent (length (x .content))) (isNone p) (isLiteral p) (childrenBelow child p) (o .1 .full) in
-      let f = ap (λ (w : Work). w .full) growth-is in
-      (λ z. (t .0 (sym number-is ∙ z) .0, f ∙ t .0 (sym number-is ∙ z) .1), λ z. number-is ∙ t .1 (z .0, sym f ∙ z .1))
-
   -- The plain tree's answer and tree, where growth ended with `w` and left the image `after`.
   plain : (after : List ℕ) → Work → InsertAnswer
   plain after w =
       let k = insertNumber (shown root) path child x (w .full) in
       accept k (record { number = 0; place = placeOr (placesOn after (pathOf path ++ child ∷ [])); splits = w .splits; lean = w .lean }) (insertRefused k)
 
-  same-answer : insertOf img path child kind label content .0 ≡ plain (insertOf img path child kind label content .1) (growthOn img (insert path child kind label content))
+  -- With pages enough its number is that of the tests before the last.
+  roomy-number : (k : ℕ) (a : InsertAnswer) → a .number ≡ 0 → accept k a (insertRefused k) .number ≡ k
+  roomy-number k a e = accept-number (λ (a : InsertAnswer). a .number) k a (insertRefused k) e refl
+
+  full-exactly : (insertOf img path child kind label content .0 .number ≡ 12)
+      ↔ ((insertNumber (shown root) path child x false ≡ 0) × (insertWork img path child x .full ≡ true))
+  unfolding n
+  full-exactly =
+      let t = full-last (shown root) path child x (o .1 .full) in
+      let f = ap (λ (w : Work). w .full) growth-is in
+      (λ z. (t .0 (sym number-is ∙ z) .0, f ∙ t .0 (sym number-is ∙ z) .1), λ z. number-is ∙ t .1 (z .0, sym f ∙ z .1))
+
+  same-answer : insertOf img path child kind label content .0 ≡ plain (insertOf img path child kind label content .1) (insertWork img path child x)
   unfolding outcome new-answer plain n
   same-answer = rw (insert-is, growth-is) (go (eqb n 0) refl)
     where
@@ -135,15 +153,20 @@ module _ (order : (img buffer : List ℕ) → List ℕ) (img : List ℕ) (st : C
       go true e = rw (opens (image st (o .0)) st (o .0) (new-reads (eqb-true n 0 e)))
       go false e = refl
 
-  same-tree : Stands (insertOf img path child kind label content .1)
-      (accept (insertNumber (shown root) path child x (growthOn img (insert path child kind label content) .full)) (insertAt x child 0 (pathOf path) (shown root)) (shown root))
+  same-tree : Matches (insertOf img path child kind label content .1)
+      (accept (insertNumber (shown root) path child x (insertWork img path child x .full)) (insertAt x child 0 (pathOf path) (shown root)) (shown root))
   unfolding outcome n o
   same-tree = rw (insert-is, growth-is) (go (eqb n 0) refl)
     where
-      go : (b : Bool) → eqb n 0 ≡ b → Stands (outcome b .1) (cond b (insertAt x child 0 (pathOf path) (shown root)) (shown root))
-      go true e = subst (Stands (image st (o .0))) (shown-grow st x root (pathOf path) child) (stands (image st (o .0)) st (o .0) (new-reads (eqb-true n 0 e)))
-      go false e = stands img st root r
+      go : (b : Bool) → eqb n 0 ≡ b → Matches (outcome b .1) (cond b (insertAt x child 0 (pathOf path) (shown root)) (shown root))
+      go true e =
+          subst (Matches (image st (o .0))) (shown-grow st x root (pathOf path) child) (image-matches (image st (o .0)) st (o .0) (new-reads (eqb-true n 0 e)))
+      go false e = image-matches img st root r
 
-  pub insert-step : Step order img (shown root) (insert path child kind label content)
+  pub insert-holds : CallHolds order img (shown root) (insertCall path child kind label content)
   unfolding plain x
-  insert-step = record { answer = ap inserted same-answer; full = full-exactly; after = same-tree }
+  insert-holds = record {
+    answer = same-answer;
+    full = (λ z. let f = full-exactly .0 z in (roomy-number _ _ refl ∙ f .0, f .1), λ z. full-exactly .1 (sym (roomy-number _ _ refl) ∙ z .0, z .1));
+    after = same-tree;
+  }

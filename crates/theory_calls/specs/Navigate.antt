@@ -25,7 +25,7 @@ use Rattle.theory_places.specs.Named.{in-place}
 use Rattle.theory_places.specs.From.{from-none, from-stands, from-split, from-found, places-differ}
 use Rattle.theory_places.specs.Pages.{pages-count, pages-once}
 use Rattle.theory_calls.specs.Open.{opens}
-use Rattle.theory_calls.specs.Query.{length-pageBytes}
+use Rattle.theory_calls.specs.Records.{length-pageBytes}
 
 -- No node of the tree that a root record shows stands at x.
 abbrev pub NoNode : Row → Place → Type 0

@@ -9,7 +9,7 @@ use lib.ListN.{length}
 use lib.IntN.{subℕ}
 use lib.Dec.{ltb, T}
 use Rattle.model.specs.Limits.{capacity, mostContent, mostNode}
-use Rattle.model.specs.Row.{Row, nil, agg, lit, rec, _⊹_, size, isNil, lone, loneRec, base, recordSize, Config}
+use Rattle.model.specs.Row.{Row, base, nil, agg, lit, rec, _⊹_, size, isNil, lone, loneRec, base, recordSize, Config}
 use Rattle.theory_rows.specs.Fits.{Ranges, Fits, Shape, one, more}
 use Rattle.model.specs.Growth.{Work, Out, group, twoGroups, separate, goOn, stops, startOf, startOfD, rootRow, withRow, splitPoint, separator}
 use Rattle.model.specs.Claims.{InLean}
@@ -339,5 +339,23 @@ module _ (st : Config) (k : Ranges st) (near : ℕ) where
             some = refl;
             lean = row-lean cs w S whole (f .1) over most deep;
           }
+      go true (lit l c rest) e f over most deep = absurd (omega (arith, ap size (isNil-nil rest e), f .1))
+      go true (rec q s x rest) e f over most deep = absurd (false≢true e)
+
+  -- The separator with its root's header, also a helper's, which is dropped.
+  pub split-whole : (r : Row) (w : Work) → Fits r → capacity < recordSize r → recordSize r ≤ (capacity + mostNode) → depth (rootRow st (lone r) r) ≤ 23
+      → base r + size (separator st near r w .0) ≤ 506
+  unfolding separator
+  split-whole r w f = go (lone r) r refl f
+    where
+      go : (b : Bool) (r : Row) → lone r ≡ b → Fits r → capacity < cond b 0 6 + size r → cond b 0 6 + size r ≤ (capacity + mostNode) → depth (rootRow st b r) ≤ 23
+          → cond b 0 6 + size (withRow st b r (separate st near (splitPoint st (cond b 0 6 + size r)) 6 nil (rootRow st b r) w .0)) ≤ 506
+      go false r e f over most deep = omega (arith, row-size r w (6 + size r) refl f over most deep)
+      go true nil e f over most deep = absurd (omega arith)
+      go true (agg l cs rest) e f over most deep =
+          let z = ap size (isNil-nil rest e) in
+          let S = 0 + (6 + size cs + size rest) in
+          let whole : 6 + size cs ≡ S = omega arith in
+          omega (arith, row-size cs w S whole (f .1) over most deep)
       go true (lit l c rest) e f over most deep = absurd (omega (arith, ap size (isNil-nil rest e), f .1))
       go true (rec q s x rest) e f over most deep = absurd (false≢true e)

@@ -1,19 +1,23 @@
--- The calls that change nothing answer as the plain tree does.
-use mathlib.Core.Path.{_≡_, refl, ap, _∙_}
+-- Read in a list of calls.
+use mathlib.Core.Path.{_≡_, refl, sym, ap, _∙_}
 use mathlib.Core.Bool.{Bool, true, false, cond}
-use mathlib.Core.List.{List, [], _∷_}
 use mathlib.Core.Option.{some}
-use Prim.Native.Nat.{ℕ, _+_, _*_}
-use native.Mathlib.Omega.{arith}
+use Prim.Native.Nat.{_+_, _*_}
 use borrow.Author.Tests.{eqb-true, eqb-false}
 use lib.ListN.{length, take, drop}
 use lib.Dec.{eqb}
-use Rattle.model.specs.Limits.{pageSize}
+use mathlib.Core.List.{List, [], _∷_}
+use Prim.Native.Nat.{ℕ}
+use native.Mathlib.Omega.{arith}
 use Rattle.model.specs.Row.{Row, Config}
-use Rattle.model.specs.Tree.{shown, Node, nodes, placeOf, fromPlace}
+use Rattle.model.specs.Tree.{shown}
 use Rattle.model.specs.Reading.{Reads}
-use Rattle.model.specs.Calls.{pageBytes, ReadValue, readIn, readFrom, asRead, findOf, climbOf, readOf, nextOf, recordPages, IsOrder, recordsOf}
-use Rattle.model.specs.Plain.{Query, check, find, climb, read, next, records, ask, checked, seen, listed, valueOf, queried, feedOf, handedOf, plainRecords, plainQuery}
+use Rattle.model.specs.Claims.{CallHolds}
+use Rattle.theory_calls.specs.Open.{opens}
+use Rattle.theory_calls.specs.Asking.{asked}
+use Rattle.model.specs.Limits.{pageSize}
+use Rattle.model.specs.Tree.{Node, nodes, placeOf, fromPlace}
+use Rattle.model.specs.Calls.Read.{ReadValue, readFrom, readIn, asRead, readOf, valueOf, readCall}
 use Rattle.model.specs.declared.Place.{Place}
 use Rattle.theory_decoding.specs.Reading.{reads-valid}
 use Rattle.theory_places.specs.Member.{Mem}
@@ -21,8 +25,7 @@ use Rattle.theory_places.specs.Order.{one-root}
 use Rattle.theory_places.specs.Named.{in-tree}
 use Rattle.theory_places.specs.From.{from-stands}
 use Rattle.theory_places.specs.Content.{content-at}
-use Rattle.theory_calls.specs.Open.{opens, passes}
-use Rattle.theory_calls.specs.Pieces.{literal-content, same-length}
+use Rattle.theory_calls.specs.Pieces.{literal-content}
 
 -- ── the content that Read hands over ──
 
@@ -57,27 +60,22 @@ module _ (img : List ℕ) (st : Config) (root : Row) (r : Reads img st root) (x 
           let m = from-stands (placeOf root) x (nodes (shown root)) ns n e in
           λ i. record { number = 0; kind = n .kind; label = n .head .label; children = n .children; content = part n (m .0) (m .1) i }
 
--- ── the pages that Records writes ──
+module _ (order : (img buffer : List ℕ) → List ℕ) (img : List ℕ) (st : Config) (root : Row) (r : Reads img st root) where
+  module _ (x : Place) where
+    told : valueOf img (readOf img x) ≡ readIn (shown root) (placeOf root) x
+    unfolding readOf
+    told = rw (opens img st root r) (same-value img st root r x)
 
-pub length-pageBytes : (ps : List ℕ) → length (pageBytes ps) ≡ 2 * length ps
-length-pageBytes [] = refl
-length-pageBytes (p ∷ ps) = omega (arith, length-pageBytes ps)
+    -- 12 is none of its numbers.
+    never-full : valueOf img (readOf img x) .number ≡ 12 → ⊥
+    unfolding readIn
+    never-full z = go (fromPlace (placeOf root) x (nodes (shown root))) (sym (ap (λ (a : ReadValue). a .number) told) ∙ z)
+      where
+        go : (ns : List Node) → readFrom (shown root) (placeOf root) ns .number ≡ 12 → ⊥
+        go [] e = omega arith
+        go (n ∷ ns) e = omega arith
 
-module _ (order : (img buffer : List ℕ) → List ℕ) (img : List ℕ) (st : Config) (root : Row) (r : Reads img st root)
-    (o : (buffer : List ℕ) → IsOrder root (order img buffer)) where
-  same-records : (buffer : List ℕ) → recordsOf (order img buffer) img buffer ≡ plainRecords (length (recordPages root)) (order img buffer) buffer
-  unfolding recordsOf
-  same-records buffer =
-      let n : length (pageBytes (order img buffer)) ≡ 2 * length (recordPages root)
-      = length-pageBytes (order img buffer) ∙ ap (λ (k : ℕ). 2 * k) (same-length (order img buffer) (recordPages root) (o buffer)) in
-      rw (opens img st root r, n)
-
-  -- The answer to a query is the plain tree's.
-  pub same-query : (q : Query) → queried order img q ≡ plainQuery (feedOf img (ask q)) (handedOf order img (ask q)) (shown root) q
-  unfolding findOf climbOf readOf nextOf
-  same-query check = ap checked (passes img st root r)
-  same-query (find path) = rw (opens img st root r)
-  same-query (climb x buffer) = rw (opens img st root r)
-  same-query (read x) = rw (opens img st root r) (ap seen (same-value img st root r x))
-  same-query (next x) = rw (opens img st root r)
-  same-query (records buffer) = rw (opens img st root r) (ap listed (same-records buffer))
+    pub read-holds : CallHolds order img (shown root) (readCall x)
+    unfolding readOf
+    read-holds =
+        asked order img st root r ReadValue (λ a. a .number) (λ i. valueOf i (readOf i x)) _ (rw (opens img st root r) (same-value img st root r x)) never-full

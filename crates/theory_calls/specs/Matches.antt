@@ -12,7 +12,7 @@ use Rattle.model.specs.Row.{Row, store, Held, records, Config, every, isByte}
 use Rattle.model.specs.Tree.{shown, Node, named, placeOf}
 use Rattle.model.specs.Reading.{Reads}
 use Rattle.model.specs.Calls.{entries, namedIf, placeOr, pathBytes, findIn, climbIn, findOf, climbOf}
-use Rattle.model.specs.Claims.{largest, ClimbsBack, Stands}
+use Rattle.model.specs.Claims.{largest, ClimbsBack, Matches}
 use Rattle.model.specs.declared.Place.{Place}
 use Rattle.theory_rows.specs.Image.{AllFit, fits-records}
 use Rattle.theory_rows.specs.Keeps.{levels, height-shown}
@@ -51,8 +51,8 @@ module _ (img : List ℕ) (st : Config) (root : Row) (r : Reads img st root) whe
         let y : findOf img path .place ≡ x .0 = ap (λ z. z .place) finds ∙ ap placeOr (x .1) in
         record { found = ap (λ z. z .number) finds; back = rw y (climbs (x .0) (x .1)) }
 
-  pub stands : Stands img (shown root)
-  stands = record {
+  pub image-matches : Matches img (shown root)
+  image-matches = record {
     passes = passes img st root r;
     shows = rw (opens img st root r);
     fits = rw (opens img st root r) (largest-fits (records 0 (store root)) (fits-records 0 (store root) (reads-valid img st root r .rows)));

@@ -1,0 +1,42 @@
+-- Records in a list of calls.
+use mathlib.Core.Path.{_≡_, refl, sym, ap, _∙_}
+use mathlib.Core.Bool.{cond}
+use Prim.Native.Nat.{_+_, _*_}
+use lib.ListN.{length}
+use lib.Dec.{ltb}
+use mathlib.Core.List.{List, [], _∷_}
+use Prim.Native.Nat.{ℕ}
+use native.Mathlib.Omega.{arith}
+use Rattle.model.specs.Row.{Row, Config}
+use Rattle.model.specs.Tree.{shown}
+use Rattle.model.specs.Reading.{Reads}
+use Rattle.model.specs.Claims.{CallHolds}
+use Rattle.theory_calls.specs.Open.{opens}
+use Rattle.theory_calls.specs.Asking.{asked}
+use Rattle.model.specs.Common.{recordPages, write}
+use Rattle.model.specs.Claims.{Orders}
+use Rattle.model.specs.Calls.Records.{pageBytes, IsOrder, recordsOf, plainRecords, recordsCall}
+use Rattle.model.specs.declared.WriteAnswer.{WriteAnswer}
+use Rattle.theory_calls.specs.Lowest.{write-number}
+use Rattle.theory_calls.specs.Pieces.{same-length}
+
+pub length-pageBytes : (ps : List ℕ) → length (pageBytes ps) ≡ 2 * length ps
+length-pageBytes [] = refl
+length-pageBytes (p ∷ ps) = omega (arith, length-pageBytes ps)
+
+module _ (order : (img buffer : List ℕ) → List ℕ) (o : Orders order) (img : List ℕ) (st : Config) (root : Row) (r : Reads img st root) (buffer : List ℕ) where
+  abbrev pages : List ℕ
+  pages = order img buffer
+
+  many : length (pageBytes pages) ≡ 2 * length (recordPages root)
+  many = length-pageBytes pages ∙ ap (λ (k : ℕ). 2 * k) (same-length pages (recordPages root) (o img buffer st root r))
+
+  -- 12 is none of its numbers.
+  never-full : recordsOf pages img buffer .0 .number ≡ 12 → ⊥
+  unfolding recordsOf
+  never-full z = omega (arith, write-number (pageBytes pages) buffer, rw (opens img st root r) at z)
+
+  pub records-holds : CallHolds order img (shown root) (recordsCall order buffer)
+  unfolding recordsOf
+  records-holds =
+      asked order img st root r (WriteAnswer × List ℕ) (λ a. a .0 .number) (λ i. recordsOf (order i buffer) i buffer) _ (rw (opens img st root r, many)) never-full
