@@ -36,7 +36,7 @@ use Rattle.theory_places.specs.Pages.{pages-few}
 use Rattle.theory_calls.specs.Open.{opens, passing, refuses}
 use Rattle.theory_calls.specs.Paths.{path-levels}
 use Rattle.theory_calls.specs.Pieces.{same-length}
-use Rattle.theory_calls.specs.Query.{length-pageBytes}
+use Rattle.theory_calls.specs.Records.{length-pageBytes}
 use Rattle.read_records.specs.Up.{upPages}
 use Rattle.read_records.specs.Order.{up-order}
 use Rattle.store.specs.Part.{part-inside}

@@ -1,3 +1,4 @@
+pub mod Demand
 pub mod Refused
 pub mod Part
 pub mod Widths
