@@ -15,7 +15,7 @@ use Rattle.model.specs.Growth.{Work, Out, onRow, separator, counted, freed, kep
 use Rattle.model.specs.declared.Place.{Place}
 use Rattle.theory_rows.specs.Fits.{Fits}
 use Rattle.theory_rows.specs.Laws.{cond-case}
-use Rattle.theory_insert_point.specs.Chain.{Spot, fill, Chain, top, below, lastPage, lastSettled, whole, rise}
+use Rattle.theory_insert_point.specs.Chain.{Spot, fill, Chain, top, below, lastPage, lastSettled, rise}
 use Rattle.theory_moves.specs.Stands.{Bare, bare-width, bare-place, Inner, inner-place, inner-rec, inner-left}
 use Rattle.theory_moves.specs.Moved.{both-case, movedRecord, separator-bare, separator-inner}
 use Rattle.theory_moves.specs.Way.{up, upward, inner-spot}
@@ -90,10 +90,6 @@ module _ (st : Config) where
   abbrev pub Rooted : Chain → Row → Type 0
   Rooted top r = lone r ≡ true
   Rooted (below c s q b rest) r = Unit {0}
-
-  rooted : (c : Chain) (r : Row) → lone (whole c r) ≡ true → Rooted c r
-  rooted top r l = l
-  rooted (below c s q b rest) r l = tt
 
   pub rise-grown : (c : Chain) (r : Row) (w : Work) (off i : ℕ) (p : List ℕ) → Rooted c r → Fits r → Bare r off i p
       → placeAt 1 0 (upward c i p .0) (upward c i p .1) (rise st c (r, w) .0) ≡ some (grownPlace c r w off)

@@ -1,52 +1,18 @@
 -- Where a node of a row stands: in the row's own record, without children; or in a record that the row holds.
-use mathlib.Core.Path.{_≡_, refl, ap, ap₂, subst, _∙_}
-use mathlib.Core.Bool.{Bool, true, false, cond}
+use mathlib.Core.Path.{_≡_, refl, ap, subst, _∙_}
+use mathlib.Core.Bool.{Bool, true}
 use mathlib.Core.List.{List, [], _∷_}
 use mathlib.Core.Logic.{_⊎_, inl, inr}
-use mathlib.Core.Option.{some, Option·some-injective, Option·none-ne-some}
+use mathlib.Core.Option.{some}
 use Prim.Native.Nat.{ℕ, zero, suc, _+_, _-_, _<_}
 use native.Mathlib.Omega.{arith}
-use borrow.Author.Tests.{ltb-true, ltb-false, lt-ltb, le-ltb}
+use borrow.Author.Tests.{lt-ltb, le-ltb}
 use lib.ListN.{length}
-use lib.Dec.{ltb}
 use Rattle.model.specs.Row.{Row, nil, agg, lit, rec, _⊹_, size, isNil, base}
 use Rattle.model.specs.Tree.{width, placeAt}
 use Rattle.model.specs.declared.Place.{Place}
 
 -- ── rows joined ──
-
-pub place-left : (page at i : ℕ) (p : List ℕ) (a b : Row) → i < width a → placeAt page at i p (a ⊹ b) ≡ placeAt page at i p a
-unfolding placeAt
-place-left page at i p nil b z = absurd (omega arith)
-place-left page at zero [] (agg h cs rest) b z = refl
-place-left page at zero (j ∷ p) (agg h cs rest) b z = refl
-place-left page at (suc i) p (agg h cs rest) b z = place-left page (at + 6 + size cs) i p rest b (omega arith)
-place-left page at zero [] (lit h c rest) b z = refl
-place-left page at zero (j ∷ p) (lit h c rest) b z = refl
-place-left page at (suc i) p (lit h c rest) b z = place-left page (at + 6 + length c) i p rest b (omega arith)
-place-left page at i p (rec q s r rest) b z =
-    go (ltb i (width r)) refl (λ y. place-left page (at + 8) (i - width r) p rest b y)
-  where
-    go : (u : Bool) → ltb i (width r) ≡ u
-        → (i - width r < width rest → placeAt page (at + 8) (i - width r) p (rest ⊹ b) ≡ placeAt page (at + 8) (i - width r) p rest)
-        → cond u (placeAt q (base r) i p r) (placeAt page (at + 8) (i - width r) p (rest ⊹ b))
-        ≡ cond u (placeAt q (base r) i p r) (placeAt page (at + 8) (i - width r) p rest)
-    go true e f = refl
-    go false e f = f (omega (arith, ltb-false i (width r) e))
-
--- The node with index k of the second row.
-pub place-right : (page at at′ i k : ℕ) (p : List ℕ) (a b : Row) → i ≡ width a + k → at′ ≡ at + size a → placeAt page at i p (a ⊹ b) ≡ placeAt page at′ k p b
-unfolding placeAt
-place-right page at at′ i k p nil b e f =
-    let x : i ≡ k = omega arith in
-    let y : at ≡ at′ = omega arith in
-    ap₂ (λ (n m : ℕ). placeAt page n m p b) y x
-place-right page at at′ zero k p (agg h cs rest) b e f = absurd (omega arith)
-place-right page at at′ (suc i) k p (agg h cs rest) b e f = place-right page (at + 6 + size cs) at′ i k p rest b (omega arith) (omega arith)
-place-right page at at′ zero k p (lit h c rest) b e f = absurd (omega arith)
-place-right page at at′ (suc i) k p (lit h c rest) b e f = place-right page (at + 6 + length c) at′ i k p rest b (omega arith) (omega arith)
-place-right page at at′ i k p (rec q s r rest) b e f =
-    rw (le-ltb i (width r) (omega arith)) (place-right page (at + 8) at′ (i - width r) k p rest b (omega arith) (omega arith))
 
 -- ── a node without children, in the row's own record ──
 
@@ -136,16 +102,6 @@ bare-split (rec q s r rest) b off i p z =
     past-part rest (rec q s r rest) b 8 (width r) (z .0) off (z .1) i p (omega arith) (omega arith) (z .2) (z .3) (λ y. (z .0, z .1, z .2, z .3, y))
     (bare-split rest b (z .0) (z .1) p (z .4))
 
-pub bare-left : (a b : Row) (off i : ℕ) (p : List ℕ) → Bare a off i p → Bare (a ⊹ b) off i p
-bare-left nil b off i p z = absurd z
-bare-left (agg h cs rest) b off zero [] z = z
-bare-left (agg h cs rest) b off zero (j ∷ p) z = z
-bare-left (agg h cs rest) b off (suc i) p z = (z .0, z .1, bare-left rest b (z .0) i p (z .2))
-bare-left (lit h c rest) b off zero [] z = z
-bare-left (lit h c rest) b off zero (j ∷ p) z = z
-bare-left (lit h c rest) b off (suc i) p z = (z .0, z .1, bare-left rest b (z .0) i p (z .2))
-bare-left (rec q s r rest) b off i p z = (z .0, z .1, z .2, z .3, bare-left rest b (z .0) (z .1) p (z .4))
-
 pub bare-right : (a b : Row) (off o i k : ℕ) (p : List ℕ) → off ≡ size a + o → i ≡ width a + k → Bare b o k p → Bare (a ⊹ b) off i p
 bare-right nil b off o i k p e f z =
     let x : o ≡ off = omega arith in
@@ -193,23 +149,6 @@ module _ (x : Place) where
   inner-place (rec q s r rest) i p (inr z) page at =
       let f : i - width r ≡ z .0 = omega (arith, z .1) in
       rw (le-ltb i (width r) (omega (arith, z .1)), f) (inner-place rest (z .0) p (z .2) page (at + 8))
-
-  -- What stands on a page that is not the row's own is inside a record that the row holds.
-  pub place-inner : (g : Row) (i : ℕ) (p : List ℕ) (page at : ℕ) → (page ≡ x .page → ⊥) → placeAt page at i p g ≡ some x → Inner x g i p
-  unfolding placeAt
-  place-inner nil i p page at n e = Option·none-ne-some x e
-  place-inner (agg h cs rest) zero [] page at n e = n (ap (λ (y : Place). y .page) (Option·some-injective _ x e))
-  place-inner (agg h cs rest) zero (j ∷ p) page at n e = place-inner cs j p page (at + 6) n e
-  place-inner (agg h cs rest) (suc i) p page at n e = place-inner rest i p page (at + 6 + size cs) n e
-  place-inner (lit h c rest) zero [] page at n e = n (ap (λ (y : Place). y .page) (Option·some-injective _ x e))
-  place-inner (lit h c rest) zero (j ∷ p) page at n e = Option·none-ne-some x e
-  place-inner (lit h c rest) (suc i) p page at n e = place-inner rest i p page (at + 6 + length c) n e
-  place-inner (rec q s r rest) i p page at n e = go (ltb i (width r)) refl e (place-inner rest (i - width r) p page (at + 8) n)
-    where
-      go : (u : Bool) → ltb i (width r) ≡ u → cond u (placeAt q (base r) i p r) (placeAt page (at + 8) (i - width r) p rest) ≡ some x
-          → (placeAt page (at + 8) (i - width r) p rest ≡ some x → Inner x rest (i - width r) p) → Inner x (rec q s r rest) i p
-      go true m e f = inl (ltb-true i (width r) m, e)
-      go false m e f = inr (i - width r, omega (arith, ltb-false i (width r) m), f e)
 
   -- A record that holds it.
   pub inner-rec : (q : ℕ) (s : Bool) (r rest : Row) (i : ℕ) (p : List ℕ) → Inner x r i p → Inner x (rec q s r rest) i p

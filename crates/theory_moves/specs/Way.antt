@@ -3,17 +3,17 @@ use mathlib.Core.Path.{_≡_, refl, sym, ap, ap₂, _∙_}
 use mathlib.Core.Bool.{Bool, true, false, cond, false≢true}
 use mathlib.Core.List.{List, [], _∷_, _++_}
 use mathlib.Core.Option.{some, Option·some-injective, Option·none-ne-some}
-use Prim.Native.Nat.{ℕ, zero, suc, _+_, _-_, _<_}
+use Prim.Native.Nat.{ℕ, zero, suc, _+_, _-_}
 use native.Mathlib.Omega.{arith}
-use borrow.Author.Tests.{ltb-true, ltb-false, lt-ltb}
+use borrow.Author.Tests.{ltb-true, ltb-false}
 use lib.Dec.{ltb}
-use Rattle.model.specs.Row.{Head, Row, nil, agg, lit, rec, _⊹_, size, lone, base}
-use Rattle.model.specs.Tree.{width, placeAt}
+use Rattle.model.specs.Row.{Head, Row, nil, agg, lit, rec, _⊹_, size, lone}
+use Rattle.model.specs.Tree.{width}
 use Rattle.model.specs.declared.Place.{Place}
 use Rattle.theory_rows.specs.Laws.{width-⊹, isNil-nil}
-use Rattle.theory_insert_point.specs.Chain.{Spot, here, inside, fill, before, past, into, Chain, top, below, lastPage, whole}
+use Rattle.theory_insert_point.specs.Chain.{Spot, here, inside, fill, before, past, into, Chain, top, below}
 use Rattle.theory_insert_point.specs.Taking.{Taking, takingAt, takingAfter, takingChild, takingIn, taking}
-use Rattle.theory_moves.specs.Stands.{place-right, Bare, bare-right, Inner, inner-right}
+use Rattle.theory_moves.specs.Stands.{Bare, bare-right, Inner, inner-right}
 
 -- An index in a row, and the path down from there.
 abbrev pub Way : Type 0
@@ -31,18 +31,6 @@ upward (below c s q b rest) i p = let z = up s i p in upward c (z .0) (z .1)
 
 -- ── in one record ──
 
-pub up-width : (s : Spot) (i : ℕ) (p : List ℕ) (z : Row) → i < width z → up s i p .0 < width (fill s z)
-up-width (here left) i p z k = omega (arith, width-⊹ left z)
-up-width (inside left h rest s) i p z k = omega (arith, width-⊹ left (agg h (fill s z) rest))
-
-pub up-place : (s : Spot) (page at i : ℕ) (p : List ℕ) (z : Row) → placeAt page at (up s i p .0) (up s i p .1) (fill s z) ≡ placeAt page (at + before s) i p z
-unfolding placeAt
-up-place (here left) page at i p z = place-right page at (at + size left) (width left + i) i p left z refl refl
-up-place (inside left h rest s) page at i p z =
-    let e : at + size left + 6 + before s ≡ at + (size left + 6 + before s) = omega arith in
-    place-right page at (at + size left) (width left) 0 (up s i p .0 ∷ up s i p .1) left (agg h (fill s z) rest) (omega arith) refl
-    ∙ up-place s page (at + size left + 6) i p z ∙ ap (λ (n : ℕ). placeAt page n i p z) e
-
 pub bare-spot : (s : Spot) (z : Row) (off i : ℕ) (p : List ℕ) → Bare z off i p → Bare (fill s z) (before s + off) (up s i p .0) (up s i p .1)
 bare-spot (here left) z off i p k = bare-right left z (size left + off) off (width left + i) i p refl refl k
 bare-spot (inside left h rest s) z off i p k =
@@ -55,16 +43,6 @@ inner-spot x (inside left h rest s) z i p k =
     inner-right x left (agg h (fill s z) rest) (width left) 0 (up s i p .0 ∷ up s i p .1) (omega arith) (inner-spot x s z i p k)
 
 -- ── in the root record ──
-
-pub upward-place : (c : Chain) (r : Row) (i : ℕ) (p : List ℕ) → i < width r
-    → placeAt 1 (base (whole c r)) (upward c i p .0) (upward c i p .1) (whole c r) ≡ placeAt (lastPage c) (base r) i p r
-unfolding placeAt
-upward-place top r i p k = refl
-upward-place (below c s q b rest) r i p k =
-    let row = rec q b r rest in
-    let z = up s i p in
-    upward-place c (fill s row) (z .0) (z .1) (up-width s i p row (omega arith))
-    ∙ up-place s (lastPage c) (base (fill s row)) i p row ∙ rw (lt-ltb i (width r) k)
 
 -- ── the way to the taking place ──
 
