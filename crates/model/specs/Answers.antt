@@ -4,7 +4,8 @@ use mathlib.Core.Bool.{Bool, cond}
 use Prim.Native.Nat.{ℕ}
 use lib.ListN.{replicate}
 use lib.IntN.{pos}
-use Rattle.model.specs.Limits.{pageSize, capacity, mostPages, mostLevels, mostContent, mostNode, leastTarget, mostTarget, mostTolerance, theForm, matrixEntries}
+use Rattle.model.specs.Limits.{pageSize, capacity, mostPages, mostLevels, mostContent, mostNode, leastTarget, mostTarget, mostTolerance, theForm}
+use Rattle.model.specs.Limits.{matrixEntries}
 use Rattle.model.specs.Limits.{longestPath, longestParent}
 use Rattle.model.specs.declared.Limits.{Limits}
 use Rattle.model.specs.declared.Settings.{Settings}

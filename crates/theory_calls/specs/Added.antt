@@ -86,14 +86,16 @@ module _ (x : New) (ok : kindBad x ≡ false) where
   new-look : lookAs x (eqb (x .kind) 1) ≡ x
   new-look = go (eqb (x .kind) 1) (eqb (x .kind) 2) (eqb (length (x .content)) 0) refl refl refl ok
     where
-      go : (a b c : Bool) → eqb (x .kind) 1 ≡ a → eqb (x .kind) 2 ≡ b → eqb (length (x .content)) 0 ≡ c → not (a || b) || (a && not c) ≡ false → lookAs x a ≡ x
+      go : (a b c : Bool) → eqb (x .kind) 1 ≡ a → eqb (x .kind) 2 ≡ b → eqb (length (x .content)) 0 ≡ c → not (a || b) || (a && not c) ≡ false
+          → lookAs x a ≡ x
       go true b true p q r e = λ i. record { kind = sym (eqb-true (x .kind) 1 p) i; head = x .head; content = empty (x .content) (eqb-true _ _ r) i }
       go true b false p q r e = absurd (true≢false e)
       go false true c p q r e = λ i. record { kind = sym (eqb-true (x .kind) 2 q) i; head = x .head; content = x .content }
       go false false c p q r e = absurd (true≢false e)
 
   -- What holds of it as a row's first node, whichever it is.
-  new-case : (P : Tree → Type 0) (t : Tree) → (lookAs x true ≡ x → P (branch (x .head) end t)) → (lookAs x false ≡ x → P (leaf (x .head) (x .content) t)) → P (newNode x t)
+  new-case : (P : Tree → Type 0) (t : Tree) → (lookAs x true ≡ x → P (branch (x .head) end t)) → (lookAs x false ≡ x → P (leaf (x .head) (x .content) t))
+      → P (newNode x t)
   new-case P t f g = cond-case P (eqb (x .kind) 1) (λ e. f (rw e at new-look)) (λ e. g (rw e at new-look))
 
   -- ── named ──
@@ -104,11 +106,13 @@ module _ (x : New) (ok : kindBad x ≡ false) where
   put-named (suc k) (branch l cs rest) h = names-map (Added x) (further 1) (nodeAt k [] (putAt x k rest)) (put-named k rest (omega arith))
   put-named (suc k) (leaf l c rest) h = names-map (Added x) (further 1) (nodeAt k [] (putAt x k rest)) (put-named k rest (omega arith))
 
-  pub insert-named : (k i : ℕ) (path : List ℕ) (t : Tree) → Names (Parent k) (nodeAt i path t) → Names (Added x) (nodeAt i (path ++ k ∷ []) (insertAt x k i path t))
+  pub insert-named : (k i : ℕ) (path : List ℕ) (t : Tree) → Names (Parent k) (nodeAt i path t)
+      → Names (Added x) (nodeAt i (path ++ k ∷ []) (insertAt x k i path t))
   insert-named k i path end h = absurd h
   insert-named k zero [] (branch l cs rest) h = names-map (Added x) below (nodeAt k [] (putAt x k cs)) (put-named k cs (h .1))
   insert-named k zero (j ∷ path) (branch l cs rest) h =
-      names-map (Added x) below (nodeAt j (path ++ k ∷ []) (insertAt x k j path cs)) (insert-named k j path cs (names-unmap (Parent k) below (nodeAt j path cs) h))
+      names-map (Added x) below (nodeAt j (path ++ k ∷ []) (insertAt x k j path cs))
+      (insert-named k j path cs (names-unmap (Parent k) below (nodeAt j path cs) h))
   insert-named k (suc i) path (branch l cs rest) h =
       names-map (Added x) (further 1) (nodeAt i (path ++ k ∷ []) (insertAt x k i path rest))
       (insert-named k i path rest (names-unmap (Parent k) (further 1) (nodeAt i path rest) h))

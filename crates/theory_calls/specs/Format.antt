@@ -18,7 +18,8 @@ use Rattle.theory_calls.specs.Lowest.{lowest-clear, lowest-given}
 use Rattle.theory_calls.specs.Matches.{image-matches}
 
 -- A root aggregate alone is a valid store.
-first-reads : (st : Config) (label : ℕ) → inRange st ≡ true → label < 65536 → Reads (image st (agg (rootHead label) nil nil)) st (agg (rootHead label) nil nil)
+first-reads : (st : Config) (label : ℕ) → inRange st ≡ true → label < 65536
+    → Reads (image st (agg (rootHead label) nil nil)) st (agg (rootHead label) nil nil)
 unfolding valid
 first-reads st label e h = record { passes = rw (e, lt-ltb label 65536 h); same = refl }
 

@@ -149,7 +149,8 @@ module _ (order : (img buffer : List ℕ) → List ℕ) (img : List ℕ) (st : C
   same-answer = rw (insert-is, growth-is) (go (eqb n 0) refl)
     where
       go : (b : Bool) → eqb n 0 ≡ b → outcome b .0
-          ≡ cond b (record { number = 0; place = placeOr (placesOn (outcome b .1) (pathOf path ++ child ∷ [])); splits = o .1 .splits; lean = o .1 .lean }) (insertRefused n)
+          ≡ cond b (record { number = 0; place = placeOr (placesOn (outcome b .1) (pathOf path ++ child ∷ [])); splits = o .1 .splits; lean = o .1 .lean })
+          (insertRefused n)
       go true e = rw (opens (image st (o .0)) st (o .0) (new-reads (eqb-true n 0 e)))
       go false e = refl
 
@@ -160,7 +161,8 @@ module _ (order : (img buffer : List ℕ) → List ℕ) (img : List ℕ) (st : C
     where
       go : (b : Bool) → eqb n 0 ≡ b → Matches (outcome b .1) (cond b (insertAt x child 0 (pathOf path) (shown root)) (shown root))
       go true e =
-          subst (Matches (image st (o .0))) (shown-grow st x root (pathOf path) child) (image-matches (image st (o .0)) st (o .0) (new-reads (eqb-true n 0 e)))
+          subst (Matches (image st (o .0))) (shown-grow st x root (pathOf path) child)
+          (image-matches (image st (o .0)) st (o .0) (new-reads (eqb-true n 0 e)))
       go false e = image-matches img st root r
 
   pub insert-holds : CallHolds order img (shown root) (insertCall path child kind label content)

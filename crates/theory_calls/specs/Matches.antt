@@ -28,7 +28,8 @@ largest-fits (h ∷ hs) f = omega (arith, f .0, largest-fits hs (f .1))
 
 module _ (img : List ℕ) (st : Config) (root : Row) (r : Reads img st root) where
   -- A path whose entries name a node.
-  module _ (path buffer p : List ℕ) (n : Node) (e : entries path ≡ some p) (s : Spelled path p) (m : named (shown root) p ≡ some n) (room : length path ≤ length buffer) where
+  module _ (path buffer p : List ℕ) (n : Node) (e : entries path ≡ some p) (s : Spelled path p) (m : named (shown root) p ≡ some n)
+      (room : length path ≤ length buffer) where
     short : length path ≤ longestPath
     short = omega (arith, s .long, path-levels 0 p (shown root) n m, height-shown root, reads-valid img st root r .levels)
 
@@ -59,6 +60,7 @@ module _ (img : List ℕ) (st : Config) (root : Row) (r : Reads img st root) whe
     climbs = λ path buffer n b e room. back path buffer n b room (entries path) refl e;
   }
     where
-      back : (path buffer : List ℕ) (n : Node) → every isByte path ≡ true → length path ≤ length buffer → (o : Option (List ℕ)) → entries path ≡ o → namedIf (shown root) o ≡ some n → ClimbsBack img path buffer
+      back : (path buffer : List ℕ) (n : Node) → every isByte path ≡ true → length path ≤ length buffer → (o : Option (List ℕ)) → entries path ≡ o
+          → namedIf (shown root) o ≡ some n → ClimbsBack img path buffer
       back path buffer n b room none e m = let z : _≡_ {A = ℕ} 0 1 = cc in absurd (omega arith)
       back path buffer n b room (some p) e m = climbs-back path buffer p n e (spelled path p b e) m room

@@ -12,7 +12,8 @@ use Rattle.model.specs.Row.{Row, store, count, Config}
 use Rattle.model.specs.Tree.{Tree, shown, Node, nodes, placeOf, isPlace, fromPlace}
 use Rattle.model.specs.Reading.{Reads}
 use Rattle.model.specs.Answers.{noPlaceThere, shortBuffer, writeRefused, readRefused, nextRefused}
-use Rattle.model.specs.Calls.{placeOr, write, pathBytes, pageBytes, kindOf, climbIn, readIn, nextIn, nextFrom, climbOf, readOf, nextOf, recordPages, times, IsOrder, recordsOf}
+use Rattle.model.specs.Calls.{placeOr, write, pathBytes, pageBytes, kindOf, climbIn, readIn, nextIn, nextFrom, climbOf, readOf, nextOf, recordPages, times}
+use Rattle.model.specs.Calls.{IsOrder, recordsOf}
 use Rattle.model.specs.declared.Place.{Place}
 use Rattle.model.specs.declared.Next.the-variants as next-is
 use Rattle.model.specs.declared.NextAnswer.{NextAnswer}

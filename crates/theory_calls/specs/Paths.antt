@@ -67,7 +67,8 @@ path-length (a ∷ b ∷ []) = omega arith
 path-length (a ∷ b ∷ c ∷ []) = omega arith
 path-length (a ∷ b ∷ c ∷ d ∷ s) = go (entries s) (path-length s)
   where
-    go : (r : Option (List ℕ)) → 4 * length (orEmpty r) ≤ length s → 4 * length (orEmpty (Option·map (λ ns. (a + 256 * b + 65536 * c + 16777216 * d) ∷ ns) r)) ≤ suc (suc (suc (suc (length s))))
+    go : (r : Option (List ℕ)) → 4 * length (orEmpty r) ≤ length s
+        → 4 * length (orEmpty (Option·map (λ ns. (a + 256 * b + 65536 * c + 16777216 * d) ∷ ns) r)) ≤ suc (suc (suc (suc (length s))))
     go none h = omega arith
     go (some ns) h = omega arith
 
@@ -77,18 +78,21 @@ path-levels i path end n e = never e
 path-levels zero [] (branch h cs rest) n e = omega arith
 path-levels zero (j ∷ path) (branch h cs rest) n e = go (nodeAt j path cs) e (path-levels j path cs)
   where
-    go : (r : Option Node) → Option·map below r ≡ some n → ((m : Node) → r ≡ some m → suc (length path) ≤ levels cs) → suc (suc (length path)) ≤ max (1 + levels cs) (levels rest)
+    go : (r : Option Node) → Option·map below r ≡ some n → ((m : Node) → r ≡ some m → suc (length path) ≤ levels cs)
+        → suc (suc (length path)) ≤ max (1 + levels cs) (levels rest)
     go none e f = never e
     go (some m) e f = omega (arith, f m refl)
 path-levels (suc i) path (branch h cs rest) n e = go (nodeAt i path rest) e (path-levels i path rest)
   where
-    go : (r : Option Node) → Option·map (further 1) r ≡ some n → ((m : Node) → r ≡ some m → suc (length path) ≤ levels rest) → suc (length path) ≤ max (1 + levels cs) (levels rest)
+    go : (r : Option Node) → Option·map (further 1) r ≡ some n → ((m : Node) → r ≡ some m → suc (length path) ≤ levels rest)
+        → suc (length path) ≤ max (1 + levels cs) (levels rest)
     go none e f = never e
     go (some m) e f = omega (arith, f m refl)
 path-levels zero [] (leaf h c rest) n e = omega arith
 path-levels zero (j ∷ path) (leaf h c rest) n e = never e
 path-levels (suc i) path (leaf h c rest) n e = go (nodeAt i path rest) e (path-levels i path rest)
   where
-    go : (r : Option Node) → Option·map (further 1) r ≡ some n → ((m : Node) → r ≡ some m → suc (length path) ≤ levels rest) → suc (length path) ≤ max 1 (levels rest)
+    go : (r : Option Node) → Option·map (further 1) r ≡ some n → ((m : Node) → r ≡ some m → suc (length path) ≤ levels rest)
+        → suc (length path) ≤ max 1 (levels rest)
     go none e f = never e
     go (some m) e f = omega (arith, f m refl)

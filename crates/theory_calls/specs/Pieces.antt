@@ -19,7 +19,8 @@ each-plain : (t : Tree) → Each Plain (nodes t)
 each-plain end = tt
 each-plain (branch h cs rest) = (
   λ e. absurd (e refl),
-  each-++ Plain (map below (nodes cs)) (map (further 1) (nodes rest)) (each-map Plain Plain below (nodes cs) (λ n p. p) (each-plain cs)) (each-map Plain Plain (further 1) (nodes rest) (λ n p. p) (each-plain rest)),
+  each-++ Plain (map below (nodes cs)) (map (further 1) (nodes rest)) (each-map Plain Plain below (nodes cs) (λ n p. p) (each-plain cs))
+      (each-map Plain Plain (further 1) (nodes rest) (λ n p. p) (each-plain rest)),
 )
 each-plain (leaf h c rest) = (λ e. refl, each-map Plain Plain (further 1) (nodes rest) (λ n p. p) (each-plain rest))
 
@@ -35,7 +36,8 @@ length-less : (q : ℕ) (ps : List ℕ) → 1 ≤ times q ps → suc (length (le
 length-less q [] h = absurd (omega arith)
 length-less q (p ∷ ps) h = go (eqb q p) h (length-less q ps)
   where
-    go : (b : Bool) → 1 ≤ cond b 1 0 + times q ps → (1 ≤ times q ps → suc (length (less q ps)) ≡ length ps) → suc (length (cond b ps (p ∷ less q ps))) ≡ suc (length ps)
+    go : (b : Bool) → 1 ≤ cond b 1 0 + times q ps → (1 ≤ times q ps → suc (length (less q ps)) ≡ length ps)
+        → suc (length (cond b ps (p ∷ less q ps))) ≡ suc (length ps)
     go true h f = refl
     go false h f = ap suc (f (omega arith))
 

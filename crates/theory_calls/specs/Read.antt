@@ -78,4 +78,5 @@ module _ (order : (img buffer : List ℕ) → List ℕ) (img : List ℕ) (st : C
     pub read-holds : CallHolds order img (shown root) (readCall x)
     unfolding readOf
     read-holds =
-        asked order img st root r ReadValue (λ a. a .number) (λ i. valueOf i (readOf i x)) _ (rw (opens img st root r) (same-value img st root r x)) never-full
+        asked order img st root r ReadValue (λ a. a .number) (λ i. valueOf i (readOf i x)) _ (rw (opens img st root r) (same-value img st root r x))
+        never-full

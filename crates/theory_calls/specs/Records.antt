@@ -39,4 +39,5 @@ module _ (order : (img buffer : List ℕ) → List ℕ) (o : Orders order) (img 
   pub records-holds : CallHolds order img (shown root) (recordsCall order buffer)
   unfolding recordsOf
   records-holds =
-      asked order img st root r (WriteAnswer × List ℕ) (λ a. a .0 .number) (λ i. recordsOf (order i buffer) i buffer) _ (rw (opens img st root r, many)) never-full
+      asked order img st root r (WriteAnswer × List ℕ) (λ a. a .0 .number) (λ i. recordsOf (order i buffer) i buffer) _ (rw (opens img st root r, many))
+      never-full

@@ -26,7 +26,8 @@ module _ (st : Config) where
   pub kept-inner : (x : Place) (q : ℕ) (o : Out) (i : ℕ) (p : List ℕ) → Inner x (o .0) i p → Inner x (kept st q o .0) i p
   unfolding kept
   kept-inner x q o i p z =
-      cond-case (λ (y : Out). Inner x (y .0) i p) (leb (recordSize (o .0)) capacity) (λ _. z) (λ _. separator-inner st q x (o .0) (counted st (o .0) (o .1)) i p z)
+      cond-case (λ (y : Out). Inner x (y .0) i p) (leb (recordSize (o .0)) capacity) (λ _. z)
+      (λ _. separator-inner st q x (o .0) (counted st (o .0) (o .1)) i p z)
 
   pub close-inner : (x : Place) (q : ℕ) (b : Bool) (rest : Row) (o : Out) (i : ℕ) (p : List ℕ) → Inner x (o .0) i p → Inner x (close st q b rest o .0) i p
   unfolding close
@@ -68,12 +69,14 @@ module _ (st : Config) where
       go true e = inl (bare-width r off i p z .0, bare-place r off i p z q (base r))
       go false e =
           let u = counted st r w in
-          inner-rec (movedRecord st q r u (base r + off)) q true (separator st q r u .0) rest i p (separator-bare st q r u off i p (leb-false (recordSize r) capacity e) f z)
+          inner-rec (movedRecord st q r u (base r + off)) q true (separator st q r u .0) rest i p
+          (separator-bare st q r u off i p (leb-false (recordSize r) capacity e) f z)
   close-bare c s q false rest r w off i p f z =
       let u = freed st q (counted st r w) in
       both-case (λ (y : Out) (x : Place). Inner x (y .0) i p) (leb (recordSize r) capacity)
       (λ _. inl (bare-width r off i p z .0, bare-place r off i p z q (base r)))
-      (λ e. inner-left (movedRecord st q r u (base r + off)) (separator st q r u .0) rest i p (separator-bare st q r u off i p (leb-false (recordSize r) capacity e) f z))
+      (λ e. inner-left (movedRecord st q r u (base r + off)) (separator st q r u .0) rest i p
+      (separator-bare st q r u off i p (leb-false (recordSize r) capacity e) f z))
 
   root-grown : (r : Row) (w : Work) (off i : ℕ) (p : List ℕ) → lone r ≡ true → Fits r → Bare r off i p
       → placeAt 1 0 i p (kept st 1 (r, w) .0) ≡ some (grownPlace top r w off)
@@ -84,7 +87,8 @@ module _ (st : Config) where
       let n : 0 + off ≡ base r + off = omega arith in
       both-case (λ (y : Out) (x : Place). placeAt 1 0 i p (y .0) ≡ some x) (leb (recordSize r) capacity)
       (λ _. bare-place r off i p z 1 0 ∙ ap (λ (m : ℕ). some (record { page = 1; offset = m })) n)
-      (λ e. inner-place (movedRecord st 1 r u (base r + off)) (separator st 1 r u .0) i p (separator-bare st 1 r u off i p (leb-false (recordSize r) capacity e) f z) 1 0)
+      (λ e. inner-place (movedRecord st 1 r u (base r + off)) (separator st 1 r u .0) i p
+      (separator-bare st 1 r u off i p (leb-false (recordSize r) capacity e) f z) 1 0)
 
   -- A root record has no helper.
   abbrev pub Rooted : Chain → Row → Type 0

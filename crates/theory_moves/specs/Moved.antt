@@ -17,10 +17,12 @@ use Rattle.model.specs.declared.Place.{Place}
 use Rattle.theory_rows.specs.Fits.{Fits}
 use Rattle.theory_rows.specs.Laws.{size-⊹, ⊹-nil, ⊹-assoc, cond-case, isNil-nil}
 use Rattle.theory_rows.specs.Bound.{stops-false}
-use Rattle.theory_moves.specs.Stands.{Bare, bare-width, bare-place, BarePart, inFirst, inSecond, bare-split, Inner, inner-width, inner-place, inner-left, inner-right, inner-split}
+use Rattle.theory_moves.specs.Stands.{Bare, bare-width, bare-place, BarePart, inFirst, inSecond, bare-split, Inner, inner-width, inner-place}
+use Rattle.theory_moves.specs.Stands.{inner-left, inner-right, inner-split}
 
 -- Two choices by one test.
-pub both-case {ℓ κ} : {A : Type ℓ} {B : Type κ} (P : A → B → Type 0) (b : Bool) {x y : A} {u v : B} → (b ≡ true → P x u) → (b ≡ false → P y v) → P (cond b x y) (cond b u v)
+pub both-case {ℓ κ} : {A : Type ℓ} {B : Type κ} (P : A → B → Type 0) (b : Bool) {x y : A} {u v : B} → (b ≡ true → P x u) → (b ≡ false → P y v)
+    → P (cond b x y) (cond b u v)
 both-case P true f g = f refl
 both-case P false f g = g refl
 
@@ -86,7 +88,8 @@ module _ (st : Config) (near : ℕ) where
   unfolding group
   group-width g w = cond-case (λ (o : Out). width (o .0) ≡ width g) (isNil g || loneRec g) (λ e. refl) (λ e. omega arith)
 
-  pub group-moves : (g : Row) (w : Work) (start o off i : ℕ) (q : List ℕ) → off ≡ start + o → Bare g o i q → Inner (groupPlace g w start off) (group st near g w .0) i q
+  pub group-moves : (g : Row) (w : Work) (start o off i : ℕ) (q : List ℕ) → off ≡ start + o → Bare g o i q
+      → Inner (groupPlace g w start off) (group st near g w .0) i q
   unfolding group
   group-moves g w start o off i q e z =
       let f : base g + o ≡ base g + (off - start) = omega arith in
@@ -155,7 +158,8 @@ module _ (st : Config) (near : ℕ) where
         let after = groupPlace rest (b .1) (at + (6 + size cs)) off in
         let behind = cond (ltb off (at + (6 + size cs))) under after in
         both-case (λ (y : Out) (x : Place). Inner x (y .0) i q) (goOn st p at (6 + size cs) rest)
-        (λ _. separate-bare start (at + (6 + size cs)) (a ⊹ agg h cs nil) rest w o off i q (omega (arith, size-⊹ a (agg h cs nil))) f (rw (⊹-assoc a (agg h cs nil) rest) z))
+        (λ _. separate-bare start (at + (6 + size cs)) (a ⊹ agg h cs nil) rest w o off i q (omega (arith, size-⊹ a (agg h cs nil))) f
+        (rw (⊹-assoc a (agg h cs nil) rest) z))
         (λ _. both-case (λ (y : Out) (x : Place). Inner x (y .0) i q) (stops st cs)
         (λ _. two-moves start at a (agg h cs rest) w o off i q e f z)
         (λ g. two-parts start at a (agg h cs rest) (m .0) (agg h (b .0) (c .0)) (groupPlace a w start off) behind o off i q e f (group-width a w)
@@ -166,15 +170,18 @@ module _ (st : Config) (near : ℕ) where
         z))
     separate-bare start at a (lit h c rest) w o off i q e f z =
         both-case (λ (y : Out) (x : Place). Inner x (y .0) i q) (goOn st p at (6 + length c) rest)
-        (λ _. separate-bare start (at + (6 + length c)) (a ⊹ lit h c nil) rest w o off i q (omega (arith, size-⊹ a (lit h c nil))) f (rw (⊹-assoc a (lit h c nil) rest) z))
+        (λ _. separate-bare start (at + (6 + length c)) (a ⊹ lit h c nil) rest w o off i q (omega (arith, size-⊹ a (lit h c nil))) f
+        (rw (⊹-assoc a (lit h c nil) rest) z))
         (λ _. two-moves start at a (lit h c rest) w o off i q e f z)
     separate-bare start at a (rec k s r rest) w o off i q e f z =
         both-case (λ (y : Out) (x : Place). Inner x (y .0) i q) (goOn st p at 8 rest)
-        (λ _. separate-bare start (at + 8) (a ⊹ rec k s r nil) rest w o off i q (omega (arith, size-⊹ a (rec k s r nil))) f (rw (⊹-assoc a (rec k s r nil) rest) z))
+        (λ _. separate-bare start (at + 8) (a ⊹ rec k s r nil) rest w o off i q (omega (arith, size-⊹ a (rec k s r nil))) f
+        (rw (⊹-assoc a (rec k s r nil) rest) z))
         (λ _. two-moves start at a (rec k s r rest) w o off i q e f z)
 
     -- A node inside a record that the row holds keeps its place.
-    pub separate-inner : (x : Place) (at : ℕ) (a row : Row) (w : Work) (i : ℕ) (q : List ℕ) → Inner x (a ⊹ row) i q → Inner x (separate st near p at a row w .0) i q
+    pub separate-inner : (x : Place) (at : ℕ) (a row : Row) (w : Work) (i : ℕ) (q : List ℕ) → Inner x (a ⊹ row) i q
+        → Inner x (separate st near p at a row w .0) i q
     unfolding separate
     separate-inner x at a nil w i q z = group-inner x a w i q (rw (⊹-nil a) at z)
     separate-inner x at a (agg h cs rest) w i q z =
@@ -207,7 +214,8 @@ module _ (st : Config) (near : ℕ) where
 
   -- A node without children in a record of one node that is too large is under that node.
   lone-bare : (r : Row) (off i : ℕ) (q : List ℕ) → lone r ≡ true → capacity < size r → Fits r → Bare r off i q
-      → (new : Row) (x : Place) → ((o i : ℕ) (q : List ℕ) → off ≡ 6 + o → Bare (rootRow st true r) o i q → Inner x new i q) → Inner x (withRow st true r new) i q
+      → (new : Row) (x : Place) → ((o i : ℕ) (q : List ℕ) → off ≡ 6 + o → Bare (rootRow st true r) o i q → Inner x new i q)
+      → Inner x (withRow st true r new) i q
   lone-bare nil off i q l m f z new x k = absurd z
   lone-bare (agg h cs rest) off zero [] l m f z new x k = absurd (omega (arith, ap size (isNil-nil rest l), ap size (isNil-nil cs (z .1))))
   lone-bare (agg h cs rest) off zero (j ∷ q) l m f z new x k = k (z .0) j q (z .1) (z .2)

@@ -50,7 +50,8 @@ bare-width (rec q s r rest) off i p z =
     (omega arith, omega arith)
 
 -- Its place.
-pub bare-place : (g : Row) (off i : ℕ) (p : List ℕ) → Bare g off i p → (page at : ℕ) → placeAt page at i p g ≡ some (record { page = page; offset = at + off })
+pub bare-place : (g : Row) (off i : ℕ) (p : List ℕ) → Bare g off i p → (page at : ℕ)
+    → placeAt page at i p g ≡ some (record { page = page; offset = at + off })
 unfolding placeAt
 bare-place nil off i p z page at = absurd z
 bare-place (agg h cs rest) off zero [] z page at =

@@ -34,7 +34,8 @@ upward (below c s q b rest) i p = let z = up s i p in upward c (z .0) (z .1)
 pub bare-spot : (s : Spot) (z : Row) (off i : ℕ) (p : List ℕ) → Bare z off i p → Bare (fill s z) (before s + off) (up s i p .0) (up s i p .1)
 bare-spot (here left) z off i p k = bare-right left z (size left + off) off (width left + i) i p refl refl k
 bare-spot (inside left h rest s) z off i p k =
-    bare-right left (agg h (fill s z) rest) (size left + 6 + before s + off) (6 + (before s + off)) (width left) 0 (up s i p .0 ∷ up s i p .1) (omega arith) (omega arith)
+    bare-right left (agg h (fill s z) rest) (size left + 6 + before s + off) (6 + (before s + off)) (width left) 0 (up s i p .0 ∷ up s i p .1) (omega arith)
+    (omega arith)
     (before s + off, refl, bare-spot s z off i p k)
 
 pub inner-spot : (x : Place) (s : Spot) (z : Row) (i : ℕ) (p : List ℕ) → Inner x z i p → Inner x (fill s z) (up s i p .0) (up s i p .1)

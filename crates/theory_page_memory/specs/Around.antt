@@ -66,10 +66,22 @@ alike-⊹ : (a x y : Row) → Alike x y → Alike (a ⊹ x) (a ⊹ y)
 alike-⊹ nil x y k = k
 alike-⊹ (agg h cs rest) x y k =
     let z = alike-⊹ rest x y k in
-    record { none = refl; root = z .none; long = ap (λ n. 6 + size cs + n) (z .long); same = ap (λ (l : List ℕ). header 1 h (6 + size cs) ++ bytes cs ++ l) (z .same) }
+    record {
+      none = refl;
+      root = z .none;
+      long = ap (λ n. 6 + size cs + n) (z .long);
+      same =
+          ap (λ (l : List ℕ). header 1 h (6 + size cs) ++ bytes cs ++ l) (z .same);
+    }
 alike-⊹ (lit h c rest) x y k =
     let z = alike-⊹ rest x y k in
-    record { none = refl; root = z .none; long = ap (λ n. 6 + length c + n) (z .long); same = ap (λ (l : List ℕ). header 2 h (6 + length c) ++ c ++ l) (z .same) }
+    record {
+      none = refl;
+      root = z .none;
+      long = ap (λ n. 6 + length c + n) (z .long);
+      same =
+          ap (λ (l : List ℕ). header 2 h (6 + length c) ++ c ++ l) (z .same);
+    }
 alike-⊹ (rec p s r rest) x y k =
     let z = alike-⊹ rest x y k in
     record { none = refl; root = refl; long = ap (λ n. 8 + n) (z .long); same = ap (λ (l : List ℕ). header 3 noHead 8 ++ two p ++ l) (z .same) }
@@ -194,7 +206,8 @@ module _ (st : Config) where
   close-low q true rest o z = ap (onRow (λ r. rec q true r rest)) (kept-low q o z)
   close-low q false rest o z = rw (le-leb (recordSize (o .0)) capacity z)
 
-  close-stays : (q : ℕ) (b : Bool) (rest : Row) (o : Out) → b || leb (recordSize (o .0)) capacity ≡ true → close st q b rest o ≡ onRow (λ r. rec q b r rest) (kept st q o)
+  close-stays : (q : ℕ) (b : Bool) (rest : Row) (o : Out) → b || leb (recordSize (o .0)) capacity ≡ true
+      → close st q b rest o ≡ onRow (λ r. rec q b r rest) (kept st q o)
   unfolding close kept
   close-stays q true rest o e = refl
   close-stays q false rest o e = rw e
@@ -209,7 +222,8 @@ module _ (st : Config) where
       ∙ rise-low c up (fill s (rec q b (o .0) rest), o .1) (k .1) (omega (arith, proxy-size s q b (o .0) old rest, low-here c up (k .1)))
 
   -- Nor above one that stays on its page because it is settled.
-  pub rise-stays : (c : Chain) (s : Spot) (q : ℕ) (b : Bool) (rest old : Row) (o : Out) → b || leb (recordSize (o .0)) capacity ≡ true → Low (below c s q b rest) old
+  pub rise-stays : (c : Chain) (s : Spot) (q : ℕ) (b : Bool) (rest old : Row) (o : Out) → b || leb (recordSize (o .0)) capacity ≡ true
+      → Low (below c s q b rest) old
       → rise st (below c s q b rest) o ≡ onRow (whole (below c s q b rest)) (kept st q o)
   unfolding rise
   rise-stays c s q b rest old o e k =

@@ -5,7 +5,8 @@ use lib.ListN.{length}
 use lib.Dec.{leb}
 use Rattle.model.specs.Limits.{capacity}
 use Rattle.model.specs.Row.{Row, nil, agg, lit, rec, _⊹_, size, isNil, lone, loneRec, recordSize, Config}
-use Rattle.model.specs.Growth.{Work, Out, onRow, ownRecord, group, twoGroups, separate, goOn, stops, rootRow, withRow, splitPoint, separator, counted, freed, kept, close}
+use Rattle.model.specs.Growth.{Work, Out, onRow, ownRecord, group, twoGroups, separate, goOn, stops, rootRow, withRow, splitPoint, separator, counted, freed}
+use Rattle.model.specs.Growth.{kept, close}
 use Rattle.theory_rows.specs.Bound.{fits-parts}
 use Rattle.theory_rows.specs.Fits.{Fits}
 use Rattle.theory_insert_point.specs.Chain.{here, fill, Chain, top, below, whole, rise}
@@ -53,7 +54,8 @@ module _ (st : Config) where
         (fits-group near left w (z .0), (z .1 .0, fits-separate (at + 6) nil cs (a .1) (z .1 .1) .1, fits-group near rest (b .1) (z .1 .2)))))
         f
     fits-separate at left (lit l c rest) w f =
-        either (Fits left × Fits (lit l c rest)) (goOn st p at (6 + length c) rest) (separate st near p (at + (6 + length c)) (left ⊹ lit l c nil) rest w) (twoGroups st near p left (lit l c rest) w)
+        either (Fits left × Fits (lit l c rest)) (goOn st p at (6 + length c) rest) (separate st near p (at + (6 + length c)) (left ⊹ lit l c nil) rest w)
+        (twoGroups st near p left (lit l c rest) w)
         (λ f.
         let z = fits-separate (at + (6 + length c)) (left ⊹ lit l c nil) rest w f in
         let y = fits-parts left (lit l c nil) (z .0) in
@@ -61,7 +63,8 @@ module _ (st : Config) where
         (λ f. fits-two left (lit l c rest) w f)
         f
     fits-separate at left (rec q s r rest) w f =
-        either (Fits left × Fits (rec q s r rest)) (goOn st p at 8 rest) (separate st near p (at + 8) (left ⊹ rec q s r nil) rest w) (twoGroups st near p left (rec q s r rest) w)
+        either (Fits left × Fits (rec q s r rest)) (goOn st p at 8 rest) (separate st near p (at + 8) (left ⊹ rec q s r nil) rest w)
+        (twoGroups st near p left (rec q s r rest) w)
         (λ f.
         let z = fits-separate (at + 8) (left ⊹ rec q s r nil) rest w f in
         let y = fits-parts left (rec q s r nil) (z .0) in
@@ -85,7 +88,9 @@ module _ (st : Config) where
 
   fits-kept : (q : ℕ) (o : Out) → Fits (kept st q o .0) → Fits (o .0)
   unfolding kept
-  fits-kept q o = either (Fits (o .0)) (leb (recordSize (o .0)) capacity) o (separator st q (o .0) (counted st (o .0) (o .1))) (λ f. f) (λ f. fits-separator q (o .0) (counted st (o .0) (o .1)) f)
+  fits-kept q o =
+      either (Fits (o .0)) (leb (recordSize (o .0)) capacity) o (separator st q (o .0) (counted st (o .0) (o .1))) (λ f. f)
+      (λ f. fits-separator q (o .0) (counted st (o .0) (o .1)) f)
 
   fits-close : (q : ℕ) (b : Bool) (rest : Row) (o : Out) → Fits (close st q b rest o .0) → Fits (o .0)
   unfolding close

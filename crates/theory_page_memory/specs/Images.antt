@@ -89,7 +89,8 @@ module _ (st : Config) (x : New) (fits : NewFits x) (root : Row) (v : Valid st r
       let ok = valid-grow st x fits root path k v short full in
       let d : Done st (before st root v 0) (new .0) (new .1) after =
       subst (λ (o : Out). Fits (o .0) → o .1 .full ≡ false → Done st (before st root v 0) (o .0) (o .1) after) (sym g)
-      (insert-kept st root v (before st root v) (stored-image st root v) (before-free st root v) (t .chain) (t .spot) (t .rest) (taking-whole root path k t e) x (t .parent))
+      (insert-kept st root v (before st root v) (stored-image st root v) (before-free st root v) (t .chain) (t .spot) (t .rest) (taking-whole root path k t e)
+      x (t .parent))
       (ok .rows .1) full in
       image-is img st (new .0) (omega (arith, v .ranges .few)) long (ap (λ (m : Mem). m 0) same ∙ d .settings ∙ before-settings st root v)
       (subst (λ (m : Mem). Stored m 0 (store (new .0))) (sym same) (d .stored))

@@ -20,7 +20,8 @@ use Rattle.theory_page_memory.specs.Steps.{Now, Step, bit-le, bit-false,
 use Rattle.theory_insert_point.specs.Fit.{fits-fill}
 use Rattle.theory_insert_point.specs.Bytes.{lastHeld}
 use Rattle.theory_page_memory.specs.Back.{fits-whole, fits-rise}
-use Rattle.theory_page_memory.specs.Around.{count-fill, loose-fill, Around, assemble, disassemble, own, beyond, around-agree, beyond-first, count-whole, Low, rise-stays, rise-goes, chain-low}
+use Rattle.theory_page_memory.specs.Around.{count-fill, loose-fill, Around, assemble, disassemble, own, beyond, around-agree, beyond-first, count-whole}
+use Rattle.theory_page_memory.specs.Around.{Low, rise-stays, rise-goes, chain-low}
 
 -- A page that is left is blank.
 cleared : (p q : ℕ) (used : ℕ → Bool) (m : Mem) → ((p : ℕ) → used p ≡ false → m p ≡ blank) → mark false q used p ≡ false → setMem q blank m p ≡ blank
@@ -48,7 +49,8 @@ module _ (st : Config) (first : List ℕ) where
     pub settings : m 0 ≡ first
 
   -- the last write
-  finish : (c : Chain) (old r : Row) (w : Work) (m : Mem) → Fits r → Ready c old r w m → Done (whole c r) w (putMem (lastPage c) (lastSettled c) (lastHolder c) r m)
+  finish : (c : Chain) (old r : Row) (w : Work) (m : Mem) → Fits r → Ready c old r w m
+      → Done (whole c r) w (putMem (lastPage c) (lastSettled c) (lastHolder c) r m)
   finish c old r w m f k =
       let q = lastPage c in
       let t = k .now .tally in
@@ -82,10 +84,12 @@ module _ (st : Config) (first : List ℕ) where
       sep : State
       sep = separatorM st q r v m
 
-      go : (b : Bool) → DoneBy c (cond b (r, w) (separator st q r v)) (cond b (putMem q (lastSettled c) (lastHolder c) r m) (putMem q (lastSettled c) (lastHolder c) (sep .row) (sep .mem)))
+      go : (b : Bool) → DoneBy c (cond b (r, w) (separator st q r v))
+          (cond b (putMem q (lastSettled c) (lastHolder c) r m) (putMem q (lastSettled c) (lastHolder c) (sep .row) (sep .mem)))
       go true f full = finish c old r w m f (ready full)
       go false f full =
-          let k = step-separator st q (elsewhere c) r v m f (λ z. record { tally = ready z .now .tally; free = ready z .now .free; loose = ready z .now .loose }) full in
+          let k = step-separator st q (elsewhere c) r v m f
+          (λ z. record { tally = ready z .now .tally; free = ready z .now .free; loose = ready z .now .loose }) full in
           let a = ready (k .was) in
           finish c old (sep .row) (sep .work) (sep .mem) f (record {
             around = around-agree st m (sep .mem) c old (λ p z. k .frame p (omega arith)) (a .around);
@@ -97,7 +101,8 @@ module _ (st : Config) (first : List ℕ) where
   pub goes-up : (c : Chain) (s : Spot) (q : ℕ) (b : Bool) (rest old r : Row) (w : Work) (m : Mem) → (w .full ≡ false → Ready (below c s q b rest) old r w m)
       → let sep = separatorM st q r (freed st q (counted st r w)) (setMem q blank m) in
       Fits (sep .row) → sep .work .full ≡ false
-      → Ready c (fill s (rec q b old rest)) (fill s (sep .row ⊹ rest)) (sep .work) (sep .mem) × (sep .mem (lastPage c) ≡ recordPage (lastHeld c (fill s (rec q b old rest))))
+      → Ready c (fill s (rec q b old rest)) (fill s (sep .row ⊹ rest)) (sep .work) (sep .mem) ×
+      (sep .mem (lastPage c) ≡ recordPage (lastHeld c (fill s (rec q b old rest))))
   goes-up c s q b rest old r w m ready f full =
       let c′ = below c s q b rest in
       let m₁ = setMem q blank m in
@@ -165,7 +170,8 @@ module _ (st : Config) (first : List ℕ) where
           let f′ : Fits (rise st c (up, sep .work) .0) = subst (λ (o : Out). Fits (o .0)) e f in
           let g = fits-parts (sep .row) rest (fits-fill s (sep .row ⊹ rest) (fits-rise st c (up, sep .work) f′)) .0 in
           subst (λ (o : Out). Done (o .0) (o .1) (riseMem st c up (sep .work) (sep .mem))) (sym e)
-          (ih (fill s (rec q false old rest)) up (sep .work) (sep .mem) (low .1) (λ z. goes-up c s q false rest old r w m ready g z .0) f′ (subst (λ (o : Out). o .1 .full ≡ false) e full))
+          (ih (fill s (rec q false old rest)) up (sep .work) (sep .mem) (low .1) (λ z. goes-up c s q false rest old r w m ready g z .0) f′
+          (subst (λ (o : Out). o .1 .full ≡ false) e full))
 
 -- ── the new node ──
 
@@ -215,7 +221,8 @@ module _ (st : Config) (x : New) (parent : Head) (page : ℕ) (s : Spot) (rest :
             now = record {
               tally = λ p. omega (arith, l .now .tally p, count-fill p s (rec q true (new k nil) nil) rest);
               free = l .now .free;
-              loose = loose-fill m′ s (rec q true (new k nil) nil) rest (loose-agree m m′ r (λ p z. l .frame p (omega arith)) (now (l .was) .loose)) (l .now .loose);
+              loose = loose-fill m′ s (rec q true (new k nil) nil) rest (loose-agree m m′ r (λ p z. l .frame p (omega arith)) (now (l .was) .loose))
+                  (l .now .loose);
             };
             frame = λ p z. l .frame p (omega arith);
           }
@@ -224,7 +231,8 @@ module _ (st : Config) (x : New) (parent : Head) (page : ℕ) (s : Spot) (rest :
 
 -- ── an insert ──
 
-module _ (st : Config) (root : Row) (v : Valid st root) (m : Mem) (stored : Stored m 0 (store root)) (free : (q : ℕ) → atRest st root .used q ≡ false → m q ≡ blank) where
+module _ (st : Config) (root : Row) (v : Valid st root) (m : Mem) (stored : Stored m 0 (store root))
+    (free : (q : ℕ) → atRest st root .used q ≡ false → m q ≡ blank) where
   pub at-rest : (c : Chain) (old : Row) → whole c old ≡ root → Ready st (m 0) c old old (atRest st root) m
   at-rest c old e =
       let z = disassemble m c old (subst (λ (r : Row). Stored m 0 (store r)) (sym e) stored) in

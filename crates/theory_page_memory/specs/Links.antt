@@ -115,7 +115,8 @@ unfolding linkMem
 link-stored q nil m d f k = tt
 link-stored q (agg h cs rest) m d f k =
     let m₁ = linkMem q cs m in (
-      stored-same m₁ (linkMem q rest m₁) q cs (λ p z. link-other q rest m₁ p (omega (arith, d p))) (link-stored q cs m (λ p. omega (arith, d p)) (f .1) (k .0)),
+      stored-same m₁ (linkMem q rest m₁) q cs (λ p z. link-other q rest m₁ p (omega (arith, d p)))
+          (link-stored q cs m (λ p. omega (arith, d p)) (f .1) (k .0)),
       link-stored q rest m₁ (λ p. omega (arith, d p)) (f .2) (loose-agree m m₁ rest (λ p z. link-other q cs m p (omega (arith, d p))) (k .1)),
     )
 link-stored q (lit h c rest) m d f k = link-stored q rest m d (f .3) k

@@ -10,7 +10,8 @@ use Rattle.model.specs.Growth.{Work, Out, freeFrom, taken, group, twoGroups, se
 use Rattle.theory_rows.specs.Bound.{fits-parts}
 use Rattle.theory_rows.specs.Fits.{Fits}
 use Rattle.theory_rows.specs.Pages.{bit, count-⊹, or-left, or-right, free-found, tally-own}
-use Rattle.theory_page_memory.specs.Memory.{Mem, blank, putMem, groupMem, twoMem, separateMem, separatorMem, State, groupM, twoGroupsM, separateM, separatorM}
+use Rattle.theory_page_memory.specs.Memory.{Mem, blank, putMem, groupMem, twoMem, separateMem, separatorMem, State, groupM, twoGroupsM, separateM}
+use Rattle.theory_page_memory.specs.Memory.{separatorM}
 use Rattle.theory_page_memory.specs.Links.{Loose, not-bit, loose-⊹, loose-parts, loose-agree, put-other, put-same, put-stored}
 
 -- A row, a work and a memory that go together: `e q` times is page q named elsewhere.
@@ -77,7 +78,8 @@ joined e h w m a b v n k = record {
 }
 
 -- A step on one row is a step on another with the same records.
-from : (e : ℕ → ℕ) (r r′ : Row) (w : Work) (m : Mem) (s : State) → ((q : ℕ) → count q r′ ≡ count q r) → (Loose m r → Loose m r′) → Step e r′ w m s → Step e r w m s
+from : (e : ℕ → ℕ) (r r′ : Row) (w : Work) (m : Mem) (s : State) → ((q : ℕ) → count q r′ ≡ count q r) → (Loose m r → Loose m r′) → Step e r′ w m s
+    → Step e r w m s
 from e r r′ w m s c l f now full =
     f (λ z. let n = now z in record { tally = λ q. omega (arith, n .tally q, c q); free = n .free; loose = l (n .loose) }) full
 
@@ -88,7 +90,8 @@ stay e r w m now full = record { was = full; now = now full; frame = λ q z. ref
 abbrev together : Out → Mem → State
 together o m = record { row = o .0; work = o .1; mem = m }
 
-pick : (e : ℕ → ℕ) (r : Row) (w : Work) (m : Mem) (b : Bool) (o u : Out) (n v : Mem) → (Fits (o .0) → Step e r w m (together o n)) → (Fits (u .0) → Step e r w m (together u v))
+pick : (e : ℕ → ℕ) (r : Row) (w : Work) (m : Mem) (b : Bool) (o u : Out) (n v : Mem) → (Fits (o .0) → Step e r w m (together o n))
+    → (Fits (u .0) → Step e r w m (together u v))
     → Fits (cond b o u .0) → Step e r w m (together (cond b o u) (cond b n v))
 pick e r w m true o u n v f g k = f k
 pick e r w m false o u n v f g k = g k
@@ -125,7 +128,8 @@ module _ (st : Config) (near : ℕ) where
       (λ f. stay e g w m) (λ f. step-own e false 0 g w m (f .1)) f
 
   module _ (p : ℕ) where
-    step-two : (e : ℕ → ℕ) (h : Head) (a b : Row) (w : Work) (m : Mem) → Fits (twoGroups st near p a b w .0) → Step e (agg h a b) w m (twoGroupsM st near p a b w m)
+    step-two : (e : ℕ → ℕ) (h : Head) (a b : Row) (w : Work) (m : Mem) → Fits (twoGroups st near p a b w .0)
+        → Step e (agg h a b) w m (twoGroupsM st near p a b w m)
     unfolding twoGroups twoMem
     step-two e h a b w m f now full =
         let x = groupM st near a w m in
@@ -136,7 +140,8 @@ module _ (st : Config) (near : ℕ) where
         (step-group (λ q. e q + count q b) a w m (fs .0)) (step-group (λ q. e q + count q (x .row)) b (x .work) (x .mem) (fs .1)) now full)
 
     -- a node that is passed
-    passed : (e : ℕ → ℕ) (h : Head) (left one rest : Row) (w : Work) (m : Mem) (s : State) → Step e (agg h (left ⊹ one) rest) w m s → Step e (agg h left (one ⊹ rest)) w m s
+    passed : (e : ℕ → ℕ) (h : Head) (left one rest : Row) (w : Work) (m : Mem) (s : State) → Step e (agg h (left ⊹ one) rest) w m s
+        → Step e (agg h left (one ⊹ rest)) w m s
     passed e h left one rest w m s f =
         from e (agg h left (one ⊹ rest)) (agg h (left ⊹ one) rest) w m s (λ q. omega (arith, count-⊹ q left one, count-⊹ q one rest))
         (λ k. let z = loose-parts m one rest (k .1) in (loose-⊹ m left one (k .0) (z .0), z .1)) f
@@ -200,13 +205,19 @@ module _ (st : Config) (near : ℕ) where
       h = record { label = 0 }
 
       go : (b : Bool) (r : Row) → Fits (withRow st b r (separate st near S 6 nil (rootRow st b r) w .0))
-          → Step e r w m (record { row = withRow st b r (separate st near S 6 nil (rootRow st b r) w .0); work = separate st near S 6 nil (rootRow st b r) w .1; mem = separateMem st near S 6 nil (rootRow st b r) w m })
+          → Step e r w m (record {
+            row = withRow st b r (separate st near S 6 nil (rootRow st b r) w .0);
+            work =
+                separate st near S 6 nil (rootRow st b r) w .1;
+            mem = separateMem st near S 6 nil (rootRow st b r) w m;
+          })
       go false r f = from e r (agg h nil r) w m (separateM st near S 6 nil r w m) (λ q. omega arith) (λ k. (tt, k)) (step-separate S e h 6 nil r w m f)
       go true nil f = stay e nil w m
       go true (agg l cs rest) f =
           let x = separateM st near S 6 nil cs w m in
           step-agg e l cs rest w m x (record { row = rest; work = x .work; mem = x .mem })
-          (from (λ q. e q + count q rest) cs (agg h nil cs) w m x (λ q. omega arith) (λ k. (tt, k)) (step-separate S (λ q. e q + count q rest) h 6 nil cs w m (f .1)))
+          (from (λ q. e q + count q rest) cs (agg h nil cs) w m x (λ q. omega arith) (λ k. (tt, k))
+          (step-separate S (λ q. e q + count q rest) h 6 nil cs w m (f .1)))
           (stay (λ q. e q + count q (x .row)) rest (x .work) (x .mem))
       go true (lit l c rest) f = stay e (lit l c rest) w m
       go true (rec k s x rest) f = stay e (rec k s x rest) w m

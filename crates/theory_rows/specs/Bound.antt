@@ -153,7 +153,8 @@ module _ (st : Config) (near : ℕ) where
   module _ (p : ℕ) where
     two-fits : (a b : Row) (w : Work) → Fits a → Fits b → size a + 6 ≤ capacity → size b + 6 ≤ capacity → Fits (twoGroups st near p a b w .0)
     unfolding twoGroups
-    two-fits a b w f g h k = Fits-⊹ (group st near a w .0) (group st near b (group st near a w .1) .0) (group-fits a w f h) (group-fits b (group st near a w .1) g k)
+    two-fits a b w f g h k =
+        Fits-⊹ (group st near a w .0) (group st near b (group st near a w .1) .0) (group-fits a w f h) (group-fits b (group st near a w .1) g k)
 
     two-size : (a b : Row) (w : Work) → size (twoGroups st near p a b w .0) ≤ 16
     unfolding twoGroups
@@ -292,7 +293,8 @@ not-nil (rec p s r rest) h = refl
 
 module _ (st : Config) (k : Ranges st) (near : ℕ) where
   -- the children of a root, which start at byte 6, in a record of S bytes
-  module _ (row : Row) (w : Work) (S : ℕ) (whole : 6 + size row ≡ S) (f : Fits row) (over : capacity < S) (most : S ≤ (capacity + mostNode)) (deep : depth row ≤ 23) where
+  module _ (row : Row) (w : Work) (S : ℕ) (whole : 6 + size row ≡ S) (f : Fits row) (over : capacity < S) (most : S ≤ (capacity + mostNode))
+      (deep : depth row ≤ 23) where
     row-fits : Fits (separate st near (splitPoint st S) 6 nil row w .0)
     row-fits =
         let lo = p-low st k S over most in
@@ -319,8 +321,10 @@ module _ (st : Config) (k : Ranges st) (near : ℕ) where
   unfolding separator
   split-good r w f = go (lone r) r refl f
     where
-      go : (b : Bool) (r : Row) → lone r ≡ b → Fits r → capacity < cond b 0 6 + size r → cond b 0 6 + size r ≤ (capacity + mostNode) → depth (rootRow st b r) ≤ 23
-          → SplitGood (withRow st b r (separate st near (splitPoint st (cond b 0 6 + size r)) 6 nil (rootRow st b r) w .0)) (splitPoint st (cond b 0 6 + size r))
+      go : (b : Bool) (r : Row) → lone r ≡ b → Fits r → capacity < cond b 0 6 + size r → cond b 0 6 + size r ≤ (capacity + mostNode)
+          → depth (rootRow st b r) ≤ 23
+          → SplitGood (withRow st b r (separate st near (splitPoint st (cond b 0 6 + size r)) 6 nil (rootRow st b r) w .0))
+          (splitPoint st (cond b 0 6 + size r))
           (startOf st (splitPoint st (cond b 0 6 + size r)) 6 (rootRow st b r))
       go false r e f over most deep = record {
         fits = row-fits r w (6 + size r) refl f over most deep;
@@ -348,7 +352,8 @@ module _ (st : Config) (k : Ranges st) (near : ℕ) where
   unfolding separator
   split-whole r w f = go (lone r) r refl f
     where
-      go : (b : Bool) (r : Row) → lone r ≡ b → Fits r → capacity < cond b 0 6 + size r → cond b 0 6 + size r ≤ (capacity + mostNode) → depth (rootRow st b r) ≤ 23
+      go : (b : Bool) (r : Row) → lone r ≡ b → Fits r → capacity < cond b 0 6 + size r → cond b 0 6 + size r ≤ (capacity + mostNode)
+          → depth (rootRow st b r) ≤ 23
           → cond b 0 6 + size (withRow st b r (separate st near (splitPoint st (cond b 0 6 + size r)) 6 nil (rootRow st b r) w .0)) ≤ 506
       go false r e f over most deep = omega (arith, row-size r w (6 + size r) refl f over most deep)
       go true nil e f over most deep = absurd (omega arith)

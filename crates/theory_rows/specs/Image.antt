@@ -61,7 +61,8 @@ stored-in all h (rec p s r rest) pre post e d =
     let first : tally p pre ≡ 0 = omega (arith, rw same at (d p)) in (
       ap (λ (a : List Held). pageAt a p) e ∙ skip pre (held ∷ (records p r ++ records h rest ++ post)) p first ∙ rw same,
       stored-in all p r (pre ++ held ∷ []) (records h rest ++ post) (e ∙ simp append-assoc) (λ q. omega (arith, d q, tally-++ q pre (held ∷ []))),
-      stored-in all h rest (pre ++ held ∷ records p r) post (e ∙ simp append-assoc) (λ q. omega (arith, d q, tally-++ q pre (held ∷ records p r), tally-records q p r)),
+      stored-in all h rest (pre ++ held ∷ records p r) post (e ∙ simp append-assoc)
+          (λ q. omega (arith, d q, tally-++ q pre (held ∷ records p r), tally-records q p r)),
     )
 
 -- ── pages are 4,096 bytes ──
@@ -92,7 +93,8 @@ fits-records h (rec p s r rest) f = (f .0 .fits, allFit-++ (records p r) (record
 
 pub length-pageAt : (hs : List Held) → AllFit hs → (q : ℕ) → length (pageAt hs q) ≡ pageSize
 length-pageAt [] f q = length-replicate {A = ℕ} pageSize 0
-length-pageAt (h ∷ hs) f q = cond-case (λ (l : List ℕ). length l ≡ pageSize) (eqb q (h .page)) (λ _. length-recordPage h (f .0)) (λ _. length-pageAt hs (f .1) q)
+length-pageAt (h ∷ hs) f q =
+    cond-case (λ (l : List ℕ). length l ≡ pageSize) (eqb q (h .page)) (λ _. length-recordPage h (f .0)) (λ _. length-pageAt hs (f .1) q)
 
 page-slice : (hs : List Held) → AllFit hs → (n k q : ℕ) → k < n → pageOf (pagesFrom hs n q) k ≡ pageAt hs (q + k)
 page-slice hs f zero k q h = absurd (omega arith)

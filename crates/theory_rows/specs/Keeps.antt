@@ -140,7 +140,8 @@ module _ (st : Config) (k : Ranges st) where
     grown : size (o .0) ≤ size rest + 506
     keeps : suc (nodeCount rest) ≤ nodeCount (o .0)
 
-  close-good : (q : ℕ) (s : Bool) (rest : Row) (o : Out) → Fits rest → Fits (o .0) → Shape s (o .0) → depth (rootRow st (lone (o .0)) (o .0)) ≤ 23 → recordSize (o .0) ≤ (capacity + mostNode)
+  close-good : (q : ℕ) (s : Bool) (rest : Row) (o : Out) → Fits rest → Fits (o .0) → Shape s (o .0) → depth (rootRow st (lone (o .0)) (o .0)) ≤ 23
+      → recordSize (o .0) ≤ (capacity + mostNode)
       → Closed rest (close st q s rest o)
   unfolding close kept
   close-good q true rest o g f (one e) h m =
@@ -250,12 +251,14 @@ module _ (st : Config) (k : Ranges st) where
         let o = child st x l page n row w .0 in
         omega (arith, height-shown o, ap levels (shown-child st x l page n row w), levels-putAt x n (shown row), height-shown row)
 
-    pub inserted-height : (n page i : ℕ) (path : List ℕ) (row : Row) (w : Work) → height row ≤ 23 → length path ≤ 21 → height (inserted st x n page i path row w .0) ≤ 23
+    pub inserted-height : (n page i : ℕ) (path : List ℕ) (row : Row) (w : Work) → height row ≤ 23 → length path ≤ 21
+        → height (inserted st x n page i path row w .0) ≤ 23
     inserted-height n page i path row w h p =
         let o = inserted st x n page i path row w .0 in
         omega (arith, height-shown o, ap levels (shown-inserted st x n page i path row w), levels-insertAt x n i path (shown row), height-shown row)
 
-    pub inserted-good : (n page i : ℕ) (path : List ℕ) (row : Row) (w : Work) → Fits row → height row ≤ 23 → length path ≤ 21 → Grew row (inserted st x n page i path row w)
+    pub inserted-good : (n page i : ℕ) (path : List ℕ) (row : Row) (w : Work) → Fits row → height row ≤ 23 → length path ≤ 21
+        → Grew row (inserted st x n page i path row w)
     unfolding inserted
     inserted-good n page i path nil w f h p = record { fits = tt; grown = omega arith; keeps = omega arith; root = λ t. t }
     inserted-good n page zero [] (agg m cs rest) w f h p =
@@ -284,13 +287,15 @@ module _ (st : Config) (k : Ranges st) where
     -- ── the whole store ──
 
     -- the root record: an aggregate whose children grew
-    root-good : (m : Head) (cs cs′ : Row) (w : Work) → HeadFits m → Fits cs′ → recordSize (agg m cs nil) ≤ capacity → size cs′ ≤ size cs + mostNode → height cs′ ≤ 23
+    root-good : (m : Head) (cs cs′ : Row) (w : Work) → HeadFits m → Fits cs′ → recordSize (agg m cs nil) ≤ capacity → size cs′ ≤ size cs + mostNode
+        → height cs′ ≤ 23
         → Fits (close st 1 true nil (agg m cs′ nil, w) .0)
     root-good m cs cs′ w lm f fit s h =
         close-good 1 true nil (agg m cs′ nil, w) tt (lm, f, tt) (one refl) (omega (arith, depth-height cs′ f)) (omega arith) .fits
 
     -- An insert keeps the rules for records: in a root aggregate of at most 24 levels, under a path of at most 22 entries.
-    pub grow-fits : (m : Head) (cs : Row) (path : List ℕ) (n : ℕ) → HeadFits m → Fits cs → recordSize (agg m cs nil) ≤ capacity → height cs ≤ 23 → length path ≤ 22
+    pub grow-fits : (m : Head) (cs : Row) (path : List ℕ) (n : ℕ) → HeadFits m → Fits cs → recordSize (agg m cs nil) ≤ capacity → height cs ≤ 23
+        → length path ≤ 22
         → Fits (rec 1 true (grow st (agg m cs nil) path n x .0) nil)
     unfolding grow inserted close
     grow-fits m cs [] n lm f fit h p =
@@ -300,4 +305,5 @@ module _ (st : Config) (k : Ranges st) where
     grow-fits m cs (j ∷ path) n lm f fit h p =
         let w = atRest st (agg m cs nil) in
         let a = inserted-good n 1 j path cs w f h (omega arith) in
-        root-good m cs (inserted st x n 1 j path cs w .0) (inserted st x n 1 j path cs w .1) lm (a .fits) fit (a .grown) (inserted-height n 1 j path cs w h (omega arith))
+        root-good m cs (inserted st x n 1 j path cs w .0) (inserted st x n 1 j path cs w .1) lm (a .fits) fit (a .grown)
+        (inserted-height n 1 j path cs w h (omega arith))

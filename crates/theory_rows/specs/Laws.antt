@@ -11,7 +11,8 @@ use lib.Dec.{leb, ltb, eqb}
 use Rattle.model.specs.Limits.{capacity}
 use Rattle.model.specs.Row.{Head, Row, nil, agg, lit, rec, _⊹_, size, isNil, lone, loneRec, recordSize, bytes, Config}
 use Rattle.model.specs.Tree.{Tree, end, branch, leaf, _⊞_, shown, width, breadth, New, newNode, putAt, insertAt}
-use Rattle.model.specs.Growth.{Work, Out, group, twoGroups, separate, goOn, stops, rootRow, withRow, separator, kept, close, counted, freed, asRow, place, apart, after, child, inserted, atRest, grow}
+use Rattle.model.specs.Growth.{Work, Out, group, twoGroups, separate, goOn, stops, rootRow, withRow, separator, kept, close, counted, freed, asRow, place}
+use Rattle.model.specs.Growth.{apart, after, child, inserted, atRest, grow}
 
 -- ── bytes ──
 
@@ -120,7 +121,8 @@ module _ (st : Config) (near p : ℕ) where
       (λ e. shown-separate (at + (6 + length c)) (left ⊹ lit l c nil) rest w ∙ passed left (lit l c nil) rest) (λ e. shown-two left (lit l c rest) w)
   shown-separate at left (rec q s r rest) w =
       cond-case (Shows (shown left ⊞ shown (rec q s r rest))) (goOn st p at 8 rest)
-      (λ e. shown-separate (at + 8) (left ⊹ rec q s r nil) rest w ∙ passed left (rec q s r nil) rest ∙ rw (⊞-end (shown r))) (λ e. shown-two left (rec q s r rest) w)
+      (λ e. shown-separate (at + 8) (left ⊹ rec q s r nil) rest w ∙ passed left (rec q s r nil) rest ∙ rw (⊞-end (shown r)))
+      (λ e. shown-two left (rec q s r rest) w)
 
 module _ (st : Config) where
   shown-withRow : (b : Bool) (r new : Row) → shown new ≡ shown (rootRow st b r) → shown (withRow st b r new) ≡ shown r
@@ -155,7 +157,8 @@ module _ (st : Config) where
 newNode-⊞ : (x : New) (a b : Tree) → newNode x (a ⊞ b) ≡ newNode x a ⊞ b
 newNode-⊞ x a b = go (eqb (x .kind) 1)
   where
-    go : (t : Bool) → cond t (branch (x .head) end (a ⊞ b)) (leaf (x .head) (x .content) (a ⊞ b)) ≡ cond t (branch (x .head) end a) (leaf (x .head) (x .content) a) ⊞ b
+    go : (t : Bool) → cond t (branch (x .head) end (a ⊞ b)) (leaf (x .head) (x .content) (a ⊞ b)) ≡ cond t (branch (x .head) end a)
+        (leaf (x .head) (x .content) a) ⊞ b
     go true = refl
     go false = refl
 
@@ -213,7 +216,8 @@ module _ (st : Config) (x : New) where
   shown-asRow : (rest : Row) → shown (asRow st x rest) ≡ newNode x (shown rest)
   shown-asRow rest = go (eqb (x .kind) 1)
     where
-      go : (t : Bool) → shown (cond t (agg (x .head) nil rest) (lit (x .head) (x .content) rest)) ≡ cond t (branch (x .head) end (shown rest)) (leaf (x .head) (x .content) (shown rest))
+      go : (t : Bool) → shown (cond t (agg (x .head) nil rest) (lit (x .head) (x .content) rest)) ≡ cond t (branch (x .head) end (shown rest))
+          (leaf (x .head) (x .content) (shown rest))
       go true = refl
       go false = refl
 
@@ -236,7 +240,8 @@ module _ (st : Config) (x : New) where
       (λ f. ap (λ t. shown r ⊞ t) (shown-place l page rest w) ∙ sym (putAt-lone x i r (shown rest) f (ltb-true i (width r) e)))
       (λ f. shown-close st q s rest (after st x l q i r w) ∙ ap (λ t. t ⊞ shown rest) (shown-after l q i r w)
       ∙ sym (putAt-left x i (shown r) (shown rest) (within r i e))))
-      (λ e. ap (λ t. shown r ⊞ t) (shown-after l page (i - width r) rest w) ∙ sym (rw (← breadth-shown r) (putAt-right x i (shown r) (shown rest) (beyond r i e))))
+      (λ e. ap (λ t. shown r ⊞ t) (shown-after l page (i - width r) rest w)
+      ∙ sym (rw (← breadth-shown r) (putAt-right x i (shown r) (shown rest) (beyond r i e))))
 
   pub shown-child : (l : Head) (page k : ℕ) (row : Row) (w : Work) → Shows (putAt x k (shown row)) (child st x l page k row w)
   shown-child l page zero row w = shown-place l page row w

@@ -11,12 +11,14 @@ use lib.Dec.{leb, ltb, eqb}
 use Rattle.model.specs.Limits.{capacity, mostNode}
 use Rattle.model.specs.Row.{Head, Row, nil, agg, lit, rec, _⊹_, size, isNil, lone, loneRec, recordSize, Config, height}
 use Rattle.model.specs.Tree.{width, New}
-use Rattle.model.specs.Growth.{Work, Out, group, twoGroups, separate, goOn, stops, rootRow, separator, kept, close, counted, freed, place, apart, after, child, inserted, atRest, grow}
+use Rattle.model.specs.Growth.{Work, Out, group, twoGroups, separate, goOn, stops, rootRow, separator, kept, close, counted, freed, place, apart, after}
+use Rattle.model.specs.Growth.{child, inserted, atRest, grow}
 use Rattle.model.specs.Claims.{InLean}
 use Rattle.theory_rows.specs.Fits.{Ranges, Fits, RecordFits, Valid}
 use Rattle.theory_rows.specs.Laws.{cond-case}
 use Rattle.theory_rows.specs.Bound.{depth, split-good}
-use Rattle.theory_rows.specs.Keeps.{depth-height, depth-root, base-kept, Grew, after-good, after-height, child-good, child-height, inserted-good, inserted-height}
+use Rattle.theory_rows.specs.Keeps.{depth-height, depth-root, base-kept, Grew, after-good, after-height, child-good, child-height, inserted-good}
+use Rattle.theory_rows.specs.Keeps.{inserted-height}
 use Rattle.theory_rows.specs.Store.{NewFits, settled-lone}
 
 -- The lean is in range, and 0 as long as nothing was split.
@@ -185,5 +187,6 @@ module _ (st : Config) (x : New) (f : NewFits x) where
           (lean-child st (v .ranges) x f m 1 n cs w (v .rows .1 .1) high start)
       go (j ∷ path) p =
           let a = inserted-good st (v .ranges) x (f .head) (f .long) (f .byte) n 1 j path cs w (v .rows .1 .1) high (omega arith) in
-          close-root (inserted st x n 1 j path cs w) (a .fits) (a .grown) (inserted-height st (v .ranges) x (f .head) (f .long) (f .byte) n 1 j path cs w high (omega arith))
+          close-root (inserted st x n 1 j path cs w) (a .fits) (a .grown)
+          (inserted-height st (v .ranges) x (f .head) (f .long) (f .byte) n 1 j path cs w high (omega arith))
           (lean-inserted st (v .ranges) x f n 1 j path cs w (v .rows .1 .1) high (omega arith) start)

@@ -10,7 +10,8 @@ use lib.Dec.{leb, ltb, eqb}
 use Rattle.model.specs.Limits.{capacity}
 use Rattle.model.specs.Row.{Head, Row, nil, agg, lit, rec, _⊹_, size, isNil, lone, loneRec, recordSize, count, outside, Config}
 use Rattle.model.specs.Tree.{width, New}
-use Rattle.model.specs.Growth.{Work, Out, onRow, freeFrom, taken, ownRecord, group, twoGroups, separate, goOn, stops, rootRow, withRow, splitPoint, separator, kept, close, counted, freed, asRow, place, apart, after, child, inserted, atRest, grow}
+use Rattle.model.specs.Growth.{Work, Out, onRow, freeFrom, taken, ownRecord, group, twoGroups, separate, goOn, stops, rootRow, withRow, splitPoint, separator}
+use Rattle.model.specs.Growth.{kept, close, counted, freed, asRow, place, apart, after, child, inserted, atRest, grow}
 use Rattle.theory_rows.specs.Laws.{cond-case}
 
 pub count-⊹ : (q : ℕ) (a b : Row) → count q (a ⊹ b) ≡ count q a + count q b
@@ -88,7 +89,8 @@ module _ (st : Config) where
         let v = tally-group (λ q. e q + count q (x .0)) b (x .1) (λ full q. omega (arith, u full q)) in
         λ full q. omega (arith, v full q, count-⊹ q (x .0) (y .0))
 
-    tally-separate : (e : ℕ → ℕ) (at : ℕ) (left row : Row) (w : Work) → Tally e (λ q. count q left + count q row) w → Tallies e (separate st near p at left row w)
+    tally-separate : (e : ℕ → ℕ) (at : ℕ) (left row : Row) (w : Work) → Tally e (λ q. count q left + count q row) w
+        → Tallies e (separate st near p at left row w)
     unfolding separate
     tally-separate e at left nil w t = tally-group e left w (λ full q. omega (arith, t full q))
     tally-separate e at left (agg l cs rest) w t =

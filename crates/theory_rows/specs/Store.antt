@@ -55,7 +55,8 @@ module _ (st : Config) (x : New) (a : NewFits x) where
         omega (arith, height-shown new, ap levels (shown-grow st x root path n), levels-insertAt x n 0 path (shown root), height-shown root, v .levels),
       )
 
-  pub valid-grow : (root : Row) (path : List ℕ) (n : ℕ) → Valid st root → length path ≤ 22 → grow st root path n x .1 .full ≡ false → Valid st (grow st root path n x .0)
+  pub valid-grow : (root : Row) (path : List ℕ) (n : ℕ) → Valid st root → length path ≤ 22 → grow st root path n x .1 .full ≡ false
+      → Valid st (grow st root path n x .0)
   valid-grow nil path n v p full = absurd (false≢true (v .top))
   valid-grow (lit l c rest) path n v p full = absurd (false≢true (v .top))
   valid-grow (rec q s r rest) path n v p full = absurd (false≢true (v .top))
@@ -66,7 +67,8 @@ module _ (st : Config) (x : New) (a : NewFits x) where
       record {
         ranges = v .ranges;
         rows = good .0;
-        top = lone-agg new (settled-lone new (good .0 .0 .shape)) (ap isBranch (shown-grow st x root path n) ∙ branch-insert x n path m (shown cs) (shown rest));
+        top = lone-agg new (settled-lone new (good .0 .0 .shape))
+            (ap isBranch (shown-grow st x root path n) ∙ branch-insert x n path m (shown cs) (shown rest));
         levels = good .1;
         placed = placed-grow st x root path n (v .placed) full;
       }

@@ -46,7 +46,8 @@ insertOf img path child kind label content = onStore (opened img) (λ n. (insert
     let x = newOf kind label content in
     let o = grown st root path child x in
     let n = insertNumber (shown root) path child x (o .1 .full) in
-    accept n (record { number = 0; place = placeOr (placeOf (o .0) (pathOf path ++ child ∷ [])); splits = o .1 .splits; lean = o .1 .lean }, image st (o .0)) (insertRefused n, img))
+    accept n (record { number = 0; place = placeOr (placeOf (o .0) (pathOf path ++ child ∷ [])); splits = o .1 .splits; lean = o .1 .lean }, image st (o .0))
+    (insertRefused n, img))
 
 -- What growth carried along for it.
 abbrev pub insertWork : (img path : List ℕ) → (child : ℕ) → New → Work
