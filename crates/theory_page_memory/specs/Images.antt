@@ -22,7 +22,7 @@ use Rattle.theory_decoding.specs.Decode.{stored-image}
 use Rattle.theory_check.specs.Images.{image-is}
 use Rattle.theory_insert_point.specs.Chain.{lastPage}
 use Rattle.theory_insert_point.specs.Taking.{Taking, taking, taking-whole, grow-rises}
-use Rattle.theory_page_memory.specs.Memory.{Mem, State, blank, riseMem}
+use Rattle.theory_page_memory.specs.Memory.{Mem, MemState, blank, riseMem}
 use Rattle.theory_page_memory.specs.Links.{not-bit}
 use Rattle.theory_page_memory.specs.Kept.{Done, placeM, insert-kept}
 
@@ -72,7 +72,7 @@ done-free st first root w m d q a b z =
 module _ (st : Config) (x : New) (fits : NewFits x) (root : Row) (v : Valid st root) (path : List ℕ) (k : ℕ) (short : length path ≤ 22)
     (t : Taking) (e : taking root path k ≡ some t) where
   -- The state once the new node is at its place,
-  abbrev pub begun : State
+  abbrev pub begun : MemState
   begun = placeM st x (t .parent) (lastPage (t .chain)) (t .spot) (t .rest) (atRest st root) (before st root v)
 
   -- and the memory once growth is done.

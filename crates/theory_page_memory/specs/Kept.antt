@@ -14,9 +14,9 @@ use Rattle.theory_rows.specs.Fits.{Fits, Valid}
 use Rattle.theory_rows.specs.Image.{Stored}
 use Rattle.theory_rows.specs.Pages.{bit, reserved, tally-freed, tally-rest}
 use Rattle.theory_insert_point.specs.Chain.{Spot, fill, Chain, top, below, lastPage, lastSettled, lastHolder, whole, rise}
-use Rattle.theory_page_memory.specs.Memory.{Mem, blank, setMem, putMem, keptMem, riseMem, placeMem, State, separatorM}
+use Rattle.theory_page_memory.specs.Memory.{Mem, blank, setMem, putMem, keptMem, riseMem, placeMem, MemState, separatorM}
 use Rattle.theory_page_memory.specs.Links.{Loose, self, stored-loose, loose-agree, set-other, put-other, put-same, put-stored}
-use Rattle.theory_page_memory.specs.Steps.{Now, Step, bit-le, bit-false, step-own, step-separator}
+use Rattle.theory_page_memory.specs.Steps.{Now, StepKeeps, bit-le, bit-false, step-own, step-separator}
 use Rattle.theory_insert_point.specs.Fit.{fits-fill}
 use Rattle.theory_insert_point.specs.Bytes.{lastHeld}
 use Rattle.theory_page_memory.specs.Back.{fits-whole, fits-rise}
@@ -81,7 +81,7 @@ module _ (st : Config) (first : List ℕ) where
       v : Work
       v = counted st r w
 
-      sep : State
+      sep : MemState
       sep = separatorM st q r v m
 
       go : (b : Bool) → DoneBy c (cond b (r, w) (separator st q r v))
@@ -150,7 +150,7 @@ module _ (st : Config) (first : List ℕ) where
       c′ : Chain
       c′ = below c s q false rest
 
-      sep : State
+      sep : MemState
       sep = separatorM st q r (freed st q (counted st r w)) (setMem q blank m)
 
       up : Row
@@ -177,10 +177,10 @@ module _ (st : Config) (first : List ℕ) where
 
 module _ (st : Config) (x : New) (parent : Head) (page : ℕ) (s : Spot) (rest : Row) where
   -- The new node at a spot, itself or in a record of its own.
-  abbrev pub placeM : Work → Mem → State
+  abbrev pub placeM : Work → Mem → MemState
   placeM w m = let o = place st x parent page rest w in record { row = fill s (o .0); work = o .1; mem = placeMem st x parent page w m }
 
-  pub step-place : (e : ℕ → ℕ) (w : Work) (m : Mem) → Fits (placeM w m .row) → Step e (fill s rest) w m (placeM w m)
+  pub step-place : (e : ℕ → ℕ) (w : Work) (m : Mem) → Fits (placeM w m .row) → StepKeeps e (fill s rest) w m (placeM w m)
   step-place e w m = go (apart st parent (x .head)) (eqb (x .kind) 1)
     where
       q : ℕ
@@ -200,7 +200,7 @@ module _ (st : Config) (x : New) (parent : Head) (page : ℕ) (s : Spot) (rest :
       out : Bool → Bool → Out
       out a k = cond {A = Out} a (rec q true (new k nil) rest, taken st q w) (new k rest, w)
 
-      here : (n : Row) → ((p : ℕ) → count p n ≡ 0) → Loose m n → Step e (fill s rest) w m (record { row = fill s (n ⊹ rest); work = w; mem = m })
+      here : (n : Row) → ((p : ℕ) → count p n ≡ 0) → Loose m n → StepKeeps e (fill s rest) w m (record { row = fill s (n ⊹ rest); work = w; mem = m })
       here n z l now full =
           let k = now full in
           record {
@@ -210,7 +210,7 @@ module _ (st : Config) (x : New) (parent : Head) (page : ℕ) (s : Spot) (rest :
           }
 
       go : (a k : Bool) → Fits (fill s (out a k .0))
-          → Step e (fill s rest) w m (record { row = fill s (out a k .0); work = out a k .1; mem = cond a (putMem q true page (new k nil) m) m })
+          → StepKeeps e (fill s rest) w m (record { row = fill s (out a k .0); work = out a k .1; mem = cond a (putMem q true page (new k nil) m) m })
       go true k f now full =
           let r = fill s rest in
           let m′ = putMem q true page (new k nil) m in

@@ -100,21 +100,21 @@ module _ (st : Config) where
 
 -- ── rows, works and memories together ──
 
-pub record State : Type 0 where
+pub record MemState : Type 0 where
   pub row : Row
   pub work : Work
   pub mem : Mem
 
 module _ (st : Config) where
-  abbrev pub groupM : (near : ℕ) → Row → Work → Mem → State
+  abbrev pub groupM : (near : ℕ) → Row → Work → Mem → MemState
   groupM near g w m = record { row = group st near g w .0; work = group st near g w .1; mem = groupMem st near g w m }
 
-  abbrev pub twoGroupsM : (near p : ℕ) → (left right : Row) → Work → Mem → State
+  abbrev pub twoGroupsM : (near p : ℕ) → (left right : Row) → Work → Mem → MemState
   twoGroupsM near p a b w m = record { row = twoGroups st near p a b w .0; work = twoGroups st near p a b w .1; mem = twoMem st near p a b w m }
 
-  abbrev pub separateM : (near p at : ℕ) → (left row : Row) → Work → Mem → State
+  abbrev pub separateM : (near p at : ℕ) → (left row : Row) → Work → Mem → MemState
   separateM near p at left row w m =
       record { row = separate st near p at left row w .0; work = separate st near p at left row w .1; mem = separateMem st near p at left row w m }
 
-  abbrev pub separatorM : (near : ℕ) → Row → Work → Mem → State
+  abbrev pub separatorM : (near : ℕ) → Row → Work → Mem → MemState
   separatorM near r w m = record { row = separator st near r w .0; work = separator st near r w .1; mem = separatorMem st near r w m }

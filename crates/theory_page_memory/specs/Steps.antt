@@ -10,7 +10,7 @@ use Rattle.model.specs.Growth.{Work, Out, freeFrom, taken, group, twoGroups, se
 use Rattle.theory_rows.specs.Bound.{fits-parts}
 use Rattle.theory_rows.specs.Fits.{Fits}
 use Rattle.theory_rows.specs.Pages.{bit, count-⊹, or-left, or-right, free-found, tally-own}
-use Rattle.theory_page_memory.specs.Memory.{Mem, blank, putMem, groupMem, twoMem, separateMem, separatorMem, State, groupM, twoGroupsM, separateM}
+use Rattle.theory_page_memory.specs.Memory.{Mem, blank, putMem, groupMem, twoMem, separateMem, separatorMem, MemState, groupM, twoGroupsM, separateM}
 use Rattle.theory_page_memory.specs.Memory.{separatorM}
 use Rattle.theory_page_memory.specs.Links.{Loose, not-bit, loose-⊹, loose-parts, loose-agree, put-other, put-same, put-stored}
 
@@ -21,13 +21,13 @@ pub record Now (e : ℕ → ℕ) (r : Row) (w : Work) (m : Mem) : Type 0 where
   pub loose : Loose m r
 
 -- A step from a work and a memory: pages were left then too, row, work and memory go together, and the pages named elsewhere are as they were.
-pub record Kept (e : ℕ → ℕ) (w : Work) (m : Mem) (s : State) : Type 0 where
+pub record StepLeaves (e : ℕ → ℕ) (w : Work) (m : Mem) (s : MemState) : Type 0 where
   pub was : w .full ≡ false
   pub now : Now e (s .row) (s .work) (s .mem)
   pub frame : (q : ℕ) → 0 < e q → s .mem q ≡ m q
 
-abbrev pub Step : (e : ℕ → ℕ) → Row → Work → Mem → State → Type 0
-Step e r w m s = (w .full ≡ false → Now e r w m) → s .work .full ≡ false → Kept e w m s
+abbrev pub StepKeeps : (e : ℕ → ℕ) → Row → Work → Mem → MemState → Type 0
+StepKeeps e r w m s = (w .full ≡ false → Now e r w m) → s .work .full ≡ false → StepLeaves e w m s
 
 pub bit-le : (b : Bool) → bit b ≤ 1
 bit-le true = omega arith
@@ -38,9 +38,9 @@ bit-false true e = absurd (true≢false e)
 bit-false false e = refl
 
 -- Two steps, on the children of an aggregate and on the row behind it.
-pub step-agg : (e : ℕ → ℕ) (h : Head) (a b : Row) (w : Work) (m : Mem) (x y : State)
-    → Step (λ q. e q + count q b) a w m x → Step (λ q. e q + count q (x .row)) b (x .work) (x .mem) y
-    → Step e (agg h a b) w m (record { row = agg h (x .row) (y .row); work = y .work; mem = y .mem })
+pub step-agg : (e : ℕ → ℕ) (h : Head) (a b : Row) (w : Work) (m : Mem) (x y : MemState)
+    → StepKeeps (λ q. e q + count q b) a w m x → StepKeeps (λ q. e q + count q (x .row)) b (x .work) (x .mem) y
+    → StepKeeps e (agg h a b) w m (record { row = agg h (x .row) (y .row); work = y .work; mem = y .mem })
 step-agg e h a b w m x y f g now full =
     let now₁ : w .full ≡ false → Now (λ q. e q + count q b) a w m =
     λ z. let n = now z in record { tally = λ q. omega (arith, n .tally q); free = n .free; loose = n .loose .0 } in
@@ -66,7 +66,7 @@ step-agg e h a b w m x y f g now full =
 
 -- The same state, with the two rows joined.
 joined : (e : ℕ → ℕ) (h : Head) (w : Work) (m : Mem) (a b : Row) (v : Work) (n : Mem)
-    → Kept e w m (record { row = agg h a b; work = v; mem = n }) → Kept e w m (record { row = a ⊹ b; work = v; mem = n })
+    → StepLeaves e w m (record { row = agg h a b; work = v; mem = n }) → StepLeaves e w m (record { row = a ⊹ b; work = v; mem = n })
 joined e h w m a b v n k = record {
   was = k .was;
   now = record {
@@ -78,28 +78,28 @@ joined e h w m a b v n k = record {
 }
 
 -- A step on one row is a step on another with the same records.
-from : (e : ℕ → ℕ) (r r′ : Row) (w : Work) (m : Mem) (s : State) → ((q : ℕ) → count q r′ ≡ count q r) → (Loose m r → Loose m r′) → Step e r′ w m s
-    → Step e r w m s
+from : (e : ℕ → ℕ) (r r′ : Row) (w : Work) (m : Mem) (s : MemState) → ((q : ℕ) → count q r′ ≡ count q r) → (Loose m r → Loose m r′) → StepKeeps e r′ w m s
+    → StepKeeps e r w m s
 from e r r′ w m s c l f now full =
     f (λ z. let n = now z in record { tally = λ q. omega (arith, n .tally q, c q); free = n .free; loose = l (n .loose) }) full
 
 -- No step.
-stay : (e : ℕ → ℕ) (r : Row) (w : Work) (m : Mem) → Step e r w m (record { row = r; work = w; mem = m })
+stay : (e : ℕ → ℕ) (r : Row) (w : Work) (m : Mem) → StepKeeps e r w m (record { row = r; work = w; mem = m })
 stay e r w m now full = record { was = full; now = now full; frame = λ q z. refl }
 
-abbrev together : Out → Mem → State
+abbrev together : Out → Mem → MemState
 together o m = record { row = o .0; work = o .1; mem = m }
 
-pick : (e : ℕ → ℕ) (r : Row) (w : Work) (m : Mem) (b : Bool) (o u : Out) (n v : Mem) → (Fits (o .0) → Step e r w m (together o n))
-    → (Fits (u .0) → Step e r w m (together u v))
-    → Fits (cond b o u .0) → Step e r w m (together (cond b o u) (cond b n v))
+pick : (e : ℕ → ℕ) (r : Row) (w : Work) (m : Mem) (b : Bool) (o u : Out) (n v : Mem) → (Fits (o .0) → StepKeeps e r w m (together o n))
+    → (Fits (u .0) → StepKeeps e r w m (together u v))
+    → Fits (cond b o u .0) → StepKeeps e r w m (together (cond b o u) (cond b n v))
 pick e r w m true o u n v f g k = f k
 pick e r w m false o u n v f g k = g k
 
 module _ (st : Config) (near : ℕ) where
   -- A row becomes a record on a free page.
   pub step-own : (e : ℕ → ℕ) (s : Bool) (h : ℕ) (g : Row) (w : Work) (m : Mem) → Fits g
-      → let q = freeFrom st (st .pages) (w .used) near in Step e g w m (record { row = rec q s g nil; work = taken st q w; mem = putMem q s h g m })
+      → let q = freeFrom st (st .pages) (w .used) near in StepKeeps e g w m (record { row = rec q s g nil; work = taken st q w; mem = putMem q s h g m })
   step-own e s h g w m f now full =
       let q = freeFrom st (st .pages) (w .used) near in
       let was = or-left (w .full) (eqb q 0) full in
@@ -120,7 +120,7 @@ module _ (st : Config) (near : ℕ) where
         frame = λ p z. put-other q s h g m p (omega (arith, one p));
       }
 
-  step-group : (e : ℕ → ℕ) (g : Row) (w : Work) (m : Mem) → Fits (group st near g w .0) → Step e g w m (groupM st near g w m)
+  step-group : (e : ℕ → ℕ) (g : Row) (w : Work) (m : Mem) → Fits (group st near g w .0) → StepKeeps e g w m (groupM st near g w m)
   unfolding group groupMem
   step-group e g w m f =
       let q = freeFrom st (st .pages) (w .used) near in
@@ -129,7 +129,7 @@ module _ (st : Config) (near : ℕ) where
 
   module _ (p : ℕ) where
     step-two : (e : ℕ → ℕ) (h : Head) (a b : Row) (w : Work) (m : Mem) → Fits (twoGroups st near p a b w .0)
-        → Step e (agg h a b) w m (twoGroupsM st near p a b w m)
+        → StepKeeps e (agg h a b) w m (twoGroupsM st near p a b w m)
     unfolding twoGroups twoMem
     step-two e h a b w m f now full =
         let x = groupM st near a w m in
@@ -140,14 +140,14 @@ module _ (st : Config) (near : ℕ) where
         (step-group (λ q. e q + count q b) a w m (fs .0)) (step-group (λ q. e q + count q (x .row)) b (x .work) (x .mem) (fs .1)) now full)
 
     -- a node that is passed
-    passed : (e : ℕ → ℕ) (h : Head) (left one rest : Row) (w : Work) (m : Mem) (s : State) → Step e (agg h (left ⊹ one) rest) w m s
-        → Step e (agg h left (one ⊹ rest)) w m s
+    passed : (e : ℕ → ℕ) (h : Head) (left one rest : Row) (w : Work) (m : Mem) (s : MemState) → StepKeeps e (agg h (left ⊹ one) rest) w m s
+        → StepKeeps e (agg h left (one ⊹ rest)) w m s
     passed e h left one rest w m s f =
         from e (agg h left (one ⊹ rest)) (agg h (left ⊹ one) rest) w m s (λ q. omega (arith, count-⊹ q left one, count-⊹ q one rest))
         (λ k. let z = loose-parts m one rest (k .1) in (loose-⊹ m left one (k .0) (z .0), z .1)) f
 
     pub step-separate : (e : ℕ → ℕ) (h : Head) (at : ℕ) (left row : Row) (w : Work) (m : Mem) → Fits (separate st near p at left row w .0)
-        → Step e (agg h left row) w m (separateM st near p at left row w m)
+        → StepKeeps e (agg h left row) w m (separateM st near p at left row w m)
     unfolding separate separateMem
     step-separate e h at left nil w m f =
         from e (agg h left nil) left w m (groupM st near left w m) (λ q. omega arith) (λ k. k .0) (step-group e left w m f)
@@ -194,7 +194,7 @@ module _ (st : Config) (near : ℕ) where
         f
 
   -- A split: if the separator's records fit, they stand on their pages.
-  pub step-separator : (e : ℕ → ℕ) (r : Row) (w : Work) (m : Mem) → Fits (separator st near r w .0) → Step e r w m (separatorM st near r w m)
+  pub step-separator : (e : ℕ → ℕ) (r : Row) (w : Work) (m : Mem) → Fits (separator st near r w .0) → StepKeeps e r w m (separatorM st near r w m)
   unfolding separator separatorMem separate separateMem group groupMem
   step-separator e r w m = go (lone r) r
     where
@@ -205,7 +205,7 @@ module _ (st : Config) (near : ℕ) where
       h = record { label = 0 }
 
       go : (b : Bool) (r : Row) → Fits (withRow st b r (separate st near S 6 nil (rootRow st b r) w .0))
-          → Step e r w m (record {
+          → StepKeeps e r w m (record {
             row = withRow st b r (separate st near S 6 nil (rootRow st b r) w .0);
             work =
                 separate st near S 6 nil (rootRow st b r) w .1;
