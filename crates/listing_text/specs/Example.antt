@@ -46,8 +46,13 @@ filled-is : filled alone ≡ image settings root
 unfolding image inRange valid placeAt twoAt grow inserted after kept lengthOk nodesIn sameBytes reading insertNumber opened insertOf
 filled-is = refl
 
+-- Naming this unfolds every definition that the text is made with.
+worded : Unit {0}
+unfolding decimalBy decimalOf hexOf contentOf lineOf linesOf headLine listingOf listingOn printed
+worded = tt
+
 printed-is : printed (image settings root) ≡ text
-unfolding image inRange valid twoAt lengthOk nodesIn sameBytes reading opened decimalBy decimalOf hexOf contentOf lineOf linesOf headLine listingOf listingOn printed
+unfolding worded image inRange valid twoAt lengthOk nodesIn sameBytes reading opened
 printed-is = refl
 
 -- What is printed for the image that the calls leave.

@@ -119,7 +119,8 @@ pub record BenchSheet : Type 0 where
   pub last386 : put seven 7 386 .0 ≡ answer 1 3688 0 (pos 0)
   pub last386Used : used (put seven 7 386 .1) 1 ≡ capacity
   -- In every image, what the call keeps or splits is the root record with the literal in it. S, p and d below are that record's.
-  pub splitting : (img : List ℕ) (k n : ℕ) → put img k n ≡ onStore (opened img) (λ m. (insertRefused m, img)) (λ st root. ended img st root k n (kept st 1 (joined st root k n)))
+  pub splitting : (img : List ℕ) (k n : ℕ)
+      → put img k n ≡ onStore (opened img) (λ m. (insertRefused m, img)) (λ st root. ended img st root k n (kept st 1 (joined st root k n)))
   -- With 387 bytes instead: S 4,081, p 2,040, d starts at 1,584, lean -456.
   pub last387S : sizeS seven 7 387 ≡ 4081
   pub last387p : pointP seven 7 387 ≡ 2040
@@ -137,7 +138,8 @@ pub record BenchSheet : Type 0 where
   -- Three more appended in five pages: page 3 splits to pages 3 and 4, the root is 30 bytes, one split reported.
   pub more : (nine .0 ≡ answer 3 2636 0 (pos 0)) × (ten .0 ≡ answer 3 3162 0 (pos 0)) × (eleven .0 ≡ answer 4 2110 1 (negsuc 522))
   pub moreUsed : (used (eleven .1) 1 ≡ 30) × (used (eleven .1) 2 ≡ 1584) × (used (eleven .1) 3 ≡ 1584) × (used (eleven .1) 4 ≡ 2636)
-  pub morePages : (held (eleven .1) 1 ≡ rootBytes 3) × (held (eleven .1) 2 ≡ helperOf 3) × (held (eleven .1) 3 ≡ helperOf 3) × (held (eleven .1) 4 ≡ helperOf 5)
+  pub morePages : (held (eleven .1) 1 ≡ rootBytes 3) × (held (eleven .1) 2 ≡ helperOf 3) × (held (eleven .1) 3 ≡ helperOf 3)
+      × (held (eleven .1) 4 ≡ helperOf 5)
   -- Content 520 goes in; 521 gives 6; 521 under a path of 23 gives 4.
   pub content520 : put (fresh 3) 0 mostContent .0 ≡ answer 1 6 0 (pos 0)
   pub content521 : put (fresh 3) 0 521 ≡ (insertRefused 6, fresh 3)
@@ -211,7 +213,8 @@ chain-is = refl
 
 -- ── the lines on them ──
 
-splitting-is : (img : List ℕ) (k n : ℕ) → put img k n ≡ onStore (opened img) (λ m. (insertRefused m, img)) (λ st root. ended img st root k n (kept st 1 (joined st root k n)))
+splitting-is : (img : List ℕ) (k n : ℕ)
+    → put img k n ≡ onStore (opened img) (λ m. (insertRefused m, img)) (λ st root. ended img st root k n (kept st 1 (joined st root k n)))
 unfolding insertOf grow
 splitting-is img k n = refl
 
@@ -244,7 +247,8 @@ full-is : put (sevenImage 3) 7 mostContent ≡ (insertRefused 12, sevenImage 3)
 unfolding computed
 full-is = refl
 
-sizes : (used (sevenImage 5) 1 ≡ 3688) × (used (image (usual 5) (withLast 386)) 1 ≡ capacity) × (used eightImage 1 ≡ 22) × (used eightImage 2 ≡ 1584) × (used eightImage 3 ≡ 2636)
+sizes : (used (sevenImage 5) 1 ≡ 3688) × (used (image (usual 5) (withLast 386)) 1 ≡ capacity)
+    × (used eightImage 1 ≡ 22) × (used eightImage 2 ≡ 1584) × (used eightImage 3 ≡ 2636)
     × (used elevenImage 1 ≡ 30) × (used elevenImage 2 ≡ 1584) × (used elevenImage 3 ≡ 1584) × (used elevenImage 4 ≡ 2636)
 unfolding image twoAt
 sizes = (refl, refl, refl, refl, refl, refl, refl, refl, refl)
@@ -276,7 +280,10 @@ ten-all = next-is 9 nine-all ten-is
 eleven-all : eleven ≡ (answer 4 2110 1 (negsuc 522), elevenImage)
 eleven-all = next-is 10 ten-all eleven-is
 
--- What is said of the image, said of the pair.
+-- The answer of a pair, and what is said of its image.
+answer-of : {z : InsertAnswer × List ℕ} {a : InsertAnswer} {img : List ℕ} → z ≡ (a, img) → z .0 ≡ a
+answer-of e = ap (λ (z : InsertAnswer × List ℕ). z .0) e
+
 on-image : {A : Type 0} (f : List ℕ → A) {z : InsertAnswer × List ℕ} {a : InsertAnswer} {img : List ℕ} {x : A} → z ≡ (a, img) → f img ≡ x → f (z .1) ≡ x
 on-image f e g = ap (λ (z : InsertAnswer × List ℕ). f (z .1)) e ∙ g
 
@@ -302,11 +309,11 @@ bench-sheet = record {
   last520S = aims mostContent 4214 2107 1584 aims520 .0;
   last520p = aims mostContent 4214 2107 1584 aims520 .1;
   last520d = aims mostContent 4214 2107 1584 aims520 .2;
-  last520 = ap (λ (z : InsertAnswer × List ℕ). z .0) eight-all;
+  last520 = answer-of eight-all;
   last520Used = (on-image (λ i. used i 1) eight-all (sizes .2), on-image (λ i. used i 2) eight-all (sizes .3), on-image (λ i. used i 3) eight-all (sizes .4));
   last520Pages = (on-image (λ i. held i 1) eight-all (pages .0), on-image (λ i. held i 2) eight-all (pages .1), on-image (λ i. held i 3) eight-all (pages .2));
   full = ap (λ (img : List ℕ). put img 7 mostContent) seven-in-three ∙ full-is ∙ ap (λ (img : List ℕ). (insertRefused 12, img)) (sym seven-in-three);
-  more = (ap (λ (z : InsertAnswer × List ℕ). z .0) nine-all, ap (λ (z : InsertAnswer × List ℕ). z .0) ten-all, ap (λ (z : InsertAnswer × List ℕ). z .0) eleven-all);
+  more = (answer-of nine-all, answer-of ten-all, answer-of eleven-all);
   moreUsed = (
     on-image (λ i. used i 1) eleven-all (sizes .5),
     on-image (λ i. used i 2) eleven-all (sizes .6),

@@ -132,10 +132,12 @@ module _ {M : Type 1} (𝓤 : URA M) (H : Heap 𝓤) (A : Atoms 𝓤) (W : Given
       × (d .node ≡ readOf (now s) (record { page = p; offset = o }))
 
   -- what is said of the answer, from what the three calls say
-  said : (d : ReadAnswer) (x : RefT (List ℕ)) (r : ReadNode) → r ≡ readOf (now s) (record { page = p; offset = o }) → Part r x → (d .content ≡ x) × (d .node ≡ r) → Said d
+  said : (d : ReadAnswer) (x : RefT (List ℕ)) (r : ReadNode) → r ≡ readOf (now s) (record { page = p; offset = o }) → Part r x
+      → (d .content ≡ x) × (d .node ≡ r) → Said d
   said d x r e part e″ = (
     ap now (e″ .0) ∙ part .0 ∙ ap (λ (n : ReadNode). slice (now s) (n .start) (n .len)) e ∙ part-is (now s) (record { page = p; offset = o }),
-    ap ptr (e″ .0) ∙ part .1 ∙ ap (λ (n : ReadNode). byteOf s (startIn (now s) (n .start) (n .len))) e ∙ ap (byteOf s) (part-starts (now s) (record { page = p; offset = o })),
+    ap ptr (e″ .0) ∙ part .1 ∙ ap (λ (n : ReadNode). byteOf s (startIn (now s) (n .start) (n .len))) e
+        ∙ ap (byteOf s) (part-starts (now s) (record { page = p; offset = o })),
     e″ .1 ∙ e,
   )
 
