@@ -65,7 +65,7 @@ abbrev lits : ℕ → Row
 lits zero = nil
 lits (suc n) = lit (record { label = 9 }) (replicate mostContent 0) (lits n)
 
--- The root record with the literal of `put` put in, as growth looks at it in step 3.
+-- The root record as the coming in of the literal of `put` leaves it: what growth looks at in step 3.
 abbrev joined : Config → Row → (k n : ℕ) → Out
 joined st root k n = inserted st (newOf 2 9 (replicate n 0)) k 1 0 [] root (atRest st root)
 
@@ -118,7 +118,8 @@ pub record BenchSheet : Type 0 where
   pub sevenUsed : used seven 1 ≡ 3688
   pub last386 : put seven 7 386 .0 ≡ answer 1 3688 0 (pos 0)
   pub last386Used : used (put seven 7 386 .1) 1 ≡ capacity
-  -- In every image, what the call keeps or splits is the root record with the literal in it. S, p and d below are that record's.
+  -- In every image, what the call keeps or splits at the end is the root record as the literal's coming in leaves it. Where no other record stands,
+  -- as in the two lines below, that is the record with the literal in it, and S, p and d are its.
   pub splitting : (img : List ℕ) (k n : ℕ)
       → put img k n ≡ onStore (opened img) (λ m. (insertRefused m, img)) (λ st root. ended img st root k n (kept st 1 (joined st root k n)))
   -- With 387 bytes instead: S 4,081, p 2,040, d starts at 1,584, lean -456.
