@@ -7,9 +7,11 @@
  *
  * Each function returns 0, or the number of the first refusal that applies. A refused call writes zeros to its answer numbers and changes no
  * byte of the image or of a byte buffer. Any bytes and any numbers may be handed over, but
- *  - no pointer may be null, also where its length is 0;
+ *  - a pointer may be null only where it has a length, and that is 0: an empty path or content may be NULL, 0;
  *  - a length is the number of bytes that the pointer leads to;
- *  - a buffer that is lent for writing overlaps neither the image nor another buffer of the same call.
+ *  - a buffer that is lent for writing, as are all answer numbers, overlaps neither the image nor another buffer of the same call.
+ * A buffer that is only read (matrix, path, parent, content) may lie in the image, also where the call changes the image: what counts are its bytes
+ * when the call is made. So format keeps its own matrix by image + 16, 256, and insert copies a content from where nl_read has found it.
  * The image and the buffers stay the caller's; the library keeps no pointer. The functions keep no state and allocate nothing: they may be called
  * from several threads on different images. They need up to 416 KB of stack on the deepest images, 24 KB on usual ones (each record nested in
  * another takes some 390 bytes).

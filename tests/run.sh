@@ -9,6 +9,7 @@ flags=(-std=c99 -O2 -Wall -Wextra -Werror)
 "$cc" "${flags[@]}" tests/replay.c target/staticlib/libnichelarder.a -o target/replay
 "$cc" "${flags[@]}" tests/deep.c target/staticlib/libnichelarder.a -o target/deep
 "$cc" "${flags[@]}" tests/stack.c target/staticlib/libnichelarder.a -o target/stack -pthread
+"$cc" "${flags[@]}" tests/buffers.c target/staticlib/libnichelarder.a -o target/buffers
 # the header alone, in C and in C++, and the example, whose output is stored
 strict=(-Wall -Wextra -Wpedantic -Wconversion -Wshadow -Werror)
 "$cc" -std=c99 "${strict[@]}" -Wstrict-prototypes -Wmissing-prototypes -c tests/header.c -o target/header.o
@@ -21,4 +22,5 @@ REPLAY=target/replay bash tests/random.sh inserts 8000
 REPLAY=target/replay bash tests/random.sh hostile 20000
 (ulimit -s 1024 && target/deep)
 target/stack
+target/buffers
 bash tests/listing.sh

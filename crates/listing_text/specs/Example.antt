@@ -1,19 +1,25 @@
--- The listing that document 01 prints, from the definition.
-use mathlib.Core.Path.{_≡_, refl}
+-- The listing that document 01 prints, from the definitions of the calls and of the listing.
+use mathlib.Core.Path.{_≡_, refl, ap, _∙_}
 use mathlib.Core.List.{List, [], _∷_, _++_}
-use Prim.Native.Nat.{ℕ}
-use lib.ListN.{replicate}
-use Rattle.model.specs.Row.{Row, nil, agg, lit, Config}
-use Rattle.listing_text.specs.Text.{decimalBy, decimalOf, hexOf, contentOf, lineOf, linesOf, headLine, listingOf}
+use Prim.Native.Nat.{ℕ, _*_}
+use lib.ListN.{length}
+use Rattle.model.specs.Limits.{pageSize}
+use Rattle.model.specs.Row.{Row, nil, agg, lit, Config, image, inRange, valid}
+use Rattle.model.specs.Tree.{placeAt}
+use Rattle.model.specs.Growth.{grow, inserted, after, kept}
+use Rattle.model.specs.Reading.{lengthOk, twoAt, nodesIn, sameBytes, reading}
+use Rattle.model.specs.Answers.{usualSettings, usualMatrix}
+use Rattle.model.specs.Calls.{config, accept, insertNumber, formatNumber, opened, formatOf, insertOf}
+use Rattle.listing_text.specs.Text.{decimalBy, decimalOf, hexOf, contentOf, lineOf, linesOf, headLine, listingOf, listingOn, printed}
 
-abbrev pub settings : Config
-settings = record { pages = 3; target = 128; tolerance = 409; form = 1; matrix = replicate 256 2 }
+-- Some bytes formatted as three pages with root label 7; then literal 9 with bytes 41 42 at child 0, then aggregate 300 at child 0.
+abbrev formatted : (bytes : List ℕ) → List ℕ
+formatted b = formatOf b (usualSettings 3) usualMatrix 7 .1
 
--- Root label 7; at child 0 aggregate 300, then literal 9 with bytes 41 42.
-abbrev pub root : Row
-root = agg (record { label = 7 }) (agg (record { label = 300 }) nil (lit (record { label = 9 }) (65 ∷ 66 ∷ []) nil)) nil
+abbrev filled : (img : List ℕ) → List ℕ
+filled img = insertOf (insertOf img [] 0 2 9 (0x41 ∷ 0x42 ∷ []) .1) [] 0 1 300 [] .1
 
--- Its four lines.
+-- The four lines.
 abbrev pub text : List ℕ
 text =
     (112 ∷ 97 ∷ 103 ∷ 101 ∷ 115 ∷ 32 ∷ 51 ∷ 32 ∷ 102 ∷ 114 ∷ 101 ∷ 101 ∷ 32 ∷ 49 ∷ 32 ∷ 114 ∷ 101 ∷ 99 ∷ 111 ∷ 114 ∷ 100 ∷ 115 ∷ 32 ∷ 49 ∷ 10 ∷ [])
@@ -21,6 +27,34 @@ text =
     ++ (50 ∷ 32 ∷ 65 ∷ 32 ∷ 51 ∷ 48 ∷ 48 ∷ 32 ∷ 45 ∷ 10 ∷ [])
     ++ (50 ∷ 32 ∷ 76 ∷ 32 ∷ 57 ∷ 32 ∷ 52 ∷ 49 ∷ 52 ∷ 50 ∷ 10 ∷ [])
 
-pub listed : listingOf settings root ≡ text
-unfolding decimalBy decimalOf hexOf contentOf lineOf linesOf headLine listingOf
-listed = refl
+-- ── the image, one call after another ──
+
+abbrev settings : Config
+settings = config (usualSettings 3) usualMatrix
+
+abbrev root : Row
+root = agg (record { label = 7 }) (agg (record { label = 300 }) nil (lit (record { label = 9 }) (0x41 ∷ 0x42 ∷ []) nil)) nil
+
+abbrev alone : List ℕ
+alone = image settings (agg (record { label = 7 }) nil nil)
+
+formatted-is : (b : List ℕ) → length b ≡ pageSize * 3 → formatted b ≡ alone
+unfolding formatOf formatNumber lengthOk inRange
+formatted-is b e = ap (λ (n : ℕ). accept {A = ℕ × List ℕ} n (0, alone) (n, b) .1) (ap (λ (m : ℕ). formatNumber m settings) e)
+
+filled-is : filled alone ≡ image settings root
+unfolding image inRange valid placeAt twoAt grow inserted after kept lengthOk nodesIn sameBytes reading insertNumber opened insertOf
+filled-is = refl
+
+-- Naming this unfolds every definition that the text is made with.
+worded : Unit {0}
+unfolding decimalBy decimalOf hexOf contentOf lineOf linesOf headLine listingOf listingOn printed
+worded = tt
+
+printed-is : printed (image settings root) ≡ text
+unfolding worded image inRange valid twoAt lengthOk nodesIn sameBytes reading opened
+printed-is = refl
+
+-- What is printed for the image that the calls leave.
+pub listed : (b : List ℕ) → length b ≡ pageSize * 3 → printed (filled (formatted b)) ≡ text
+listed b e = ap (λ (img : List ℕ). printed (filled img)) (formatted-is b e) ∙ ap printed filled-is ∙ printed-is

@@ -1,4 +1,5 @@
 // The entry points for C, as include/nichelarder.h declares them: numbers and byte buffers, over the proved calls.
+use base_numbers::copy_in;
 use model::Next;
 use model::Place;
 use model::Settings;
@@ -28,7 +29,13 @@ pub extern "C" fn nl_format(
         tolerance: tolerance as usize,
         form: form as usize,
     };
-    store::format(image, s, matrix, label)
+    if matrix.len() != Settings::ENTRIES {
+        return store::format(image, s, matrix, label);
+    }
+    // the entries may lie in the image, which format clears before it writes them
+    let mut entries = [0u8; Settings::ENTRIES];
+    copy_in(matrix, &mut entries, 0);
+    store::format(image, s, &entries, label)
 }
 
 #[no_mangle]

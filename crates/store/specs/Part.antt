@@ -7,6 +7,7 @@ use native.Mathlib.Omega.{arith}
 use borrow.Author.Tests.{eqb-true, eqb-false, le-leb}
 use lib.ListN.{length, take, drop}
 use lib.Dec.{leb, eqb}
+use denote.Ref.{RefT}
 use Rattle.model.specs.Limits.{pageSize}
 use Rattle.model.specs.Row.{Row, Config}
 use Rattle.model.specs.Tree.{shown, Node, nodes, placeOf, fromPlace}
@@ -24,6 +25,14 @@ use Rattle.theory_calls.specs.Pieces.{literal-content}
 -- So many bytes from a start on, or none where they do not lie in the image.
 unfoldable pub slice : (img : List ℕ) → (start len : ℕ) → List ℕ
 slice img a n = cond (leb a (length img)) (cond (leb n (length img - a)) (take n (drop a img)) []) []
+
+-- Where they start; where there are none, at 0.
+unfoldable pub startIn : (img : List ℕ) → (start len : ℕ) → ℕ
+startIn img a n = cond (leb a (length img)) (cond (leb n (length img - a)) a 0) 0
+
+-- Where byte k of the image stands in memory: so many bytes past the first, in the image's own block.
+abbrev pub byteOf : (image : RefT (List ℕ)) → (k : ℕ) → ℕ × ℕ
+byteOf image k = (image .ptr .0, k + image .ptr .1)
 
 inside-slice : (img : List ℕ) (a n : ℕ) → a + n ≤ length img → slice img a n ≡ take n (drop a img)
 unfolding slice
@@ -59,5 +68,12 @@ part-inside img x = go (eqb (checkOf img) 0) refl
     go true e = let p = passing img (eqb-true (checkOf img) 0 e) in read-inside img (p .0 .0) (p .0 .1) (p .1) x
     go false e = refused-inside img x (checkOf img) refl (eqb-false (checkOf img) 0 e)
 
+inside-start : (img : List ℕ) (a n : ℕ) → a + n ≤ length img → startIn img a n ≡ a
+unfolding startIn
+inside-start img a n h = rw (le-leb a (length img) (omega arith), le-leb n (length img - a) (omega arith))
+
 pub part-is : (img : List ℕ) (x : Place) → slice img (readOf img x .start) (readOf img x .len) ≡ partOf img (readOf img x)
 part-is img x = inside-slice img (readOf img x .start) (readOf img x .len) (part-inside img x)
+
+pub part-starts : (img : List ℕ) (x : Place) → startIn img (readOf img x .start) (readOf img x .len) ≡ readOf img x .start
+part-starts img x = inside-start img (readOf img x .start) (readOf img x .len) (part-inside img x)

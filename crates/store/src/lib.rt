@@ -12,7 +12,7 @@ ghost use lib.ListN.{length};
 ghost use Rattle.model.specs.Limits.{mostPages};
 ghost use Rattle.model.specs.Calls.{formatOf, checkOf, insertOf, findOf, climbOf, readOf, partOf, nextOf, recordsOf};
 ghost use Rattle.theory_layout.specs.Widths.{Widths};
-ghost use Rattle.store.specs.Part.{slice};
+ghost use Rattle.store.specs.Part.{slice, startIn, byteOf};
 ghost use Rattle.read_records.specs.Up.{upPages};
 
 // Leaves a root aggregate alone, pages 2 on free.
@@ -125,9 +125,10 @@ pub fn read_at(image: &[u8], page: usize, offset: usize) -> ReadNode
     )
 }
 
-// The part of the image that a node's numbers name, none where they name none.
+// The part of the image that a node's numbers name, none where they name none. It is the image's own, from the start on: no copy.
 pub fn part_of(image: &[u8], node: ReadNode) -> &[u8]
-    ensures { λ r. ⌜ now r ≡ slice (now (image .entry)) (node .start) (node .len) ⌝ }
+    ensures { λ r. ⌜ (now r ≡ slice (now (image .entry)) (node .start) (node .len))
+        × (r .ptr ≡ byteOf (image .entry) (startIn (now (image .entry)) (node .start) (node .len))) ⌝ }
 {
     let a = node.start;
     let n = node.len;
@@ -156,6 +157,7 @@ fn answer<'a>(content: &'a [u8], node: ReadNode) -> ReadAnswer<'a>
 // What stands at a place: the node's numbers, and its content.
 pub fn read<'a>(image: &'a [u8], page: usize, offset: usize) -> ReadAnswer<'a>
     ensures { λ r. ⌜ (now (r .content) ≡ partOf (now (image .entry)) (readOf (now (image .entry)) (record { page = page; offset = offset })))
+        × (r .content .ptr ≡ byteOf (image .entry) (readOf (now (image .entry)) (record { page = page; offset = offset }) .start))
         × (r .node ≡ readOf (now (image .entry)) (record { page = page; offset = offset })) ⌝ }
 {
     let node = read_at(image, page, offset);

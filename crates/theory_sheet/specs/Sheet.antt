@@ -1,17 +1,17 @@
 -- The starred lines of the bench sheet: calls on image bytes, computed from the definitions.
-use mathlib.Core.Path.{_≡_, refl, ap, _∙_}
+use mathlib.Core.Path.{_≡_, refl, sym, ap, _∙_}
 use mathlib.Core.Bool.{false}
 use mathlib.Core.List.{List, [], _∷_, _++_}
 use Prim.Native.Nat.{ℕ, zero, suc, _+_, _*_}
 use lib.ListN.{take, replicate}
 use lib.IntN.{ℤ, pos, negsuc}
 use Rattle.model.specs.Limits.{pageSize, capacity, mostContent, mostNode, longestPath}
-use Rattle.model.specs.Row.{Row, nil, agg, lit, rec, _⊹_, recordSize, header, bytes, Config, image, inRange, valid, noHead}
-use Rattle.model.specs.Tree.{placeAt}
-use Rattle.model.specs.Growth.{grow, inserted, after, kept, close, separator, separate, group, twoGroups, freeFrom, startOf, startOfD, splitPoint}
+use Rattle.model.specs.Row.{Row, nil, agg, lit, rec, _⊹_, recordSize, header, bytes, two, Config, image, inRange, valid, noHead}
+use Rattle.model.specs.Tree.{shown, placeAt, placeOf}
+use Rattle.model.specs.Growth.{Out, atRest, grow, inserted, after, kept, close, separator, separate, group, twoGroups, freeFrom, startOf, startOfD, splitPoint}
 use Rattle.model.specs.Reading.{lengthOk, twoAt, pageOf, nodesIn, sameBytes, reading, usedAt}
 use Rattle.model.specs.Answers.{usualSettings, findRefused, insertRefused}
-use Rattle.model.specs.Calls.{config, insertNumber, findIn, formatNumber, opened, formatOf, insertOf, findOf}
+use Rattle.model.specs.Calls.{config, newOf, accept, placeOr, onStore, insertNumber, findIn, formatNumber, opened, formatOf, insertOf, findOf}
 use Rattle.model.specs.declared.InsertAnswer.{InsertAnswer}
 
 -- An image of n pages with the usual settings, formatted with root label 7.
@@ -41,29 +41,73 @@ usual n = config (usualSettings n) (replicate 256 2)
 abbrev listing : List ℕ
 listing = insertOf (insertOf (fresh 3) [] 0 2 9 (0x41 ∷ 0x42 ∷ []) .1) [] 0 1 300 [] .1
 
--- Seven literals of 520 bytes in five pages, and eight of them.
+-- Seven literals of 520 bytes in five pages, and in three; then one after another, four more in five pages.
 abbrev seven : List ℕ
 seven = filled 7 0 (fresh 5)
+
+abbrev sevenInThree : List ℕ
+sevenInThree = filled 7 0 (fresh 3)
 
 abbrev eight : InsertAnswer × List ℕ
 eight = put seven 7 mostContent
 
--- The root record of seven literals of 520 bytes and one of n, as a row.
+abbrev nine : InsertAnswer × List ℕ
+nine = put (eight .1) 8 mostContent
+
+abbrev ten : InsertAnswer × List ℕ
+ten = put (nine .1) 9 mostContent
+
+abbrev eleven : InsertAnswer × List ℕ
+eleven = put (ten .1) 10 mostContent
+
+-- So many literals of 520 zero bytes, as a row.
 abbrev lits : ℕ → Row
 lits zero = nil
 lits (suc n) = lit (record { label = 9 }) (replicate mostContent 0) (lits n)
 
-abbrev withLast : ℕ → Row
-withLast n = agg (record { label = 7 }) (lits 7 ⊹ lit (record { label = 9 }) (replicate n 0) nil) nil
+-- The root record as the coming in of the literal of `put` leaves it: what growth looks at in step 3.
+abbrev joined : Config → Row → (k n : ℕ) → Out
+joined st root k n = inserted st (newOf 2 9 (replicate n 0)) k 1 0 [] root (atRest st root)
+
+-- The answer and the image of `put`, from what growth makes of that record.
+abbrev ended : (img : List ℕ) → Config → Row → (k n : ℕ) → Out → InsertAnswer × List ℕ
+ended img st root k n o =
+    let m = insertNumber (shown root) [] k (newOf 2 9 (replicate n 0)) (o .1 .full) in
+    let place = placeOr (placeOf (o .0) (k ∷ [])) in
+    accept m (record { number = 0; place = place; splits = o .1 .splits; lean = o .1 .lean }, image st (o .0)) (insertRefused m, img)
+
+-- S, p and the start of d of that record, in the image that `put` is called on.
+abbrev ofJoined : (Config → Row → ℕ) → (img : List ℕ) → (k n : ℕ) → ℕ
+ofJoined f img k n = onStore (opened img) (λ m. 0) (λ st root. f st (joined st root k n .0))
+
+abbrev sizeS : (img : List ℕ) → (k n : ℕ) → ℕ
+sizeS = ofJoined (λ st r. recordSize r)
+
+abbrev pointP : (img : List ℕ) → (k n : ℕ) → ℕ
+pointP = ofJoined (λ st r. splitPoint st (recordSize r))
+
+abbrev startD : (img : List ℕ) → (k n : ℕ) → ℕ
+startD = ofJoined startOfD
 
 -- n aggregates, each the one child of the one before, below the root.
 abbrev chain : (n : ℕ) → (img : List ℕ) → List ℕ
 chain zero img = img
 chain (suc n) img = let r = chain n img in insertOf r (replicate (4 * n) 0) 0 1 1 [] .1
 
--- A record's bytes: a helper over so many literals of 520 zero bytes.
+-- A record's bytes: a helper over so many literals of 520 zero bytes; the root over proxies to pages from 2 on.
 abbrev helperOf : (count : ℕ) → List ℕ
 helperOf k = header 4 noHead (6 + k * mostNode) ++ bytes (lits k)
+
+abbrev proxies : (count page : ℕ) → List ℕ
+proxies zero q = []
+proxies (suc k) q = header 3 noHead 8 ++ two q ++ proxies k (suc q)
+
+abbrev rootBytes : (count : ℕ) → List ℕ
+rootBytes k = header 1 (record { label = 7 }) (6 + 8 * k) ++ proxies k 2
+
+-- The record of a page, as long as its trailer says.
+abbrev held : (img : List ℕ) → (page : ℕ) → List ℕ
+held img q = take (used img q) (pageOf img q)
 
 pub record BenchSheet : Type 0 where
   -- Page 1 of the listing's image begins so; length 20.
@@ -74,26 +118,33 @@ pub record BenchSheet : Type 0 where
   pub sevenUsed : used seven 1 ≡ 3688
   pub last386 : put seven 7 386 .0 ≡ answer 1 3688 0 (pos 0)
   pub last386Used : used (put seven 7 386 .1) 1 ≡ capacity
+  -- In every image, what the call keeps or splits at the end is the root record as the literal's coming in leaves it. Where no other record stands,
+  -- as in the two lines below, that is the record with the literal in it, and S, p and d are its.
+  pub splitting : (img : List ℕ) (k n : ℕ)
+      → put img k n ≡ onStore (opened img) (λ m. (insertRefused m, img)) (λ st root. ended img st root k n (kept st 1 (joined st root k n)))
   -- With 387 bytes instead: S 4,081, p 2,040, d starts at 1,584, lean -456.
-  pub last387S : recordSize (withLast 387) ≡ 4081
-  pub last387p : splitPoint (usual 5) 4081 ≡ 2040
-  pub last387d : startOfD (usual 5) (withLast 387) ≡ 1584
+  pub last387S : sizeS seven 7 387 ≡ 4081
+  pub last387p : pointP seven 7 387 ≡ 2040
+  pub last387d : startD seven 7 387 ≡ 1584
   pub last387 : put seven 7 387 .0 ≡ answer 3 2110 1 (negsuc 455)
   -- With 520 instead: p 2,107, lean -523; page 2 has three literals (1,584 bytes), page 3 five (2,636), the root is 22 bytes.
-  pub last520p : splitPoint (usual 5) 4214 ≡ 2107
+  pub last520S : sizeS seven 7 mostContent ≡ 4214
+  pub last520p : pointP seven 7 mostContent ≡ 2107
+  pub last520d : startD seven 7 mostContent ≡ 1584
   pub last520 : eight .0 ≡ answer 3 2110 1 (negsuc 522)
   pub last520Used : (used (eight .1) 1 ≡ 22) × (used (eight .1) 2 ≡ 1584) × (used (eight .1) 3 ≡ 2636)
-  pub last520Pages : (take 1584 (pageOf (eight .1) 2) ≡ helperOf 3) × (take 2636 (pageOf (eight .1) 3) ≡ helperOf 5)
-  -- The same in a 3-page image: 12.
-  pub full : put (filled 7 0 (fresh 3)) 7 mostContent .0 ≡ insertRefused 12
+  pub last520Pages : (held (eight .1) 1 ≡ rootBytes 2) × (held (eight .1) 2 ≡ helperOf 3) × (held (eight .1) 3 ≡ helperOf 5)
+  -- The same in a 3-page image: 12, and the image as it was.
+  pub full : put sevenInThree 7 mostContent ≡ (insertRefused 12, sevenInThree)
   -- Three more appended in five pages: page 3 splits to pages 3 and 4, the root is 30 bytes, one split reported.
-  pub more : put (filled 2 8 (eight .1)) 10 mostContent .0 ≡ answer 4 2110 1 (negsuc 522)
-  pub moreUsed : (used (filled 3 8 (eight .1)) 1 ≡ 30) × (used (filled 3 8 (eight .1)) 2 ≡ 1584) × (used (filled 3 8 (eight .1)) 3 ≡ 1584)
-      × (used (filled 3 8 (eight .1)) 4 ≡ 2636)
+  pub more : (nine .0 ≡ answer 3 2636 0 (pos 0)) × (ten .0 ≡ answer 3 3162 0 (pos 0)) × (eleven .0 ≡ answer 4 2110 1 (negsuc 522))
+  pub moreUsed : (used (eleven .1) 1 ≡ 30) × (used (eleven .1) 2 ≡ 1584) × (used (eleven .1) 3 ≡ 1584) × (used (eleven .1) 4 ≡ 2636)
+  pub morePages : (held (eleven .1) 1 ≡ rootBytes 3) × (held (eleven .1) 2 ≡ helperOf 3) × (held (eleven .1) 3 ≡ helperOf 3)
+      × (held (eleven .1) 4 ≡ helperOf 5)
   -- Content 520 goes in; 521 gives 6; 521 under a path of 23 gives 4.
   pub content520 : put (fresh 3) 0 mostContent .0 ≡ answer 1 6 0 (pos 0)
-  pub content521 : put (fresh 3) 0 521 .0 ≡ insertRefused 6
-  pub deep521 : insertOf (fresh 3) (replicate longestPath 0) 0 2 9 (replicate 521 0) .0 ≡ insertRefused 4
+  pub content521 : put (fresh 3) 0 521 ≡ (insertRefused 6, fresh 3)
+  pub deep521 : insertOf (fresh 3) (replicate longestPath 0) 0 2 9 (replicate 521 0) ≡ (insertRefused 4, fresh 3)
   -- In a chain of 24 nodes, Find with 23 zeros gives the last; with 24 it gives 4.
   pub chain23 : findOf (chain 23 (fresh 3)) (replicate longestPath 0) ≡ record { number = 0; place = record { page = 1; offset = 138 } }
   pub chain24 : findOf (chain 23 (fresh 3)) (replicate 96 0) ≡ findRefused 4
@@ -114,8 +165,14 @@ helper q k rest = rec q false (lits k) rest
 abbrev sevenImage : (pages : ℕ) → List ℕ
 sevenImage n = image (usual n) (rootOf (lits 7))
 
+abbrev withLast : ℕ → Row
+withLast n = rootOf (lits 7 ⊹ lit (record { label = 9 }) (replicate n 0) nil)
+
 abbrev eightImage : List ℕ
 eightImage = image (usual 5) (rootOf (helper 2 3 (helper 3 5 nil)))
+
+abbrev nineImage : List ℕ
+nineImage = image (usual 5) (rootOf (helper 2 3 (helper 3 6 nil)))
 
 abbrev tenImage : List ℕ
 tenImage = image (usual 5) (rootOf (helper 2 3 (helper 3 7 nil)))
@@ -139,7 +196,11 @@ eight-is : put (sevenImage 5) 7 mostContent ≡ (answer 3 2110 1 (negsuc 522), e
 unfolding computed
 eight-is = refl
 
-ten-is : filled 2 8 eightImage ≡ tenImage
+nine-is : put eightImage 8 mostContent ≡ (answer 3 2636 0 (pos 0), nineImage)
+unfolding computed
+nine-is = refl
+
+ten-is : put nineImage 9 mostContent ≡ (answer 3 3162 0 (pos 0), tenImage)
 unfolding computed
 ten-is = refl
 
@@ -153,6 +214,11 @@ chain-is = refl
 
 -- ── the lines on them ──
 
+splitting-is : (img : List ℕ) (k n : ℕ)
+    → put img k n ≡ onStore (opened img) (λ m. (insertRefused m, img)) (λ st root. ended img st root k n (kept st 1 (joined st root k n)))
+unfolding insertOf grow
+splitting-is img k n = refl
+
 last386-is : put (sevenImage 5) 7 386 ≡ (answer 1 3688 0 (pos 0), image (usual 5) (withLast 386))
 unfolding computed
 last386-is = refl
@@ -161,43 +227,73 @@ last387-is : put (sevenImage 5) 7 387 .0 ≡ answer 3 2110 1 (negsuc 455)
 unfolding computed
 last387-is = refl
 
-full-is : put (sevenImage 3) 7 mostContent .0 ≡ insertRefused 12
+-- S, p and d where seven literals and one of n stand in the image.
+aims : (n s p d : ℕ) → (sizeS (sevenImage 5) 7 n ≡ s) × (pointP (sevenImage 5) 7 n ≡ p) × (startD (sevenImage 5) 7 n ≡ d)
+    → (sizeS seven 7 n ≡ s) × (pointP seven 7 n ≡ p) × (startD seven 7 n ≡ d)
+aims n s p d e = (
+  ap (λ (img : List ℕ). sizeS img 7 n) seven-is ∙ e .0,
+  ap (λ (img : List ℕ). pointP img 7 n) seven-is ∙ e .1,
+  ap (λ (img : List ℕ). startD img 7 n) seven-is ∙ e .2,
+)
+
+aims387 : (sizeS (sevenImage 5) 7 387 ≡ 4081) × (pointP (sevenImage 5) 7 387 ≡ 2040) × (startD (sevenImage 5) 7 387 ≡ 1584)
+unfolding computed
+aims387 = (refl, refl, refl)
+
+aims520 : (sizeS (sevenImage 5) 7 mostContent ≡ 4214) × (pointP (sevenImage 5) 7 mostContent ≡ 2107) × (startD (sevenImage 5) 7 mostContent ≡ 1584)
+unfolding computed
+aims520 = (refl, refl, refl)
+
+full-is : put (sevenImage 3) 7 mostContent ≡ (insertRefused 12, sevenImage 3)
 unfolding computed
 full-is = refl
 
-sizes : (used (sevenImage 5) 1 ≡ 3688) × (used (image (usual 5) (withLast 386)) 1 ≡ capacity) × (used eightImage 1 ≡ 22) × (used eightImage 2 ≡ 1584) × (used eightImage 3 ≡ 2636)
+sizes : (used (sevenImage 5) 1 ≡ 3688) × (used (image (usual 5) (withLast 386)) 1 ≡ capacity)
+    × (used eightImage 1 ≡ 22) × (used eightImage 2 ≡ 1584) × (used eightImage 3 ≡ 2636)
     × (used elevenImage 1 ≡ 30) × (used elevenImage 2 ≡ 1584) × (used elevenImage 3 ≡ 1584) × (used elevenImage 4 ≡ 2636)
 unfolding image twoAt
 sizes = (refl, refl, refl, refl, refl, refl, refl, refl, refl)
 
-pages : (take 1584 (pageOf eightImage 2) ≡ helperOf 3) × (take 2636 (pageOf eightImage 3) ≡ helperOf 5)
+pages : (held eightImage 1 ≡ rootBytes 2) × (held eightImage 2 ≡ helperOf 3) × (held eightImage 3 ≡ helperOf 5)
+    × (held elevenImage 1 ≡ rootBytes 3) × (held elevenImage 2 ≡ helperOf 3) × (held elevenImage 3 ≡ helperOf 3) × (held elevenImage 4 ≡ helperOf 5)
 unfolding image twoAt
-pages = (refl, refl)
+pages = (refl, refl, refl, refl, refl, refl, refl)
 
 found : (findOf (image (usual 3) (rootOf (chainRow 23))) (replicate longestPath 0) ≡ record { number = 0; place = record { page = 1; offset = 138 } })
     × (findOf (image (usual 3) (rootOf (chainRow 23))) (replicate 96 0) ≡ findRefused 4)
 unfolding computed
 found = (refl, refl)
 
--- Eight and eleven literals, from the first image on.
+-- Eight to eleven literals, from the first image on.
+next-is : {before : InsertAnswer × List ℕ} {a : InsertAnswer} {img : List ℕ} {after : InsertAnswer × List ℕ} (k : ℕ)
+    → before ≡ (a, img) → put img k mostContent ≡ after → put (before .1) k mostContent ≡ after
+next-is k e f = ap (λ (z : InsertAnswer × List ℕ). put (z .1) k mostContent) e ∙ f
+
 eight-all : eight ≡ (answer 3 2110 1 (negsuc 522), eightImage)
 eight-all = ap (λ (img : List ℕ). put img 7 mostContent) seven-is ∙ eight-is
 
-eleven-all : put (filled 2 8 (eight .1)) 10 mostContent ≡ (answer 4 2110 1 (negsuc 522), elevenImage)
-eleven-all = ap (λ (z : InsertAnswer × List ℕ). put (filled 2 8 (z .1)) 10 mostContent) eight-all ∙ ap (λ (img : List ℕ). put img 10 mostContent) ten-is ∙ eleven-is
+nine-all : nine ≡ (answer 3 2636 0 (pos 0), nineImage)
+nine-all = next-is 8 eight-all nine-is
 
-on-eight : (q n : ℕ) → used eightImage q ≡ n → used (eight .1) q ≡ n
-on-eight q n e = ap (λ (z : InsertAnswer × List ℕ). used (z .1) q) eight-all ∙ e
+ten-all : ten ≡ (answer 3 3162 0 (pos 0), tenImage)
+ten-all = next-is 9 nine-all ten-is
 
-on-eleven : (q n : ℕ) → used elevenImage q ≡ n → used (filled 3 8 (eight .1)) q ≡ n
-on-eleven q n e = ap (λ (z : InsertAnswer × List ℕ). used (z .1) q) eleven-all ∙ e
+eleven-all : eleven ≡ (answer 4 2110 1 (negsuc 522), elevenImage)
+eleven-all = next-is 10 ten-all eleven-is
+
+-- The answer of a pair, and what is said of its image.
+answer-of : {z : InsertAnswer × List ℕ} {a : InsertAnswer} {img : List ℕ} → z ≡ (a, img) → z .0 ≡ a
+answer-of e = ap (λ (z : InsertAnswer × List ℕ). z .0) e
+
+on-image : {A : Type 0} (f : List ℕ → A) {z : InsertAnswer × List ℕ} {a : InsertAnswer} {img : List ℕ} {x : A} → z ≡ (a, img) → f img ≡ x → f (z .1) ≡ x
+on-image f e g = ap (λ (z : InsertAnswer × List ℕ). f (z .1)) e ∙ g
 
 plain : (take 20 (pageOf listing 1)
     ≡ 0x01 ∷ 0x00 ∷ 0x07 ∷ 0x00 ∷ 0x14 ∷ 0x00 ∷ 0x01 ∷ 0x00 ∷ 0x2c ∷ 0x01 ∷ 0x06 ∷ 0x00 ∷ 0x02 ∷ 0x00 ∷ 0x09 ∷ 0x00 ∷ 0x08 ∷ 0x00 ∷ 0x41 ∷ 0x42 ∷ [])
-    × (used listing 1 ≡ 20) × (startOfD (usual 5) (withLast 387) ≡ 1584) × (put (fresh 3) 0 mostContent .0 ≡ answer 1 6 0 (pos 0)) × (put (fresh 3) 0 521 .0 ≡ insertRefused 6)
-    × (insertOf (fresh 3) (replicate longestPath 0) 0 2 9 (replicate 521 0) .0 ≡ insertRefused 4)
+    × (used listing 1 ≡ 20) × (put (fresh 3) 0 mostContent .0 ≡ answer 1 6 0 (pos 0)) × (put (fresh 3) 0 521 ≡ (insertRefused 6, fresh 3))
+    × (insertOf (fresh 3) (replicate longestPath 0) 0 2 9 (replicate 521 0) ≡ (insertRefused 4, fresh 3))
 unfolding computed
-plain = (refl, refl, refl, refl, refl, refl)
+plain = (refl, refl, refl, refl, refl)
 
 pub bench-sheet : BenchSheet
 bench-sheet = record {
@@ -206,23 +302,34 @@ bench-sheet = record {
   sevenUsed = ap (λ (img : List ℕ). used img 1) seven-is ∙ sizes .0;
   last386 = ap (λ (img : List ℕ). put img 7 386 .0) seven-is ∙ ap (λ (z : InsertAnswer × List ℕ). z .0) last386-is;
   last386Used = ap (λ (img : List ℕ). used (put img 7 386 .1) 1) seven-is ∙ ap (λ (z : InsertAnswer × List ℕ). used (z .1) 1) last386-is ∙ sizes .1;
-  last387S = refl;
-  last387p = refl;
-  last387d = plain .2;
+  splitting = splitting-is;
+  last387S = aims 387 4081 2040 1584 aims387 .0;
+  last387p = aims 387 4081 2040 1584 aims387 .1;
+  last387d = aims 387 4081 2040 1584 aims387 .2;
   last387 = ap (λ (img : List ℕ). put img 7 387 .0) seven-is ∙ last387-is;
-  last520p = refl;
-  last520 = ap (λ (z : InsertAnswer × List ℕ). z .0) eight-all;
-  last520Used = (on-eight 1 22 (sizes .2), on-eight 2 1584 (sizes .3), on-eight 3 2636 (sizes .4));
-  last520Pages = (
-    ap (λ (z : InsertAnswer × List ℕ). take 1584 (pageOf (z .1) 2)) eight-all ∙ pages .0,
-    ap (λ (z : InsertAnswer × List ℕ). take 2636 (pageOf (z .1) 3)) eight-all ∙ pages .1,
+  last520S = aims mostContent 4214 2107 1584 aims520 .0;
+  last520p = aims mostContent 4214 2107 1584 aims520 .1;
+  last520d = aims mostContent 4214 2107 1584 aims520 .2;
+  last520 = answer-of eight-all;
+  last520Used = (on-image (λ i. used i 1) eight-all (sizes .2), on-image (λ i. used i 2) eight-all (sizes .3), on-image (λ i. used i 3) eight-all (sizes .4));
+  last520Pages = (on-image (λ i. held i 1) eight-all (pages .0), on-image (λ i. held i 2) eight-all (pages .1), on-image (λ i. held i 3) eight-all (pages .2));
+  full = ap (λ (img : List ℕ). put img 7 mostContent) seven-in-three ∙ full-is ∙ ap (λ (img : List ℕ). (insertRefused 12, img)) (sym seven-in-three);
+  more = (answer-of nine-all, answer-of ten-all, answer-of eleven-all);
+  moreUsed = (
+    on-image (λ i. used i 1) eleven-all (sizes .5),
+    on-image (λ i. used i 2) eleven-all (sizes .6),
+    on-image (λ i. used i 3) eleven-all (sizes .7),
+    on-image (λ i. used i 4) eleven-all (sizes .8),
   );
-  full = ap (λ (img : List ℕ). put img 7 mostContent .0) seven-in-three ∙ full-is;
-  more = ap (λ (z : InsertAnswer × List ℕ). z .0) eleven-all;
-  moreUsed = (on-eleven 1 30 (sizes .5), on-eleven 2 1584 (sizes .6), on-eleven 3 1584 (sizes .7), on-eleven 4 2636 (sizes .8));
-  content520 = plain .3;
-  content521 = plain .4;
-  deep521 = plain .5;
+  morePages = (
+    on-image (λ i. held i 1) eleven-all (pages .3),
+    on-image (λ i. held i 2) eleven-all (pages .4),
+    on-image (λ i. held i 3) eleven-all (pages .5),
+    on-image (λ i. held i 4) eleven-all (pages .6),
+  );
+  content520 = plain .2;
+  content521 = plain .3;
+  deep521 = plain .4;
   chain23 = ap (λ (img : List ℕ). findOf img (replicate longestPath 0)) chain-is ∙ found .0;
   chain24 = ap (λ (img : List ℕ). findOf img (replicate 96 0)) chain-is ∙ found .1;
 }

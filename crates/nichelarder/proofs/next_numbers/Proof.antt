@@ -1,4 +1,4 @@
--- `panel::next_numbers` meets its contract: by the two cases of Next.
+-- `nichelarder::next_numbers` meets its contract: by the two cases of Next.
 use mathlib.Core.Path.{sym, ap, subst, _∙_}
 use mathlib.Core.List.{[], _∷_}
 use Prim.Native.Nat.{ℕ}

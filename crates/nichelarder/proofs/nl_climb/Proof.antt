@@ -1,4 +1,4 @@
--- `panel::nl_climb` meets its contract: the answer is handed over as it is.
+-- `nichelarder::nl_climb` meets its contract: the answer is handed over as it is.
 use mathlib.Core.Path.{ap}
 use native.Mathlib.Omega.{arith}
 use denote.Ref.{now}

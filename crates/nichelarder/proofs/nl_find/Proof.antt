@@ -1,4 +1,4 @@
--- `panel::nl_find` meets its contract: the place's numbers fit, and the answer is handed over as it is.
+-- `nichelarder::nl_find` meets its contract: the place's numbers fit, and the answer is handed over as it is.
 use mathlib.Core.Path.{ap}
 use mathlib.Core.List.{[], _∷_}
 use native.Mathlib.Omega.{arith}

@@ -1,4 +1,4 @@
--- `panel::nl_insert` meets its contract: the numbers fit, and the answer is handed over as it is.
+-- `nichelarder::nl_insert` meets its contract: the numbers fit, and the answer is handed over as it is.
 use mathlib.Core.Path.{ap, _∙_}
 use mathlib.Core.List.{[], _∷_}
 use native.Mathlib.Omega.{arith}

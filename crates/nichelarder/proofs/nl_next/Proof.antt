@@ -1,4 +1,4 @@
--- `panel::nl_next` meets its contract: the answer is handed over as it is.
+-- `nichelarder::nl_next` meets its contract: the answer is handed over as it is.
 use mathlib.Core.Path.{ap, _∙_}
 use denote.Ref.{now}
 use Rattle.model.specs.Answers.{nextNumbers}

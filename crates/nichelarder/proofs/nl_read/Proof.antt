@@ -1,4 +1,4 @@
--- `panel::nl_read` meets its contract: the answer is handed over as it is.
+-- `nichelarder::nl_read` meets its contract: the answer is handed over as it is.
 use mathlib.Core.Path.{ap}
 use native.Mathlib.Omega.{arith}
 use denote.Ref.{now}

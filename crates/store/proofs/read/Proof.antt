@@ -23,7 +23,7 @@ use denote.RattleType.{RattleType, owns}
 use denote.Laws.{Is, shows}
 use denote.Plain.{uint-vals, uint-tells, uint-makes}
 use denote.Builtin.{u8, usize}
-use denote.Ref.{RefT, NamedLft, now}
+use denote.Ref.{RefT, NamedLft, ptr, now}
 use denote.Signature.{plain, namedLft}
 use denote.Slice.{sliceVal, ShrSlice, slice-vals, shr-slice-tells, shr-slice-lawful, shr-slice-copy}
 use denote.Steps.{nothing, owned, peeks, heard}
@@ -37,7 +37,7 @@ use denote.Triple.Walked.{says, Stays, stay-none, stay-none-slice, walkOf, goes-
 use denote.Exit.{yes}
 use denote.Triple.Clauses.{ensured, lasts}
 use Rattle.model.specs.Calls.{readOf, partOf}
-use Rattle.store.specs.Part.{slice, part-is}
+use Rattle.store.specs.Part.{slice, startIn, byteOf, part-is, part-starts}
 use Rattle.store.specs.declared.ReadAnswer.{ReadAnswer}
 use Rattle.model.specs.declared.ReadNode.{ReadNode}
 use Rattle.store.proofs.ReadAnswer as T
@@ -112,8 +112,12 @@ module _ {M : Type 1} (𝓤 : URA M) (H : Heap 𝓤) (A : Atoms 𝓤) (W : Given
   abbrev to-po : ReadNode → Val → PO 𝓤 H A mem run .Ghost
   to-po r u = (((κ, tt), (q, tt), tt, (s, (r, tt)), (v ∷ [], (u ∷ [], tt))), tt)
 
-  po-said : (r : ReadNode) (x : RefT (List ℕ)) → ent 𝓤 (ensured 𝓤 H A po.ended (po.clauses 𝓤 H A mem run) (κ, tt) (s, (r, tt)) tt x) (fact 𝓤 (now x ≡ slice (now s) (r .start) (r .len)))
-  po-said r x = exE 𝓤 _ (λ ws. snd∗ 𝓤 (sem 𝓤 H A (lasts po.ended (κ, tt) (s, (r, tt)) ws)) (fact 𝓤 (now x ≡ slice (now s) (r .start) (r .len))))
+  -- the part is the image's own
+  abbrev Part : ReadNode → RefT (List ℕ) → Type 0
+  Part r x = (now x ≡ slice (now s) (r .start) (r .len)) × (x .ptr ≡ byteOf s (startIn (now s) (r .start) (r .len)))
+
+  po-said : (r : ReadNode) (x : RefT (List ℕ)) → ent 𝓤 (ensured 𝓤 H A po.ended (po.clauses 𝓤 H A mem run) (κ, tt) (s, (r, tt)) tt x) (fact 𝓤 (Part r x))
+  po-said r x = exE 𝓤 _ (λ ws. snd∗ 𝓤 (sem 𝓤 H A (lasts po.ended (κ, tt) (s, (r, tt)) ws)) (fact 𝓤 (Part r x)))
 
   -- the call of `answer`
   abbrev to-an : RefT (List ℕ) → Val → ReadNode → Val → AN 𝓤 H A mem run .Ghost
@@ -123,7 +127,19 @@ module _ {M : Type 1} (𝓤 : URA M) (H : Heap 𝓤) (A : Atoms 𝓤) (W : Given
   an-said x r d = exE 𝓤 _ (λ ws. snd∗ 𝓤 (sem 𝓤 H A (lasts an.ended (κ, tt) (x, (r, tt)) ws)) (fact 𝓤 ((d .content ≡ x) × (d .node ≡ r))))
 
   abbrev Said : ReadAnswer → Type 0
-  Said d = (now (d .content) ≡ partOf (now s) (readOf (now s) (record { page = p; offset = o }))) × (d .node ≡ readOf (now s) (record { page = p; offset = o }))
+  Said d = (now (d .content) ≡ partOf (now s) (readOf (now s) (record { page = p; offset = o })))
+      × (d .content .ptr ≡ byteOf s (readOf (now s) (record { page = p; offset = o }) .start))
+      × (d .node ≡ readOf (now s) (record { page = p; offset = o }))
+
+  -- what is said of the answer, from what the three calls say
+  said : (d : ReadAnswer) (x : RefT (List ℕ)) (r : ReadNode) → r ≡ readOf (now s) (record { page = p; offset = o }) → Part r x
+      → (d .content ≡ x) × (d .node ≡ r) → Said d
+  said d x r e part e″ = (
+    ap now (e″ .0) ∙ part .0 ∙ ap (λ (n : ReadNode). slice (now s) (n .start) (n .len)) e ∙ part-is (now s) (record { page = p; offset = o }),
+    ap ptr (e″ .0) ∙ part .1 ∙ ap (λ (n : ReadNode). byteOf s (startIn (now s) (n .start) (n .len))) e
+        ∙ ap (byteOf s) (part-starts (now s) (record { page = p; offset = o })),
+    e″ .1 ∙ e,
+  )
 
   exits : (d : ReadAnswer) (u : Val) → Said d → ent 𝓤 (⋆ 𝓤 H A (‵ (B (κ, tt) .own d (u ∷ [])) ∷ (‵ (flft κ q) ⊛ ‵ ftrue) ∷ ‵ Own ∷ [])) (Post u)
   exits d u e =
@@ -156,7 +172,7 @@ module _ {M : Type 1} (𝓤 : URA M) (H : Heap 𝓤) (A : Atoms 𝓤) (W : Given
         -- [asked; s; numbers; _5 at 3; _4 at 5; _1 at 11]
         calls-at ! fm (PO 𝓤 H A mem run) k-po (to-po r u) (and-then ! (load ! (from ! (stop !)) (look ! 11 refl)) (and-then ! (load ! (from ! (stop !)) (look ! 5 refl)) (no-more !))) (λ u′.
         use1 W (later (some (λ (x : RefT (List ℕ)). ((‵ (flft κ q) ⊛ ‵ ftrue) ⊛ ‵ (ShrSlice (named 0) κ u8 .own x (u′ ∷ []))) ⊛ raw (ensured 𝓤 H A po.ended (po.clauses 𝓤 H A mem run) (κ, tt) (s, (r, tt)) tt x)))) (id⊢ 𝓤 _) $ await ! tt $ pick ! (λ x.
-        split ! $ move ! (1 ∷ []) $ use1 W (raw (fact 𝓤 (now x ≡ slice (now s) (r .start) (r .len)))) (po-said r x) $ heard ! (now x ≡ slice (now s) (r .start) (r .len)) (λ e′. split ! $ move ! (1 ∷ []) $
+        split ! $ move ! (1 ∷ []) $ use1 W (raw (fact 𝓤 (Part r x))) (po-said r x) $ heard ! (Part r x) (λ e′. split ! $ move ! (1 ∷ []) $
         -- [the part; the token; s; numbers; _5 at 4]
         peeks ! (ShrSlice (named 0) κ u8) (Is (ShrSlice (named 0) κ u8)) (shows 𝓤 H A (ShrSlice (named 0) κ u8)) x (u′ ∷ []) (λ is′.
         land ! (from ! (stop !)) (init ! 4 refl (shr-slice-lawful 𝓤 H A W erased κ u8 .typed x (u′ ∷ []) is′ .0)) $
@@ -173,7 +189,7 @@ module _ {M : Type 1} (𝓤 : URA M) (H : Heap 𝓤) (A : Atoms 𝓤) (W : Given
         land ! (from ! (stop !)) (init ! 13 refl (LL.lawful (T.the-type α) (T′.the-laws α) 𝓤 H A W .typed d _ is″ .0)) $
         returns ! (look ! 13 refl) $ forget ! 3 refl $ forget ! 5 refl $ forget ! 7 refl $ forget ! 9 refl $ forget ! 11 refl $ forget ! 13 refl $
         move ! (13 ∷ 14 ∷ []) $ free1 ! $ move ! (11 ∷ 12 ∷ []) $ free1 ! $ move ! (9 ∷ 10 ∷ []) $ free1 ! $ move ! (7 ∷ 8 ∷ []) $ free1 ! $ move ! (5 ∷ 6 ∷ []) $ free1 ! $ move ! (3 ∷ 4 ∷ []) $ free1 ! $ free0 ! $
-        by ! (exits d u″ (ap now (e″ .0) ∙ e′ ∙ ap (λ (n : ReadNode). slice (now s) (n .start) (n .len)) e ∙ part-is (now s) (record { page = p; offset = o }), e″ .1 ∙ e))))))))))))))))))))
+        by ! (exits d u″ (said d x r e e′ e″))))))))))))))))))))
 
 module _ {M : Type 1} (𝓤 : URA M) (H : Heap 𝓤) (A : Atoms 𝓤) (W : Given 𝓤 H A) (mem : Memory → SProp 𝓤) (run : Routine → Fun 𝓤) where
   read-walks : (C : Calls 𝓤 H) (Λ : Loops 𝓤 H) → FmC 𝓤 H (W .laws) C → Triple 𝓤 (C #store·read-at) (RN 𝓤 H A mem run) → Triple 𝓤 (C #store·part-of) (PO 𝓤 H A mem run) → Triple 𝓤 (C #store·answer) (AN 𝓤 H A mem run)
