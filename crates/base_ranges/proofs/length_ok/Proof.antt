@@ -1,8 +1,8 @@
--- `format::length_ok`: each way out is a case of the tests.
+-- `base_ranges::length_ok`: each way out is a case of the tests.
 use borrow.Author.Tests.{eq-eqb, ne-eqb, le-leb, lt-leb}
 use Rattle.model.specs.Reading.{lengthOk}
-use Rattle.format.proofs.length_ok.Statement.{statement}
-use Rattle.format.proofs.length_ok.Tie as tie
+use Rattle.base_ranges.proofs.length_ok.Statement.{statement}
+use Rattle.base_ranges.proofs.length_ok.Tie as tie
 
 returns : tie.Need-returns
 unfolding lengthOk

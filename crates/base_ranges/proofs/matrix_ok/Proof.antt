@@ -1,4 +1,4 @@
--- `format::matrix_fits`: the flag, and the entries that are left, say what all the entries say.
+-- `base_ranges::matrix_ok`: the flag, and the entries that are left, say what all the entries say.
 use denote.Ref.{now}
 use mathlib.Core.Path.{refl}
 use mathlib.Core.Logic.{⊎-elim}
@@ -7,10 +7,9 @@ use native.Mathlib.Omega.{arith}
 use borrow.Author.Tests.{eq-eqb, ne-eqb}
 use lib.ListN.{length}
 use Rattle.model.specs.Row.{isEntry}
-use Rattle.format.specs.First.{matrixFits}
-use Rattle.format.specs.Every.{Rest, keeps, fails, done}
-use Rattle.format.proofs.matrix_fits.Statement.{statement}
-use Rattle.format.proofs.matrix_fits.Tie as tie
+use Rattle.base_ranges.specs.Every.{Rest, keeps, fails, done}
+use Rattle.base_ranges.proofs.matrix_ok.Statement.{statement}
+use Rattle.base_ranges.proofs.matrix_ok.Tie as tie
 
 abbrev Inv-loop : tie.InvT-loop
 Inv-loop matrix ok₀ i₀ ok i = (i ≤ length matrix) × Rest isEntry matrix i ok
@@ -46,11 +45,10 @@ loop-again c =
     (c .if1 .came)
 
 returns : tie.Need-returns Inv-loop μ-loop
-unfolding matrixFits
 returns c = done isEntry (now (c .before .before .args .matrix)) (c .before .loop .i) (c .before .loop .ok) (omega arith) (c .before .loop .inv .1)
 
-pub matrix-fits-spec : {M : Type 1} → statement M
-matrix-fits-spec =
+pub matrix-ok-spec : {M : Type 1} → statement M
+matrix-ok-spec =
     tie.close
     (tie.spec
     Inv-loop
