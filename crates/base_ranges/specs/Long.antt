@@ -16,6 +16,6 @@ pub record Long (n : ℕ) : Type 0 where
 pub length-says : (n : ℕ) → lengthOk n ≡ true → Long n
 unfolding lengthOk
 length-says n e =
-    let h = both (eqb (n % pageSize) 0 && leb 2 (n / pageSize)) (leb (n / pageSize) mostPages) e in
-    let k = both (eqb (n % pageSize) 0) (leb 2 (n / pageSize)) (h .0) in
-    record { whole = eqb-true (n % pageSize) 0 (k .0); few = leb-true 2 (n / pageSize) (k .1); many = leb-true (n / pageSize) mostPages (h .1) }
+    let h = both _ _ e in
+    let k = both _ _ (h .0) in
+    record { whole = eqb-true _ _ (k .0); few = leb-true _ _ (k .1); many = leb-true _ _ (h .1) }

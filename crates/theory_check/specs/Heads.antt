@@ -1,17 +1,18 @@
 -- What a header that passes says of its node's bytes.
 use mathlib.Core.Path.{_≡_, refl, sym, ap, ap₂, _∙_}
 use mathlib.Core.List.{List, [], _∷_, _++_}
-use mathlib.Core.Bool.{Bool, true, false, cond}
+use mathlib.Core.Bool.{true}
 use Prim.Native.Nat.{ℕ, zero, suc, _+_, _*_, _/_, _%_, _≤_, _<_}
 use native.Mathlib.Omega.{arith}
 use lib.ListN.{length, take, drop, getD}
 use lib.Seq.{getD-drop}
-use lib.Dec.{eqb, ltb}
-use borrow.Author.Tests.{ltb-false, eqb-true}
+use borrow.Author.Tests.{eqb-true, leb-true}
+use Rattle.theory_check.specs.Facts.{not-else}
+use Rattle.theory_decoding.specs.Valid.{both as and-both}
 use Rattle.model.specs.Row.{two, header, mayStand}
-use Rattle.model.specs.Reading.{twoAt, headAt}
+use Rattle.model.specs.Reading.{twoAt, headAt, kindAt, sizeAt}
 use Rattle.theory_rows.specs.Fits.{IsByte}
-use Rattle.theory_check.specs.Tests.{headOf, shapeOf}
+use Rattle.theory_check.specs.Tests.{passingKind, shapeOf}
 
 -- ── bytes ──
 
@@ -59,43 +60,39 @@ six (a ∷ b ∷ d ∷ e ∷ f ∷ g ∷ r) h = refl
 
 -- ── heads ──
 
--- A node of this kind that passes every test of `headOf`.
-pub record Head (s : List ℕ) (holder kind : ℕ) : Type 0 where
+-- A node of this kind that passes every test of `passingKind`.
+pub record PassingNode (s : List ℕ) (holder kind : ℕ) : Type 0 where
   pub all : AllBytes s
   pub long : 6 ≤ length s
   pub small : kind ≤ 4
-  pub first : getD s 0 0 ≡ kind
+  pub first : kindAt s 0 ≡ kind
   pub second : getD s 1 0 ≡ 0
-  pub size : twoAt s 4 ≡ length s
+  pub size : sizeAt s 0 ≡ length s
   pub may : mayStand holder kind ≡ true
   pub shape : shapeOf s kind ≡ true
 
-pub head-says : (s : List ℕ) (holder kind : ℕ) → AllBytes s → headOf s holder ≡ kind → (kind ≡ 0 → ⊥) → Head s holder kind
-unfolding headOf
-head-says s holder kind all e z = go _ _ _ _ _ _ refl refl refl refl refl refl e
-  where
-    go : (a b c d f g : Bool) → ltb (length s) 6 ≡ a → ltb 4 (getD s 0 0) ≡ b → mayStand holder (getD s 0 0) ≡ c → eqb (getD s 1 0) 0 ≡ d
-        → eqb (twoAt s 4) (length s) ≡ f → shapeOf s (getD s 0 0) ≡ g
-        → cond a 0 (cond b 0 (cond c (cond d (cond f (cond g (getD s 0 0) 0) 0) 0) 0)) ≡ kind → Head s holder kind
-    go true b c d f g p q r t u v e = absurd (z (sym e))
-    go false true c d f g p q r t u v e = absurd (z (sym e))
-    go false false false d f g p q r t u v e = absurd (z (sym e))
-    go false false true false f g p q r t u v e = absurd (z (sym e))
-    go false false true true false g p q r t u v e = absurd (z (sym e))
-    go false false true true true false p q r t u v e = absurd (z (sym e))
-    go false false true true true true p q r t u v e = record {
+pub kind-says : (s : List ℕ) (holder kind : ℕ) → AllBytes s → passingKind s holder ≡ kind → (kind ≡ 0 → ⊥) → PassingNode s holder kind
+unfolding passingKind
+kind-says s holder kind all e z =
+    let t = not-else _ (λ q. z (sym q)) e in
+    let shape = and-both _ _ (t .0) in
+    let size = and-both _ _ (shape .0) in
+    let second = and-both _ _ (size .0) in
+    let may = and-both _ _ (second .0) in
+    let small = and-both _ _ (may .0) in
+    record {
       all = all;
-      long = ltb-false (length s) 6 p;
-      small = omega (arith, ltb-false 4 (getD s 0 0) q);
-      first = e;
-      second = eqb-true (getD s 1 0) 0 t;
-      size = eqb-true (twoAt s 4) (length s) u;
-      may = ap (mayStand holder) (sym e) ∙ r;
-      shape = ap (shapeOf s) (sym e) ∙ v;
+      long = leb-true _ _ (small .0);
+      small = omega (arith, leb-true (kindAt s 0) 4 (small .1), t .1);
+      first = t .1;
+      second = eqb-true _ _ (second .1);
+      size = eqb-true _ _ (size .1);
+      may = ap (mayStand holder) (sym (t .1)) ∙ may .1;
+      shape = ap (shapeOf s) (sym (t .1)) ∙ shape .1;
     }
 
 -- The bytes are the header and what follows it.
-pub header-is : (s : List ℕ) (holder kind : ℕ) → Head s holder kind → s ≡ header kind (headAt s 0) (length s) ++ drop 6 s
+pub header-is : (s : List ℕ) (holder kind : ℕ) → PassingNode s holder kind → s ≡ header kind (headAt s 0) (length s) ++ drop 6 s
 header-is s holder kind h =
     let label = two-at s 2 (h .all) in
     let size : two (length s) ≡ getD s 4 0 ∷ getD s 5 0 ∷ [] = ap two (sym (h .size)) ∙ two-at s 4 (h .all) in

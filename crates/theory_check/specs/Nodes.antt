@@ -7,13 +7,13 @@ use native.Mathlib.Omega.{arith}
 use lib.ListN.{length, length-append}
 use lib.Seq.{take-at, drop-at, take-length, drop-length}
 use borrow.Author.Tests.{le-ltb, lt-ltb, le-leb, eq-eqb, ne-eqb}
-use Rattle.model.specs.Limits.{capacity, mostContent, mostNode}
+use Rattle.model.specs.Limits.{capacity, mostContent, mostNode, mostLevels}
 use Rattle.model.specs.Row.{Row, nil, agg, lit, rec, _⊹_, size, lone, nodeCount, two, header, bytes, recordBytes, mayStand, standing, byTable, noHead, Head}
-use Rattle.model.specs.Reading.{twoAt}
+use Rattle.model.specs.Reading.{twoAt, sizeAt}
 use Rattle.theory_rows.specs.Laws.{length-bytes, isNil-nil, ⊹-nil}
 use Rattle.theory_rows.specs.Fits.{Shape, one, more, RecordFits, HeadFits}
 use Rattle.theory_decoding.specs.Decode.{two-bytes}
-use Rattle.theory_check.specs.Tests.{sizeOf, twoChildren, shapeOf, headOf}
+use Rattle.theory_check.specs.Tests.{wholeSize, twoChildren, shapeOf, passingKind}
 use Rattle.theory_check.specs.Walk.{State, Decoded, decode, asAgg, before, nodeStep, moreStep, listStep, nodeOf, listOf, proxyOf}
 use Rattle.theory_check.specs.Steps.{node-eq, list-eq}
 
@@ -24,28 +24,28 @@ abbrev pub whole : (kind : ℕ) → Head → (n : ℕ) → (inside : List ℕ) �
 whole k l n inside = header k l (6 + n) ++ inside
 
 module _ (k : ℕ) (l : Head) (n : ℕ) (inside : List ℕ) (e : length inside ≡ n) (h : n ≤ capacity) where
-  size-at : (s : List ℕ) → twoAt (header k l (6 + n) ++ s) 4 ≡ 6 + n
+  size-at : (s : List ℕ) → sizeAt (header k l (6 + n) ++ s) 0 ≡ 6 + n
   unfolding twoAt
   size-at s = two-bytes (6 + n) (omega arith)
 
-  size-node : (after : List ℕ) → sizeOf (whole k l n inside ++ after) ≡ 6 + n
-  unfolding sizeOf
+  size-node : (after : List ℕ) → wholeSize (whole k l n inside ++ after) ≡ 6 + n
+  unfolding wholeSize
   size-node after =
       let m : length (whole k l n inside ++ after) ≡ 6 + n + length after = omega (arith, length-append inside after) in
       rw (
         size-at (inside ++ after),
         m,
-        le-ltb (6 + n + length after) 6 (omega arith),
-        le-ltb (6 + n) 6 (omega arith),
-        le-ltb (6 + n + length after) (6 + n) (omega arith),
+        le-leb 6 (6 + n + length after) (omega arith),
+        le-leb 6 (6 + n) (omega arith),
+        le-leb (6 + n) (6 + n + length after) (omega arith),
       )
 
   -- a node that keeps what its kind asks, where it may stand
-  head-node : (holder : ℕ) → k ≤ 4 → mayStand holder k ≡ true → shapeOf (whole k l n inside) k ≡ true → headOf (whole k l n inside) holder ≡ k
-  unfolding headOf
+  head-node : (holder : ℕ) → k ≤ 4 → mayStand holder k ≡ true → shapeOf (whole k l n inside) k ≡ true → passingKind (whole k l n inside) holder ≡ k
+  unfolding passingKind
   head-node holder a m s =
       let t : length (whole k l n inside) ≡ 6 + n = omega arith in
-      rw (size-at inside, t, le-ltb (6 + n) 6 (omega arith), le-ltb 4 k a, m, eq-eqb (6 + n) (6 + n) refl, s)
+      rw (size-at inside, t, le-leb 6 (6 + n) (omega arith), le-leb k 4 a, m, eq-eqb (6 + n) (6 + n) refl, s)
 
 -- ── the walk ──
 
@@ -56,12 +56,12 @@ module _ (img : List ℕ) (page level : ℕ) (w : State) where
     list-none = list-eq img [] page holder level w
 
     -- a list goes on after its first node
-    list-more : (s : List ℕ) → 1 ≤ w .left → 1 ≤ sizeOf s → 1 ≤ length s
-        → listOf img s page holder level w ≡ moreStep img (decode img) s page holder level w (sizeOf s)
+    list-more : (s : List ℕ) → 1 ≤ w .left → 1 ≤ wholeSize s → 1 ≤ length s
+        → listOf img s page holder level w ≡ moreStep img (decode img) s page holder level w (wholeSize s)
     unfolding listStep
     list-more s a b c =
         list-eq img s page holder level w
-        ∙ rw (ne-eqb (length s) 0 (λ z. omega arith), ne-eqb (w .left) 0 (λ z. omega arith), ne-eqb (sizeOf s) 0 (λ z. omega arith))
+        ∙ rw (ne-eqb (length s) 0 (λ z. omega arith), ne-eqb (w .left) 0 (λ z. omega arith), ne-eqb (wholeSize s) 0 (λ z. omega arith))
 
   module _ (l : Head) (n : ℕ) (inside : List ℕ) (e : length inside ≡ n) (h : n ≤ capacity) where
     -- the first node, then the others
@@ -75,19 +75,19 @@ module _ (img : List ℕ) (page level : ℕ) (w : State) where
         list-more holder s f (omega arith) (omega arith)
         ∙ rw (z, take-at (whole k l n inside) after (6 + n) m, drop-at (whole k l n inside) after (6 + n) m, i, j)
 
-    pub agg-node : (holder : ℕ) → HeadFits l → mayStand holder 1 ≡ true → level ≤ 24
+    pub agg-node : (holder : ℕ) → HeadFits l → mayStand holder 1 ≡ true → level ≤ mostLevels
         → nodeOf img (whole 1 l n inside) page holder level w ≡ asAgg l (listOf img inside page 1 (level + 1) w)
     unfolding nodeStep shapeOf twoAt
     agg-node holder f m g =
         node-eq img (whole 1 l n inside) page holder level w
-        ∙ rw (head-node 1 l n inside e h holder (omega arith) m refl, le-ltb 24 level g, two-bytes (l .label) (f .label))
+        ∙ rw (head-node 1 l n inside e h holder (omega arith) m refl, le-ltb mostLevels level g, two-bytes (l .label) (f .label))
 
-    pub lit-node : (holder : ℕ) → HeadFits l → mayStand holder 2 ≡ true → level ≤ 24 → n ≤ mostContent
+    pub lit-node : (holder : ℕ) → HeadFits l → mayStand holder 2 ≡ true → level ≤ mostLevels → n ≤ mostContent
         → nodeOf img (whole 2 l n inside) page holder level w ≡ record { row = lit l inside nil; walk = w }
     unfolding nodeStep shapeOf twoAt
     lit-node holder f m g c =
         node-eq img (whole 2 l n inside) page holder level w
-        ∙ rw (head-node 2 l n inside e h holder (omega arith) m (le-leb (length (whole 2 l n inside)) mostNode (omega arith)), le-ltb 24 level g, two-bytes (l .label) (f .label))
+        ∙ rw (head-node 2 l n inside e h holder (omega arith) m (le-leb (length (whole 2 l n inside)) mostNode (omega arith)), le-ltb mostLevels level g, two-bytes (l .label) (f .label))
 
     helper-node : twoChildren inside ≡ true → nodeOf img (whole 4 noHead n inside) page 0 level w ≡ listOf img inside page 4 level w
     unfolding nodeStep shapeOf twoAt mayStand standing
@@ -112,7 +112,7 @@ tail (lit h c rest) = rest
 tail (rec p s r rest) = rest
 
 -- the size of a row's first node
-first : (r : Row) → size r ≤ capacity → 1 ≤ nodeCount r → (6 ≤ sizeOf (bytes r)) × (sizeOf (bytes r) + size (tail r) ≡ size r)
+first : (r : Row) → size r ≤ capacity → 1 ≤ nodeCount r → (6 ≤ wholeSize (bytes r)) × (wholeSize (bytes r) + size (tail r) ≡ size r)
 first nil f n = absurd (omega arith)
 first (agg h cs rest) f n = omega (arith, size-node 1 h (size cs) (bytes cs) (length-bytes cs) (omega arith) (bytes rest))
 first (lit h c rest) f n = omega (arith, size-node 2 h (length c) c refl (omega arith) (bytes rest))
@@ -141,7 +141,7 @@ unfolding twoChildren
 two-children r f h =
     let a = first r f (omega arith) in
     let b = some-size (tail r) (more-tail r h) in
-    rw (ne-eqb (sizeOf (bytes r)) 0 (λ z. omega arith), lt-ltb (sizeOf (bytes r)) (length (bytes r)) (omega (arith, length-bytes r)))
+    rw (ne-eqb (wholeSize (bytes r)) 0 (λ z. omega arith), lt-ltb (wholeSize (bytes r)) (length (bytes r)) (omega (arith, length-bytes r)))
 
 not-lone : {s : Bool} {r : Row} → Shape s r → lone r ≡ false → 2 ≤ nodeCount r
 not-lone (one e) h = absurd (false≢true (sym h ∙ e))
@@ -149,7 +149,7 @@ not-lone (more r h) e = h
 
 module _ (img : List ℕ) (page level : ℕ) (w : State) (left : 1 ≤ w .left) where
   -- a list of one node is the node
-  alone : (holder : ℕ) (s : List ℕ) → 1 ≤ length s → sizeOf s ≡ length s → listOf img s page holder level w ≡ nodeOf img s page holder level w
+  alone : (holder : ℕ) (s : List ℕ) → 1 ≤ length s → wholeSize s ≡ length s → listOf img s page holder level w ≡ nodeOf img s page holder level w
   unfolding moreStep
   alone holder s h e =
       let a = nodeOf img s page holder level w in
