@@ -1,54 +1,51 @@
 -- The walk at each return of the four functions that make it: what `decode` gives there.
 use mathlib.Core.Path.{_≡_, refl, ap, sym, subst, _∙_}
 use mathlib.Core.List.{List}
-use mathlib.Core.Bool.{Bool, true, false, cond, not}
+use mathlib.Core.Bool.{Bool, true, false, not}
 use Prim.Native.Nat.{ℕ, _+_, _-_, _*_, _≤_, _<_}
 use native.Mathlib.Omega.{arith}
 use native.Mathlib.Nat.{add-sub-cancel-left}
 use lib.ListN.{length, set, take, drop, length-take, length-drop}
 use lib.Seq.{drop-drop, length-take-le}
-use lib.Dec.{ltb, leb, eqb}
-use borrow.Author.Tests.{lt-ltb, le-ltb, eq-eqb, ne-eqb, ltb-false, leb-false}
-use Rattle.model.specs.Limits.{mostPages, pageSize}
+use lib.Dec.{leb, eqb}
+use borrow.Author.Tests.{lt-ltb, le-ltb, eq-eqb, ne-eqb, leb-true, ltb-true}
+use Rattle.theory_decoding.specs.Valid.{both as and-both}
+use Rattle.model.specs.Limits.{mostPages, pageSize, mostLevels}
 use Rattle.model.specs.Row.{Head, nil, lit}
 use Rattle.model.specs.Tree.{width}
-use Rattle.model.specs.Reading.{twoAt, usedAt, settledAt, headAt}
+use Rattle.model.specs.Reading.{usedAt, settledAt, headAt, nameAt}
 use Rattle.theory_rows.specs.Laws.{width-⊹}
-use Rattle.theory_check.specs.Tests.{sizeOf, headOf, namesOf}
+use Rattle.theory_check.specs.Tests.{wholeSize, passingKind, namesOf}
 use Rattle.theory_check.specs.Walk.{State, state, node, list, withMark, entersOf, Decoded, stop, recordOf, asAgg, asRec, before, proxyStep, nodeStep, moreStep, listStep, decode, nodeOf, listOf, proxyOf}
 use Rattle.theory_check.specs.Widths.{widthsAfter, widths-⊹}
 use Rattle.theory_check.specs.Bounds.{decoded-wide}
-use Rattle.theory_check.specs.Facts.{no, both, rest-is}
-use Rattle.theory_check.specs.Steps.{Entered, entered, node-eq, list-eq, head-long, size-long}
-use Rattle.read_check.specs.Leaf.{aggregateOf, literalOf}
+use Rattle.theory_check.specs.Facts.{both, rest-is, passes}
+use Rattle.theory_check.specs.Steps.{Entered, entered, node-eq, list-eq, head-long}
+use Rattle.read_nodes.specs.Leaf.{aggregateOf, literalOf}
 use Rattle.read_check.specs.Came.{Came}
-use Rattle.read_check.proofs.Calls.{passes}
-use Rattle.read_check.proofs.Leaves.{no-kind, aggregate-head, childless-head, literal-head}
+use Rattle.read_nodes.specs.Leaves.{no-kind, sized, aggregate-head, childless-head, literal-head}
 
 -- what a page that is named shows of itself
 pub named : (img : List ℕ) (p page : ℕ) → namesOf img p page ≡ true → (p < mostPages) × (pageSize * p + pageSize ≤ length img)
 unfolding namesOf
-named img p page e = go (ltb p 2) (leb mostPages p) refl (ltb (length img) (pageSize * p + pageSize)) refl _ e
-  where
-    go : (a b : Bool) → leb mostPages p ≡ b → (d : Bool) → ltb (length img) (pageSize * p + pageSize) ≡ d → (x : Bool) → cond a false (cond b false (cond d false x)) ≡ true → (p < mostPages) × (pageSize * p + pageSize ≤ length img)
-    go true b q d r x e = no e
-    go false true q d r x e = no e
-    go false false q true r x e = no e
-    go false false q false r x e = (leb-false mostPages p q, ltb-false (length img) (pageSize * p + pageSize) r)
+named img p page e =
+    let holder = and-both _ _ e in
+    let used = and-both _ _ (holder .0) in
+    let kind = and-both _ _ (used .0) in
+    let inside = and-both _ _ (kind .0) in
+    let low = and-both (leb 2 p) _ (inside .0) in
+    (ltb-true _ _ (low .1), leb-true _ _ (inside .1))
 
 -- what a page that is entered shows of itself; the test is made the other way round
-pub goes : (img : List ℕ) (p page : ℕ) (w : State) (r : Bool) → r ≡ entersOf img p page w → not r ≡ false → Entered img p w
+pub goes : (img : List ℕ) (p page : ℕ) (w : State) (r : Bool) → r ≡ entersOf img p page w → not r ≡ false → Entered img p page w
 goes img p page w r e q = entered img p page w (passes e q)
 
--- a helper has a header, and a node that has a size has as many bytes
-pub headed : (s : List ℕ) (holder kind : ℕ) → kind ≡ headOf s holder → kind ≡ 4 → 6 ≤ length s
-headed s holder kind e q = head-long s s holder (ne-eqb (headOf s holder) 0 (λ z. omega arith))
-
-pub sized : (s : List ℕ) (n : ℕ) → n ≡ sizeOf s → (n ≡ 0 → ⊥) → (6 ≤ n) × (n ≤ length s)
-sized s n e z = rw e (size-long s s (ne-eqb _ _ (λ q. z (e ∙ q))))
+-- a helper has a header
+pub headed : (s : List ℕ) (holder kind : ℕ) → kind ≡ passingKind s holder → kind ≡ 4 → 6 ≤ length s
+headed s holder kind e q = head-long s holder (ne-eqb (passingKind s holder) 0 (λ z. omega arith))
 
 -- the node at `at` of a list, n bytes long
-pub node-inside : (part : List ℕ) (at n : ℕ) → n ≡ sizeOf (take (length part - at) (drop at part)) → (n ≡ 0 → ⊥) → at < length part
+pub node-inside : (part : List ℕ) (at n : ℕ) → n ≡ wholeSize (take (length part - at) (drop at part)) → (n ≡ 0 → ⊥) → at < length part
     → (6 ≤ n) × (at + n ≤ length part) × (n ≡ length (take n (take (length part - at) (drop at part))))
 node-inside part at n e z h =
     let x : List ℕ = take (length part - at) (drop at part) in
@@ -68,17 +65,17 @@ module _ (img : List ℕ) (s : List ℕ) (page holder level : ℕ) (w : State) w
   unfolding listStep
   list-bad e f = list-eq img s page holder level w ∙ simp (ne-eqb _ _ e, eq-eqb _ _ f)
 
-  pub list-stop : (length s ≡ 0 → ⊥) → (w .left ≡ 0 → ⊥) → sizeOf s ≡ 0 → Got (stop w)
+  pub list-stop : (length s ≡ 0 → ⊥) → (w .left ≡ 0 → ⊥) → wholeSize s ≡ 0 → Got (stop w)
   unfolding listStep
   list-stop e f n = list-eq img s page holder level w ∙ simp (ne-eqb _ _ e, ne-eqb _ _ f, eq-eqb _ _ n)
 
-  pub list-more : (length s ≡ 0 → ⊥) → (w .left ≡ 0 → ⊥) → (sizeOf s ≡ 0 → ⊥)
-      → let a = nodeOf img (take (sizeOf s) s) page holder level w in Got (before a (listOf img (drop (sizeOf s) s) page holder level (a .walk)))
+  pub list-more : (length s ≡ 0 → ⊥) → (w .left ≡ 0 → ⊥) → (wholeSize s ≡ 0 → ⊥)
+      → let a = nodeOf img (take (wholeSize s) s) page holder level w in Got (before a (listOf img (drop (wholeSize s) s) page holder level (a .walk)))
   unfolding listStep moreStep
   list-more e f n = list-eq img s page holder level w ∙ simp (ne-eqb _ _ e, ne-eqb _ _ f, ne-eqb _ _ n)
 
   -- a node, with its kind in hand
-  module _ (kind : ℕ) (is : kind ≡ headOf s holder) where
+  module _ (kind : ℕ) (is : kind ≡ passingKind s holder) where
     abbrev Is : Decoded → Type 0
     Is d = nodeOf img s page holder level w ≡ d
 
@@ -93,7 +90,7 @@ module _ (img : List ℕ) (s : List ℕ) (page holder level : ℕ) (w : State) w
     unfolding nodeStep
     node-3-bad a b = node-at _ (simp (a, ne-eqb _ _ b))
 
-    pub node-3 : kind ≡ 3 → length s ≡ 8 → Is (proxyOf img (twoAt s 6) page level w)
+    pub node-3 : kind ≡ 3 → length s ≡ 8 → Is (proxyOf img (nameAt s 0) page level w)
     unfolding nodeStep
     node-3 a b = node-at _ (simp (a, eq-eqb _ _ b))
 
@@ -101,20 +98,20 @@ module _ (img : List ℕ) (s : List ℕ) (page holder level : ℕ) (w : State) w
     unfolding nodeStep
     node-4 a = node-at _ (simp a)
 
-    pub node-deep : (kind ≡ 3 → ⊥) → (kind ≡ 4 → ⊥) → 24 < level → Is (stop w)
+    pub node-deep : (kind ≡ 3 → ⊥) → (kind ≡ 4 → ⊥) → mostLevels < level → Is (stop w)
     unfolding nodeStep
     node-deep n3 n4 a = node-at _ (simp (ne-eqb _ _ n3, ne-eqb _ _ n4, lt-ltb _ _ a) (both (λ (d : Decoded). d ≡ stop w) (eqb kind 0) refl refl))
 
-    pub node-2 : kind ≡ 2 → level ≤ 24 → Is (record { row = lit (headAt s 0) (drop 6 s) nil; walk = w })
+    pub node-2 : kind ≡ 2 → level ≤ mostLevels → Is (record { row = lit (headAt s 0) (drop 6 s) nil; walk = w })
     unfolding nodeStep
     node-2 a low = node-at _ (simp (a, le-ltb _ _ low))
 
-    node-1 : kind ≡ 1 → level ≤ 24 → Is (asAgg (headAt s 0) (listOf img (drop 6 s) page 1 (level + 1) w))
+    node-1 : kind ≡ 1 → level ≤ mostLevels → Is (asAgg (headAt s 0) (listOf img (drop 6 s) page 1 (level + 1) w))
     unfolding nodeStep
     node-1 a low = node-at _ (simp (a, le-ltb _ _ low))
 
     -- no kind remains
-    pub node-none : (kind ≡ 3 → ⊥) → (kind ≡ 4 → ⊥) → level ≤ 24 → (kind ≡ 2 → ⊥) → aggregateOf s (length s) holder level ≡ false → Is (stop w)
+    pub node-none : (kind ≡ 3 → ⊥) → (kind ≡ 4 → ⊥) → level ≤ mostLevels → (kind ≡ 2 → ⊥) → aggregateOf s (length s) holder level ≡ false → Is (stop w)
     node-none n3 n4 low n2 e = node-0 (no-kind s holder level kind is low e n2 n3 n4)
 
   -- an aggregate, before its head is asked
@@ -197,7 +194,7 @@ module _ (img part : List ℕ) (page holder level : ℕ) (whole : Decoded) where
       onward = take (length part - at) (drop at part)
 
       -- past a node
-      module _ (size : ℕ) (f : size ≡ sizeOf onward) (z : size ≡ 0 → ⊥) (r w : ℕ) (m now : List ℕ)
+      module _ (size : ℕ) (f : size ≡ wholeSize onward) (z : size ≡ 0 → ⊥) (r w : ℕ) (m now : List ℕ)
           (c : Came (nodeOf img (take size onward) page holder level cur) r m new now × (w ≡ width (nodeOf img (take size onward) page holder level cur .row))) where
         abbrev after : Decoded
         after = listOf img (drop (at + size) part) page holder level (state r m)
@@ -205,10 +202,10 @@ module _ (img part : List ℕ) (page holder level : ℕ) (whole : Decoded) where
         split : listOf img (drop at part) page holder level cur ≡ before (nodeOf img (take size onward) page holder level cur) after
         split =
             let e = rest-is at part in
-            let k : sizeOf (drop at part) ≡ size = cc in
+            let k : wholeSize (drop at part) ≡ size = cc in
             let a : Decoded = nodeOf img (take size onward) page holder level cur in
-            let g : nodeOf img (take (sizeOf (drop at part)) (drop at part)) page holder level cur ≡ a = cc in
-            let d : drop (sizeOf (drop at part)) (drop at part) ≡ drop (at + size) part = cc (drop-drop size at part) in
+            let g : nodeOf img (take (wholeSize (drop at part)) (drop at part)) page holder level cur ≡ a = cc in
+            let d : drop (wholeSize (drop at part)) (drop at part) ≡ drop (at + size) part = cc (drop-drop size at part) in
             list-more img (drop at part) page holder level cur (λ q. omega (arith, length-drop at part)) ok (λ q. z (sym k ∙ q))
             ∙ (λ j. before (g j) (listOf img (d j) page holder level (g j .walk)))
             ∙ ap (λ (w : State). before a (listOf img (drop (at + size) part) page holder level w)) (sym (c .0 .walk))
@@ -240,10 +237,9 @@ module _ (img part : List ℕ) (page holder level : ℕ) (whole : Decoded) where
           let d = came-agg (headAt x 0) (node-1 img x page holder level cur 1 (f .1) refl (f .2)) c in
           (turn 6 (f .0) (λ q. omega arith) _ _ _ _ d, turn-count 6 (f .0) (λ q. omega arith) _ _ _ _ d)
 
-      pub turn-literal : (size : ℕ) → size ≡ sizeOf onward → (size ≡ 0 → ⊥) → literalOf onward holder level ≡ true → Passed size
+      pub turn-literal : (size : ℕ) → size ≡ wholeSize onward → (size ≡ 0 → ⊥) → literalOf onward holder level ≡ true → Passed size
       turn-literal size f z e =
-          let i = sized onward size f z in
-          let h = literal-head onward size holder level f z (i .0) (i .1) e in
+          let h = literal-head onward size holder level f z e in
           let d = came-literal cur _ _ new (node-2 img (take size onward) page holder level cur 2 (h .0) refl (h .1)) in
           (turn size f z _ _ _ _ d, turn-count size f z _ _ _ _ d)
 

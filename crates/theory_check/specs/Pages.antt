@@ -21,6 +21,7 @@ use Rattle.theory_check.specs.Tests.{isMarked, namesOf, rootFits, allZer
 use Rattle.theory_check.specs.Walk.{State, withMark, asRec, recordOf, entersOf, proxyStep, proxyOf, nodeOf}
 
 zeros : (n : ℕ) → allZero (replicate n 0) ≡ true
+unfolding allZero
 zeros zero = refl
 zeros (suc n) = zeros n
 
@@ -72,7 +73,7 @@ settings-ok st ok = settings-with st ok (replicate (capacity - settingsSize) 0) 
 
 pub free-state : stateOf (replicate pageSize 0) ≡ 1
 unfolding stateOf
-free-state = refl
+free-state = rw (zeros pageSize)
 
 -- ── a record's page ──
 
@@ -93,7 +94,7 @@ root-kind (rec p b r rest) s t e = absurd (false≢true e)
 
 module _ (h : Held) (f : recordSize (h .row) ≤ capacity) where
   pub record-state : stateOf (recordPage h) ≡ 2
-  unfolding stateOf
+  unfolding stateOf allZero
   record-state =
       let n = recordSize (h .row) in
       let free : List ℕ = replicate (capacity - n) 0 in

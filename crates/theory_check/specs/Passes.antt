@@ -14,8 +14,8 @@ use Rattle.model.specs.Reading.{usedAt, settledAt, headAt, nameAt}
 use Rattle.theory_rows.specs.Laws.{cond-case}
 use Rattle.theory_check.specs.Tests.{wholeSize, passingKind}
 use Rattle.theory_check.specs.Walk.{State, withMark, entersOf, Decoded, Job, node, list, measure, stop, recordOf, proxyStep, nodeStep, moreStep, listStep, decode, listOf, proxyOf}
-use Rattle.theory_check.specs.Steps.{Entered, entered, length-part, less, size-long, node-eq, list-eq}
-use Rattle.theory_check.specs.Heads.{AllBytes, all-drop, all-take, kind-says, PassingNode}
+use Rattle.theory_check.specs.Steps.{Entered, entered, length-part, less, size-long, node-eq, list-eq, passing}
+use Rattle.theory_check.specs.Heads.{AllBytes, all-drop, all-take, PassingNode}
 
 -- A job that passes, with its row and the walk after it.
 pub data Passes (img : List ℕ) : Job → Row → State → Type 0 where
@@ -70,7 +70,7 @@ module _ (img : List ℕ) (whole : AllBytes img) where
       refuse o = absurd (o refl)
 
       head : (kind : ℕ) → passingKind s holder ≡ kind → (kind ≡ 0 → ⊥) → PassingNode s holder kind
-      head kind = kind-says s holder kind all
+      head kind e z = record { all = all; node = passing s holder kind e z }
 
       inner : (k l : ℕ) → 6 ≤ length s → Good (list (drop 6 s) page k l w) (listOf img (drop 6 s) page k l w)
       inner k l h = hyp (list (drop 6 s) page k l w) (omega (arith, length-drop 6 s)) (all-drop 6 s all)
@@ -90,7 +90,7 @@ module _ (img : List ℕ) (whole : AllBytes img) where
       one : (kind : ℕ) → passingKind s holder ≡ kind → eqb kind 0 ≡ false → eqb kind 3 ≡ false → eqb kind 4 ≡ false → eqb kind 2 ≡ false → kind ≡ 1
       one kind e a b c d =
           let z = eqb-false kind 0 a in
-          omega (arith, head kind e z .small, z, eqb-false kind 3 b, eqb-false kind 4 c, eqb-false kind 2 d)
+          omega (arith, head kind e z .node .small, z, eqb-false kind 3 b, eqb-false kind 4 c, eqb-false kind 2 d)
 
       at-node : (kind : ℕ) → passingKind s holder ≡ kind → Good here (nodeStep img (decode img) s page holder level w kind)
       unfolding nodeStep
@@ -99,13 +99,13 @@ module _ (img : List ℕ) (whole : AllBytes img) where
           cond-case (Good here) (eqb kind 3)
           (λ b. cond-case (Good here) (eqb (length s) 8) (λ n. at-proxy (e ∙ eqb-true kind 3 b) (eqb-true (length s) 8 n)) (λ _. refuse)) (λ b.
           cond-case (Good here) (eqb kind 4)
-          (λ c o. let h = head 4 (e ∙ eqb-true kind 4 c) (λ z. omega arith) in helper h (inner 4 level (h .long) o)) (λ c.
+          (λ c o. let h = head 4 (e ∙ eqb-true kind 4 c) (λ z. omega arith) in helper h (inner 4 level (h .node .long) o)) (λ c.
           cond-case (Good here) (ltb mostLevels level) (λ _. refuse) (λ l.
           cond-case (Good here) (eqb kind 2)
           (λ d o. literal (head 2 (e ∙ eqb-true kind 2 d) (λ z. omega arith)) (ltb-false mostLevels level l))
           (λ d o.
           let h = head 1 (e ∙ one kind e a b c d) (λ z. omega arith) in
-          aggregate h (ltb-false mostLevels level l) (inner 1 (level + 1) (h .long) o))))))
+          aggregate h (ltb-false mostLevels level l) (inner 1 (level + 1) (h .node .long) o))))))
 
     abbrev row : Job
     row = list s page holder level w

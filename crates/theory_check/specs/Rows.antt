@@ -83,19 +83,19 @@ two-left (a ∷ b ∷ c ∷ r) h = absurd (omega arith)
 
 -- what may not stand there does not
 never : {A : Type 0} (s : List ℕ) (holder kind : ℕ) → PassingNode s holder kind → mayStand holder kind ≡ false → A
-never s holder kind h e = no (sym e ∙ h .may)
+never s holder kind h e = no (sym e ∙ h .node .may)
 
 module _ (s : List ℕ) (holder : ℕ) where
   -- the header with what stands inside
   around : (kind : ℕ) → PassingNode s holder kind → (n : ℕ) (x : List ℕ) → length x ≡ n → drop 6 s ≡ x → s ≡ header kind (headAt s 0) (6 + n) ++ x
   around kind h n x l e =
-      let m : length s ≡ 6 + n = omega (arith, h .long, length-drop 6 s, ap length e) in
+      let m : length s ≡ 6 + n = omega (arith, h .node .long, length-drop 6 s, ap length e) in
       header-is s holder kind h ∙ ap₂ (λ (n : ℕ) (x : List ℕ). header kind (headAt s 0) n ++ x) m e
 
   is-rec : PassingNode s holder 3 → length s ≡ 8 → s ≡ header 3 noHead 8 ++ two (nameAt s 0)
   unfolding shapeOf
   is-rec h n =
-      let l : headAt s 0 .label ≡ 0 = eqb-true (headAt s 0 .label) 0 (h .shape) in
+      let l : headAt s 0 .label ≡ 0 = eqb-true (headAt s 0 .label) 0 (h .node .shape) in
       let x : drop 6 s ≡ two (nameAt s 0) =
       two-left (drop 6 s) (omega (arith, length-drop 6 s)) ∙ rw (getD-drop 6 s 0 0, getD-drop 6 s 1 0) (sym (two-at s 6 (h .all))) in
       around 3 h 2 (two (nameAt s 0)) refl x ∙ rw l
@@ -109,12 +109,12 @@ module _ (s : List ℕ) (holder : ℕ) where
   is-helper : PassingNode s holder 4 → (r : Row) → drop 6 s ≡ bytes r → 2 ≤ nodeCount r → s ≡ recordBytes r
   unfolding shapeOf
   is-helper h r e n =
-      let l : headAt s 0 .label ≡ 0 = eqb-true (headAt s 0 .label) 0 (and-both (eqb (headAt s 0 .label) 0) _ (h .shape) .0) in
+      let l : headAt s 0 .label ≡ 0 = eqb-true (headAt s 0 .label) 0 (and-both (eqb (headAt s 0 .label) 0) _ (h .node .shape) .0) in
       around 4 h (size r) (bytes r) (length-bytes r) e ∙ rw (l, not-lone r n)
 
   helper-pair : PassingNode s holder 4 → twoChildren (drop 6 s) ≡ true
   unfolding shapeOf
-  helper-pair h = and-both (eqb (headAt s 0 .label) 0) _ (h .shape) .1
+  helper-pair h = and-both (eqb (headAt s 0 .label) 0) _ (h .node .shape) .1
 
 pair-long : (s : List ℕ) → twoChildren s ≡ true → wholeSize s < length s
 unfolding twoChildren
@@ -124,33 +124,33 @@ module _ {img : List ℕ} where
   is : {j : Job} {r : Row} {v : State} → Passes img j r v → Is j r
   unfolding mayStand standing
   is (proxy {s = s} {holder = holder} h n g p) = record {
-    long = h .long;
+    long = h .node .long;
     plain = λ _. is-rec s holder h n;
     root = never s holder 3 h;
     shape = never s holder 3 h;
-    top = λ e. absurd (omega (arith, h .first));
+    top = λ e. absurd (omega (arith, h .node .first));
   }
   is (helper {s = s} {holder = holder} {r = r} h p) =
       let i = is p in
       let n = i .pair refl (helper-pair s holder h) in
       record {
-        long = h .long;
+        long = h .node .long;
         plain = never s holder 4 h;
         root = λ _. is-helper s holder h r (i .plain refl) n;
-        shape = λ _. elim [ true ↦ λ k. absurd (k refl (h .first)) | false ↦ λ _. more r n ];
-        top = λ e. absurd (omega (arith, h .first));
+        shape = λ _. elim [ true ↦ λ k. absurd (k refl (h .node .first)) | false ↦ λ _. more r n ];
+        top = λ e. absurd (omega (arith, h .node .first));
       }
   is (literal {s = s} {holder = holder} h l) = record {
-    long = h .long;
+    long = h .node .long;
     plain = λ _. is-lit s holder h;
     root = λ _. is-lit s holder h;
     shape = λ _ _ _. one refl;
-    top = λ e. absurd (omega (arith, h .first));
+    top = λ e. absurd (omega (arith, h .node .first));
   }
   is (aggregate {s = s} {holder = holder} {r = r} h l p) =
       let same = is-agg s holder h r (is p .plain refl) in
       record {
-        long = h .long;
+        long = h .node .long;
         plain = λ _. same;
         root = λ _. same;
         shape = λ _ _ _. one refl;
@@ -201,7 +201,7 @@ module _ {img : List ℕ} where
       (record-fits img (nameAt s 0) r (is p) used _ (settled-root img (nameAt s 0) (g .root)), fits p, tt)
   fits (helper h p) = fits p
   fits (literal {s = s} h l) =
-      let short : length (drop 6 s) ≤ mostContent = omega (arith, length-drop 6 s, leb-true (length s) mostNode (h .shape)) in
+      let short : length (drop 6 s) ≤ mostContent = omega (arith, length-drop 6 s, leb-true (length s) mostNode (h .node .shape)) in
       (record { label = two-low s 2 (h .all) }, short, is-byte (drop 6 s) (all-drop 6 s (h .all)), tt)
   fits (aggregate {s = s} h l p) = (record { label = two-low s 2 (h .all) }, fits p, tt)
   fits (empty e) = tt

@@ -5,15 +5,16 @@ use mathlib.Core.Bool.{true, false}
 use Prim.Native.Nat.{ℕ, zero, suc, _+_, _-_, _*_, _≤_, _<_}
 use native.Mathlib.Nat.{le-refl, le-trans}
 use native.Mathlib.Omega.{arith}
-use lib.ListN.{length, take, drop, length-take, length-drop}
+use lib.ListN.{length, take, drop, length-take, length-drop, getD}
 use lib.Seq.{length-take-le}
 use lib.Dec.{ltb, eqb, leb}
 use borrow.Author.Tests.{lt-ltb, eqb-false, ltb-true, leb-true, eqb-true, not-true}
+use Rattle.model.specs.Row.{mayStand}
 use Rattle.theory_decoding.specs.Valid.{both as and-both}
 use Rattle.model.specs.Limits.{mostPages, pageSize, capacity, mostLevels}
 use Rattle.theory_check.specs.Rec.{run, under, steps, unfold'}
-use Rattle.model.specs.Reading.{sizeAt, usedAt, stateAt, settledAt, headAt, nameAt, backAt}
-use Rattle.theory_check.specs.Tests.{wholeSize, passingKind, namesOf, rootFits, isMarked}
+use Rattle.model.specs.Reading.{sizeAt, usedAt, stateAt, settledAt, headAt, nameAt, backAt, kindAt}
+use Rattle.theory_check.specs.Tests.{wholeSize, passingKind, namesOf, rootFits, isMarked, shapeOf}
 use Rattle.theory_check.specs.Walk.{State, withMark, entersOf, Decoded, Job, node, list, measure, stop, none, recordOf, asAgg, asRec, step, proxyStep, nodeStep, moreStep, listStep, decode, nodeOf, listOf, proxyOf}
 use Rattle.theory_check.specs.Facts.{both, arms, not-else}
 
@@ -52,13 +53,39 @@ entered img p page w e =
       fresh = not-true _ (fresh .1);
     }
 
--- A node of a kind has a header; one of a size is whole.
-pub head-long : (s : List ℕ) (holder : ℕ) → eqb (passingKind s holder) 0 ≡ false → 6 ≤ length s
-unfolding passingKind
-head-long s holder e =
-    let t = not-else _ {n = passingKind s holder} (λ q. eqb-false _ 0 e (sym q)) refl .0 in
-    leb-true _ _ (and-both _ _ (and-both _ _ (and-both _ _ (and-both _ _ (and-both _ _ t .0) .0) .0) .0) .0)
+-- A node of this kind that passes every test of `passingKind`.
+pub record Passing (s : List ℕ) (holder kind : ℕ) : Type 0 where
+  pub long : 6 ≤ length s
+  pub small : kind ≤ 4
+  pub first : kindAt s 0 ≡ kind
+  pub second : getD s 1 0 ≡ 0
+  pub size : sizeAt s 0 ≡ length s
+  pub may : mayStand holder kind ≡ true
+  pub shape : shapeOf s kind ≡ true
 
+pub passing : (s : List ℕ) (holder kind : ℕ) → passingKind s holder ≡ kind → (kind ≡ 0 → ⊥) → Passing s holder kind
+unfolding passingKind
+passing s holder kind e z =
+    let t = not-else _ (λ q. z (sym q)) e in
+    let shape = and-both _ _ (t .0) in
+    let size = and-both _ _ (shape .0) in
+    let second = and-both _ _ (size .0) in
+    let may = and-both _ _ (second .0) in
+    let small = and-both _ _ (may .0) in
+    record {
+      long = leb-true _ _ (small .0);
+      small = omega (arith, leb-true (kindAt s 0) 4 (small .1), t .1);
+      first = t .1;
+      second = eqb-true _ _ (second .1);
+      size = eqb-true _ _ (size .1);
+      may = ap (mayStand holder) (sym (t .1)) ∙ may .1;
+      shape = ap (shapeOf s) (sym (t .1)) ∙ shape .1;
+    }
+
+pub head-long : (s : List ℕ) (holder : ℕ) → eqb (passingKind s holder) 0 ≡ false → 6 ≤ length s
+head-long s holder e = passing s holder _ refl (eqb-false _ 0 e) .long
+
+-- A node that has a size is whole.
 pub size-long : (s : List ℕ) → eqb (wholeSize s) 0 ≡ false → (6 ≤ wholeSize s) × (wholeSize s ≤ length s) × (sizeAt s 0 ≡ wholeSize s)
 unfolding wholeSize
 size-long s e =

@@ -54,8 +54,8 @@ namesOf img p page =
 unfoldable pub rootFits : List ℕ → (p : ℕ) → Bool
 rootFits img p = cond (eqb (settledAt img (pageSize * p)) 1) (not (eqb (kindAt img (pageSize * p)) 4)) true
 
-abbrev pub allZero : List ℕ → Bool
-allZero = every (λ x. eqb x 0)
+unfoldable pub allZero : List ℕ → Bool
+allZero s = every (λ x. eqb x 0) s
 
 -- A record's page by its trailer and its tail.
 abbrev pub recordState : (page : List ℕ) → Bool

@@ -22,6 +22,7 @@ use Rattle.theory_check.specs.Heads.{AllBytes, two-at}
 -- ── parts of a page ──
 
 zeros : (s : List ℕ) → allZero s ≡ true → (n : ℕ) → length s ≡ n → s ≡ replicate n 0
+unfolding allZero
 zeros s z n l = go s z ∙ ap (λ (n : ℕ). replicate n 0) l
   where
     go : (s : List ℕ) → allZero s ≡ true → s ≡ replicate (length s) 0
@@ -55,6 +56,26 @@ module _ (s : List ℕ) where
 
 -- ── record pages ──
 
+-- What the tests of a record's page say.
+pub record Recorded (s : List ℕ) : Type 0 where
+  pub kind : stateAt s 0 ≡ 1
+  pub settled : settledAt s 0 ≤ 1
+  pub used : usedAt s 0 ≤ capacity
+  pub tail : allZero (take (capacity - usedAt s 0) (drop (usedAt s 0) s)) ≡ true
+  pub last : allZero (take 10 (drop (capacity + 6) s)) ≡ true
+
+pub recorded : (s : List ℕ) → stateOf s ≡ 2 → Recorded s
+unfolding stateOf
+recorded s e =
+    let free = both (λ (n : ℕ). n ≡ 2 → ⊥) (allZero s) {x = 1} {y = 0} (λ z. omega arith) (λ z. omega arith) in
+    let some = not-then (eqb (stateAt s 0) 0) free e in
+    let never : _≡_ {A = ℕ} 0 2 → ⊥ = omega arith in
+    let last = and-both _ _ (not-else (recordState s) never (some .1) .0) in
+    let tail = and-both _ _ (last .0) in
+    let used = and-both _ _ (tail .0) in
+    let settled = and-both _ _ (used .0) in
+    record { kind = eqb-true _ _ (settled .0); settled = leb-true _ _ (settled .1); used = leb-true _ _ (used .1); tail = tail .1; last = last .1 }
+
 -- A page with a record: the bytes used, zeros, the trailer.
 pub record RecordIs (s : List ℕ) : Type 0 where
   pub settled : settledAt s 0 ≤ 1
@@ -62,27 +83,20 @@ pub record RecordIs (s : List ℕ) : Type 0 where
   pub same : s ≡ take (usedAt s 0) s ++ replicate (capacity - usedAt s 0) 0 ++ trailer 1 (settledAt s 0) (usedAt s 0) (backAt s 0)
 
 pub record-says : (s : List ℕ) → AllBytes s → length s ≡ pageSize → stateOf s ≡ 2 → RecordIs s
-unfolding stateOf
 record-says s bytes long e =
     let u = usedAt s 0 in
-    let never : _≡_ {A = ℕ} 0 2 → ⊥ = omega arith in
-    let some = not-then (eqb (stateAt s 0) 0) (both (λ n. n ≡ 2 → ⊥) (allZero s) {x = 1} {y = 0} (λ z. omega arith) (λ z. omega arith)) e in
-    let last = and-both _ _ (not-else (recordState s) never (some .1) .0) in
-    let tail = and-both _ _ (last .0) in
-    let used = and-both _ _ (tail .0) in
-    let settled = and-both _ _ (used .0) in
-    let few = leb-true u capacity (used .1) in
-    let k = eqb-true (stateAt s 0) 1 (settled .0) in
+    let r = recorded s e in
+    let few = r .used in
     let whole : capacity ≡ u + (capacity - u) = omega arith in
     let front : take capacity s ≡ take u s ++ replicate (capacity - u) 0 =
     ap (λ (n : ℕ). take n s) whole ∙ take-add u (capacity - u) s
     ∙ ap (λ (x : List ℕ). take u s ++ x)
-    (zeros (take (capacity - u) (drop u s)) (tail .1) (capacity - u) (length-take-le (capacity - u) (drop u s) (omega (arith, length-drop u s)))) in
+    (zeros (take (capacity - u) (drop u s)) (r .tail) (capacity - u) (length-take-le (capacity - u) (drop u s) (omega (arith, length-drop u s)))) in
     record {
-      settled = leb-true (settledAt s 0) 1 (settled .1);
+      settled = r .settled;
       used = few;
       same = sym (take-append-drop capacity s)
-          ∙ ap₂ _++_ front (trailer-is s bytes long (last .1) ∙ ap (λ (k : ℕ). trailer k (settledAt s 0) u (backAt s 0)) k);
+          ∙ ap₂ _++_ front (trailer-is s bytes long (r .last) ∙ ap (λ (k : ℕ). trailer k (settledAt s 0) u (backAt s 0)) (r .kind));
     }
 
 one-or-none : (n : ℕ) → n ≤ 1 → n ≡ cond (eqb n 1) 1 0

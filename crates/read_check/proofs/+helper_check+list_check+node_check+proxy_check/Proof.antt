@@ -10,13 +10,12 @@ use borrow.Fn.Kinds.{In}
 use borrow.Fn.PlainCycle.{Measures, is, falls, and}
 use Rattle.model.specs.Limits.{pageSize}
 use Rattle.model.specs.Row.{nil}
-use Rattle.theory_check.specs.Tests.{sizeOf}
+use Rattle.theory_check.specs.Tests.{wholeSize}
 use Rattle.theory_check.specs.Walk.{State, state, node, Decoded, listOf, proxyOf}
-use Rattle.theory_check.specs.Facts.{rest-is}
-use Rattle.theory_check.specs.Steps.{less, length-part, used-is}
-use Rattle.read_check.proofs.Calls.{passes, fails}
-use Rattle.read_check.proofs.Leaves.{aggregate-head}
-use Rattle.read_check.proofs.Walks.{goes, headed, sized, node-inside, list-none, list-bad, list-stop, On, Counted, on-end, counted-end, turn, turn-count, turn-childless, turn-literal, node-3-bad, node-3, node-4, node-deep, node-2, node-none, came-at, wide-at, came-stop, came-literal, proxy-no, proxy-done, node-small, count-small}
+use Rattle.theory_check.specs.Facts.{rest-is, passes, fails}
+use Rattle.theory_check.specs.Steps.{less, length-part}
+use Rattle.read_nodes.specs.Leaves.{sized, aggregate-head}
+use Rattle.read_check.proofs.Walks.{goes, headed, node-inside, list-none, list-bad, list-stop, On, Counted, on-end, counted-end, turn, turn-count, turn-childless, turn-literal, node-3-bad, node-3, node-4, node-deep, node-2, node-none, came-at, wide-at, came-stop, came-literal, proxy-no, proxy-done, node-small, count-small}
 use Rattle.read_check.proofs.Chains.{Chain, chain}
 use Rattle.read_check.proofs.helper_check.Reads as helper-check
 use Rattle.read_check.proofs.helper_check.Kinds as helper-check-kinds
@@ -30,14 +29,15 @@ use Rattle.read_check.proofs.+helper_check+list_check+node_check+proxy_
 use Rattle.read_check.proofs.proxy_check.Reads as proxy-check
 use Rattle.read_check.proofs.proxy_check.Kinds as proxy-check-kinds
 use Rattle.read_check.proofs.+helper_check+list_check+node_check+proxy_check.Lts-proxy_check as proxy-check-lts
-use Rattle.read_check.proofs.aggregate.Reads as aggregate-reads
+use Rattle.read_nodes.proofs.aggregate.Reads as aggregate-reads
 use Rattle.read_check.proofs.enters.Reads as enters-reads
-use Rattle.read_check.proofs.head.Reads as head-reads
-use Rattle.read_check.proofs.literal.Reads as literal-reads
-use Rattle.read_check.proofs.only.Reads as only-reads
+use Rattle.read_nodes.proofs.head.Reads as head-reads
+use Rattle.read_nodes.proofs.literal.Reads as literal-reads
+use Rattle.read_nodes.proofs.only.Reads as only-reads
 use Rattle.read_check.proofs.set_mark.Reads as set-mark-reads
-use Rattle.read_check.proofs.size_of.Reads as size-of-reads
-use Rattle.base_numbers.proofs.two.Reads as two-reads
+use Rattle.read_nodes.proofs.size_of.Reads as size-of-reads
+use Rattle.base_layout.proofs.name_at.Reads as name-at-reads
+use Rattle.base_layout.proofs.used_at.Reads as used-at-reads
 use Rattle.read_check.proofs.+helper_check+list_check+node_check+proxy_check.{statement}
 use Rattle.read_check.proofs.+helper_check+list_check+node_check+proxy_check.Tie.{close}
 
@@ -208,8 +208,8 @@ node-claims t = (
   list-check.Post,
   head-reads.Asked,
   head-reads.Learnt,
-  two-reads.Asked,
-  two-reads.Learnt,
+  name-at-reads.Asked,
+  name-at-reads.Learnt,
   proxy-check-below t,
   proxy-check.Post,
   helper-check-below t,
@@ -265,7 +265,7 @@ pub +helper-check+list-check+node-check+proxy-check-spec : {M : Type 1} → stat
     let l = k .loop in
     let part = now (k .before .before .before .args .part) in
     let e = list-stop _ _ _ _ _ (state (l .cur) (l .marks)) (λ e. omega (arith, length-drop (l .at) part, c .before .before .before .before .before .before .loop-test .taken)) (c .before .before .before .before .before .if1 .left)
-    (sym (c .before .size-of .ensures ∙ ap sizeOf (rest-is (l .at) part)) ∙ c .if3 .taken) in
+    (sym (c .before .size-of .ensures ∙ ap wholeSize (rest-is (l .at) part)) ∙ c .if3 .taken) in
     (on-end _ _ _ _ _ _ _ _ _ _ (l .inv .0) (state 0 (l .marks)) e, counted-end _ _ _ _ e (l .inv .2)))
     -- literal-requires
     (λ c κs. (omega (arith, sized _ _ (c .before .size-of .ensures) (c .if3 .left)), omega arith))
@@ -345,7 +345,7 @@ pub +helper-check+list-check+node-check+proxy-check-spec : {M : Type 1} → stat
     let l = k .loop in
     let part = now (k .before .before .before .args .part) in
     let e = list-stop _ _ _ _ _ (state (l .cur) (l .marks)) (λ e. omega (arith, length-drop (l .at) part, c .before .before .before .before .before .before .loop-test .taken)) (c .before .before .before .before .before .if1 .left)
-    (sym (c .before .size-of .ensures ∙ ap sizeOf (rest-is (l .at) part)) ∙ c .if3 .taken) in
+    (sym (c .before .size-of .ensures ∙ ap wholeSize (rest-is (l .at) part)) ∙ c .if3 .taken) in
     on-end _ _ _ _ _ _ _ _ _ _ (l .inv .0) (state 0 (l .marks)) e)
     -- literal-requires
     (λ c κs. (omega (arith, sized _ _ (c .before .size-of .ensures) (c .if3 .left)), omega arith))
@@ -420,7 +420,7 @@ pub +helper-check+list-check+node-check+proxy-check-spec : {M : Type 1} → stat
     (λ c κs. search needs)
     -- returns-2
     (λ c. came-stop _ _ (node-3-bad _ _ _ _ _ _ _ (c .before .before .head .ensures) (c .before .if2 .taken) (c .if3 .taken)))
-    -- two-requires
+    -- name-at-requires
     (λ c κs. search needs)
     -- proxy-check-requires
     (λ c κs. let s = c .before .before .before .before .before .before .before .before .before .before in (omega (arith, s .pre .0, c .before .before .before .if3 .left), (s .pre .1 .1, s .pre .1 .2)))
@@ -428,7 +428,7 @@ pub +helper-check+list-check+node-check+proxy-check-spec : {M : Type 1} → stat
     (λ c.
     let a = c .before .before .before .before .before .before .before .before .before .before .before .args in
     let q = node-3 _ _ _ _ _ _ _ (c .before .before .before .before .before .before .head .ensures) (c .before .before .before .before .before .if2 .taken) (c .before .before .before .before .if3 .left)
-    ∙ ap (λ (p : ℕ). proxyOf (now (a .image)) p (a .page) (a .level) (state (a .left) (now (a .marks)))) (sym (c .before .before .before .two .ensures .0)) in
+    ∙ ap (λ (p : ℕ). proxyOf (now (a .image)) p (a .page) (a .level) (state (a .left) (now (a .marks)))) (sym (c .before .before .before .name-at .ensures .0)) in
     (came-at q (c .proxy-check .ensures .0), wide-at q (c .proxy-check .ensures .1)))
     -- sub-helper-check
     (λ c. headed _ _ _ (c .before .before .head .ensures) (c .if4 .taken))
@@ -460,8 +460,8 @@ pub +helper-check+list-check+node-check+proxy-check-spec : {M : Type 1} → stat
     λ t. proxy-check-lts.spec (
       enters-reads.Asked,
       enters-reads.Learnt,
-      two-reads.Asked,
-      two-reads.Learnt,
+      used-at-reads.Asked,
+      used-at-reads.Learnt,
       set-mark-reads.Asked,
       set-mark-reads.Learnt,
       node-check-below t,
@@ -475,12 +475,10 @@ pub +helper-check+list-check+node-check+proxy-check-spec : {M : Type 1} → stat
     (λ c. came-stop _ _ (proxy-no _ _ _ _ _ (fails (c .before .enters .ensures) (c .if1 .taken))))
     -- mul-a
     (λ c. omega (arith, goes _ _ _ _ _ (c .before .enters .ensures) (c .if1 .left) .low))
-    -- add-two
-    (λ c. omega (arith, goes _ _ _ _ _ (c .before .enters .ensures) (c .if1 .left) .low))
-    -- two-requires
+    -- used-at-requires
     (λ c κs. omega (arith, goes _ _ _ _ _ (c .before .enters .ensures) (c .if1 .left) .inside))
     -- add-e
-    (λ c. let k = c .before in omega (arith, goes _ _ _ _ _ (k .before .enters .ensures) (k .if1 .left) .low, c .two .ensures .1))
+    (λ c. let k = c .before in omega (arith, goes _ _ _ _ _ (k .before .enters .ensures) (k .if1 .left) .low, c .used-at .ensures .1))
     -- set-mark-requires
     (λ c κs. let k = c .before .before in goes _ _ _ _ _ (k .before .enters .ensures) (k .if1 .left) .low)
     -- sub-node-check
@@ -492,7 +490,7 @@ pub +helper-check+list-check+node-check+proxy-check-spec : {M : Type 1} → stat
     let k = c .before .before .before in
     let a = k .before .before .before .before .args in
     let f = goes _ _ _ _ _ (k .before .enters .ensures) (k .if1 .left) in
-    omega (arith, c .before .before .two .ensures .0, f .used, f .inside, used-is (now (a .image)) (a .p)))
+    omega (arith, c .before .before .used-at .ensures .0, f .used, f .inside))
     -- sub-node-check-2
     (λ c. let k = c .before .before .before .before in omega (arith, goes _ _ _ _ _ (k .before .enters .ensures) (k .if1 .left) .room))
     -- node-check-requires
@@ -501,16 +499,16 @@ pub +helper-check+list-check+node-check+proxy-check-spec : {M : Type 1} → stat
     let s = k .before .before .before .before in
     let a = s .args in
     let f = goes _ _ _ _ _ (k .before .enters .ensures) (k .if1 .left) in
-    let n = c .before .before .before .before .before .two in
+    let n = c .before .before .before .before .before .used-at in
     let long = length-part (now (a .image)) (pageSize * a .p) (pageSize * a .p + n .result - pageSize * a .p) in (
-      omega (arith, s .pre .0, f .room, f .used, n .ensures .0, used-is (now (a .image)) (a .p), long),
+      omega (arith, s .pre .0, f .room, f .used, n .ensures .0, long),
       (search needs, s .pre .1 .0, omega (arith, s .pre .1 .1), omega (arith, n .ensures .1, long)),
     ))
     -- cast-widths
     (λ c.
     let s = c .before .before .before .before .before .before .before .before .before .before .before .before in
     let a = s .args in
-    let n = c .before .before .before .before .before .before .before .two in
+    let n = c .before .before .before .before .before .before .before .used-at in
     let long = length-part (now (a .image)) (pageSize * a .p) (pageSize * a .p + n .result - pageSize * a .p) in
     let part = take (pageSize * a .p + n .result - pageSize * a .p) (drop (pageSize * a .p) (now (a .image))) in
     omega (arith, c .before .node-check .ensures .1, node-small (now (a .image)) part (a .p) 0 (a .level) (a .left - 1) (c .before .before .before .before .before .set-mark .last .0) (omega (arith, n .ensures .1, long)) (omega (arith, s .pre .1 .1))))
@@ -522,5 +520,5 @@ pub +helper-check+list-check+node-check+proxy-check-spec : {M : Type 1} → stat
     (λ c.
     let k = c .before .before .before .before .before .before .before .before in
     let a = k .before .before .before .before .args in
-    proxy-done _ _ _ _ (state (a .left) (now (a .marks))) (passes (k .before .enters .ensures) (k .if1 .left)) (c .before .before .before .before .before .before .before .two .result) _
-    (c .before .before .before .before .before .before .before .two .ensures .0) (ap (state (a .left - 1)) (c .before .before .before .before .before .set-mark .ensures)) _ _ _ _ _ (c .before .node-check .ensures))
+    proxy-done _ _ _ _ (state (a .left) (now (a .marks))) (passes (k .before .enters .ensures) (k .if1 .left)) (c .before .before .before .before .before .before .before .used-at .result) _
+    (c .before .before .before .before .before .before .before .used-at .ensures .0) (ap (state (a .left - 1)) (c .before .before .before .before .before .set-mark .ensures)) _ _ _ _ _ (c .before .node-check .ensures))

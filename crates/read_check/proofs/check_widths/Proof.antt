@@ -5,7 +5,7 @@ use borrow.Author.Needs.{needs}
 use borrow.Author.Tests.{eq-eqb, ne-eqb}
 use Rattle.theory_check.specs.Check.{checkBy}
 use Rattle.theory_check.specs.Bounds.{trailers-most}
-use Rattle.read_check.proofs.Calls.{passes, fails}
+use Rattle.theory_check.specs.Facts.{passes, fails}
 use Rattle.read_check.proofs.check_widths.Statement.{statement}
 use Rattle.read_check.proofs.check_widths.Tie as tie
 

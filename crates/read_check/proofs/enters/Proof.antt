@@ -1,7 +1,8 @@
-use borrow.Author.Tests.{le-ltb, lt-ltb}
+use mathlib.Core.Bool.{and-false}
+use borrow.Author.Tests.{le-leb, lt-leb}
 use borrow.Author.Needs.{needs}
 use Rattle.theory_check.specs.Walk.{entersOf}
-use Rattle.read_check.proofs.Calls.{passes, fails}
+use Rattle.theory_check.specs.Facts.{passes, fails}
 use Rattle.read_check.proofs.Walks.{named}
 use Rattle.read_check.proofs.enters.Statement.{statement}
 use Rattle.read_check.proofs.enters.Tie as tie
@@ -18,16 +19,11 @@ root-fits-requires c κs = named _ _ _ (passes (c .before .names .ensures) (c .i
 
 returns-2 : tie.Need-returns-2
 unfolding entersOf
-returns-2 c =
-    let p1 = c .before .before in
-    simp (passes (p1 .before .names .ensures) (p1 .if1 .left), fails (c .before .root-fits .ensures) (c .if2 .taken))
+returns-2 c = simp (fails (c .before .root-fits .ensures) (c .if2 .taken), and-false)
 
 returns-3 : tie.Need-returns-3
 unfolding entersOf
-returns-3 c =
-    let p2 = c .before in
-    let p1 = p2 .before .before in
-    simp (passes (p1 .before .names .ensures) (p1 .if1 .left), passes (p2 .before .root-fits .ensures) (p2 .if2 .left), lt-ltb _ _ (c .if3 .taken))
+returns-3 c = simp (lt-leb _ _ (c .if3 .taken), and-false)
 
 is-marked-requires : tie.Need-is-marked-requires
 is-marked-requires c κs = named _ _ _ (passes (c .before .before .before .before .names .ensures) (c .before .before .before .if1 .left)) .0
@@ -38,7 +34,7 @@ returns-4 c =
     let p3 = c .before in
     let p2 = p3 .before in
     let p1 = p2 .before .before in
-    simp (← c .is-marked .ensures, passes (p1 .before .names .ensures) (p1 .if1 .left), passes (p2 .before .root-fits .ensures) (p2 .if2 .left), le-ltb _ _ (p3 .if3 .left))
+    simp (← c .is-marked .ensures, passes (p1 .before .names .ensures) (p1 .if1 .left), passes (p2 .before .root-fits .ensures) (p2 .if2 .left), le-leb _ _ (p3 .if3 .left))
 
 pub enters-spec : {M : Type 1} → statement M
 enters-spec =
