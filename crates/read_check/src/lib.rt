@@ -110,10 +110,11 @@ fn node_check<'a>(
     ensures { λ r. ⌜ Came (nodeOf (now (image .entry)) (now (part .entry)) page holder level (state left (now (marks .entry)))) (r .left) (now (marks .exit)) (now (widths .entry)) (now (widths .exit))
         × (r .width ≡ tree.width (nodeOf (now (image .entry)) (now (part .entry)) page holder level (state left (now (marks .entry))) .row)) ⌝ }
 {
+    let below = level + 1;
     if aggregate(part, part.len(), holder, level) {
-        let d = only(part, level + 1);
+        let d = only(part, below);
         let rest = &part[6 * d + 6..];
-        let n = list_check(image, rest, page, level + 1 + d, left, marks, widths);
+        let n = list_check(image, rest, page, below + d, left, marks, widths);
         return Walked { left: n, width: 1 };
     }
     let kind = head(part, holder);
@@ -124,6 +125,7 @@ fn node_check<'a>(
         return proxy_check(image, name_at(part, 0), page, level, left, marks, widths);
     }
     if kind == 4 {
+        // a helper is no level
         return helper_check(image, &part[6..], page, level, left, marks, widths);
     }
     if Settings::LEVELS < level {

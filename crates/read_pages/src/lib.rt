@@ -184,7 +184,8 @@ pub fn names(image: &[u8], p: usize, page: usize) -> bool
     if Settings::CAPACITY < used_at(image, a) {
         return false;
     }
-    back_at(image, a) == page
+    let back = back_at(image, a);
+    back == page
 }
 
 // A settled record's root is no helper.

@@ -386,10 +386,10 @@ pub +helper-check+list-check+node-check+proxy-check-spec : {M : Type 1} → stat
     (λ t. node-check-lts.spec (node-claims t)
     (node-check-at t)
     node-check.Post
+    -- add-below
+    (λ c. search needs)
     -- aggregate-requires
     (λ c κs. search needs)
-    -- add-only
-    (λ c. search needs)
     -- only-requires
     (λ c κs. let f = aggregate-head _ _ _ (sym (c .before .aggregate .ensures) ∙ c .if1 .taken) in (f .0, omega (arith, f .2)))
     -- mul-rest
@@ -403,8 +403,6 @@ pub +helper-check+list-check+node-check+proxy-check-spec : {M : Type 1} → stat
     -- part-rest-end
     (λ c. omega (arith, chained t c .inside))
     -- add-list-check
-    (λ c. omega (arith, chained t (c .before) .low))
-    -- add-list-check-2
     (λ c. omega (arith, chained t (c .before) .low))
     -- list-check-requires
     (λ c κs.
