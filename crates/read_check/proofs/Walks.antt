@@ -7,15 +7,14 @@ use native.Mathlib.Omega.{arith}
 use native.Mathlib.Nat.{add-sub-cancel-left}
 use lib.ListN.{length, set, take, drop, length-take, length-drop}
 use lib.Seq.{drop-drop, length-take-le}
-use lib.Dec.{leb, eqb}
-use borrow.Author.Tests.{lt-ltb, le-ltb, eq-eqb, ne-eqb, leb-true, ltb-true}
-use Rattle.theory_decoding.specs.Valid.{both as and-both}
+use lib.Dec.{eqb}
+use borrow.Author.Tests.{lt-ltb, le-ltb, eq-eqb, ne-eqb}
 use Rattle.model.specs.Limits.{mostPages, pageSize, mostLevels}
 use Rattle.model.specs.Row.{Head, nil, lit}
 use Rattle.model.specs.Tree.{width}
 use Rattle.model.specs.Reading.{usedAt, settledAt, headAt, nameAt}
 use Rattle.theory_rows.specs.Laws.{width-⊹}
-use Rattle.theory_check.specs.Tests.{wholeSize, passingKind, namesOf}
+use Rattle.theory_check.specs.Tests.{wholeSize, passingKind}
 use Rattle.theory_check.specs.Walk.{State, state, node, list, withMark, entersOf, Decoded, stop, recordOf, asAgg, asRec, before, proxyStep, nodeStep, moreStep, listStep, decode, nodeOf, listOf, proxyOf}
 use Rattle.theory_check.specs.Widths.{widthsAfter, widths-⊹}
 use Rattle.theory_check.specs.Bounds.{decoded-wide}
@@ -24,17 +23,6 @@ use Rattle.theory_check.specs.Steps.{Entered, entered, node-eq, list-eq, head-l
 use Rattle.read_nodes.specs.Leaf.{aggregateOf, literalOf}
 use Rattle.read_check.specs.Came.{Came}
 use Rattle.read_nodes.specs.Leaves.{no-kind, sized, aggregate-head, childless-head, literal-head}
-
--- what a page that is named shows of itself
-pub named : (img : List ℕ) (p page : ℕ) → namesOf img p page ≡ true → (p < mostPages) × (pageSize * p + pageSize ≤ length img)
-unfolding namesOf
-named img p page e =
-    let holder = and-both _ _ e in
-    let used = and-both _ _ (holder .0) in
-    let kind = and-both _ _ (used .0) in
-    let inside = and-both _ _ (kind .0) in
-    let low = and-both (leb 2 p) _ (inside .0) in
-    (ltb-true _ _ (low .1), leb-true _ _ (inside .1))
 
 -- what a page that is entered shows of itself; the test is made the other way round
 pub goes : (img : List ℕ) (p page : ℕ) (w : State) (r : Bool) → r ≡ entersOf img p page w → not r ≡ false → Entered img p page w

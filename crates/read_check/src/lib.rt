@@ -3,13 +3,13 @@ use base_layout::name_at;
 use base_layout::used_at;
 use base_ranges::length_ok;
 use model::Settings;
+use read_marks::enters;
+use read_marks::set_mark;
 use read_nodes::aggregate;
 use read_nodes::head;
 use read_nodes::literal;
 use read_nodes::only;
 use read_nodes::size_of;
-use read_pages::names;
-use read_pages::root_fits;
 use read_pages::trailers;
 ghost use mathlib.Core.Path.{_≡_};
 ghost use mathlib.Core.Bool.{true};
@@ -18,50 +18,12 @@ ghost use lib.ListN.{length};
 ghost use Rattle.model.specs.Tree as tree;
 ghost use Rattle.model.specs.Limits.{mostPages, mostLevels};
 ghost use Rattle.model.specs.Reading.{lengthOk};
-ghost use Rattle.theory_check.specs.Tests.{isMarked, marked};
-ghost use Rattle.theory_check.specs.Walk.{state, entersOf, nodeOf, listOf, proxyOf};
+ghost use Rattle.theory_check.specs.Walk.{state, nodeOf, listOf, proxyOf};
 ghost use Rattle.theory_check.specs.Check.{trailersOf, walkOf, walkOk, checkBy};
 ghost use Rattle.theory_check.specs.Widths.{widthsAfter};
 ghost use Rattle.read_check.specs.Came.{Came};
 
-// ── marks: a bit for each page ──
-
-pub fn is_marked(marks: &[u8; 128], p: usize) -> bool
-    requires { ⌜ p < mostPages ⌝ }
-    ensures { λ r. ⌜ r ≡ isMarked (now (marks .entry)) p ⌝ }
-{
-    let i = p / 8;
-    let k = p % 8;
-    (marks[i] >> k) % 2 == 1
-}
-
-pub fn set_mark(marks: &mut [u8; 128], p: usize)
-    requires { ⌜ p < mostPages ⌝ }
-    ensures { λ _. ⌜ now (marks .exit) ≡ marked (now (marks .entry)) p ⌝ }
-{
-    let i = p / 8;
-    let k = p % 8;
-    let m = marks[i];
-    marks[i] = m | (1 << k);
-}
-
 // ── the walk ──
-
-// Whether the walk can go on in page p. `left` is one more than the record pages still to be reached.
-pub fn enters(image: &[u8], p: usize, page: usize, left: usize, marks: &[u8; 128]) -> bool
-    ensures { λ r. ⌜ r ≡ entersOf (now (image .entry)) p page (state left (now (marks .entry))) ⌝ }
-{
-    if !names(image, p, page) {
-        return false;
-    }
-    if !root_fits(image, p) {
-        return false;
-    }
-    if left < 2 {
-        return false;
-    }
-    !is_marked(marks, p)
-}
 
 // What a walk leaves to be reached, 0 where it is refused, and how many nodes it was shown.
 struct Walked {

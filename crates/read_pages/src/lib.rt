@@ -1,4 +1,4 @@
-// The check's tests of pages by themselves: page 0, page 1, every trailer and free page, and whether a proxy may name a page.
+// The check's tests of pages by themselves: page 0, page 1, every trailer and every free page.
 use base_layout::back_at;
 use base_layout::settled_at;
 use base_layout::used_at;
@@ -8,11 +8,11 @@ use base_ranges::in_range;
 use model::Settings;
 ghost use mathlib.Core.Path.{_≡_};
 ghost use mathlib.Core.Bool.{true};
-ghost use Prim.Native.Nat.{_+_, _-_, _*_, _≤_, _<_};
+ghost use Prim.Native.Nat.{_-_, _*_, _≤_};
 ghost use lib.ListN.{length};
 ghost use Rattle.model.specs.Limits.{mostPages, pageSize};
 ghost use Rattle.model.specs.Reading.{lengthOk};
-ghost use Rattle.theory_check.specs.Tests.{namesOf, rootFits, allZero, stateOf, settingsOk, firstOk};
+ghost use Rattle.theory_check.specs.Tests.{allZero, stateOf, settingsOk, firstOk};
 ghost use Rattle.theory_check.specs.Check.{scanFrom, trailersOf};
 ghost use Rattle.read_pages.specs.Numbers.{settingsOn};
 
@@ -162,39 +162,4 @@ pub fn trailers(image: &[u8]) -> usize
         return 0;
     }
     scan_pages(image, pages)
-}
-
-// Whether page p by its trailer holds a record whose proxy stands in the record of a page.
-pub fn names(image: &[u8], p: usize, page: usize) -> bool
-    ensures { λ r. ⌜ r ≡ namesOf (now (image .entry)) p page ⌝ }
-{
-    if p < 2 {
-        return false;
-    }
-    if Settings::PAGES <= p {
-        return false;
-    }
-    let a = Settings::PAGE * p;
-    if image.len() < a + Settings::PAGE {
-        return false;
-    }
-    if image[a + Settings::CAPACITY] != 1 {
-        return false;
-    }
-    if Settings::CAPACITY < used_at(image, a) {
-        return false;
-    }
-    let back = back_at(image, a);
-    back == page
-}
-
-// A settled record's root is no helper.
-pub fn root_fits(image: &[u8], p: usize) -> bool
-    requires { ⌜ (p < mostPages) × (pageSize * p + pageSize ≤ length (now image)) ⌝ }
-    ensures { λ r. ⌜ r ≡ rootFits (now (image .entry)) p ⌝ }
-{
-    if settled_at(image, Settings::PAGE * p) != 1 {
-        return true;
-    }
-    image[Settings::PAGE * p] != 4
 }

@@ -30,11 +30,11 @@ use Rattle.read_check.proofs.proxy_check.Reads as proxy-check
 use Rattle.read_check.proofs.proxy_check.Kinds as proxy-check-kinds
 use Rattle.read_check.proofs.+helper_check+list_check+node_check+proxy_check.Lts-proxy_check as proxy-check-lts
 use Rattle.read_nodes.proofs.aggregate.Reads as aggregate-reads
-use Rattle.read_check.proofs.enters.Reads as enters-reads
+use Rattle.read_marks.proofs.enters.Reads as enters-reads
 use Rattle.read_nodes.proofs.head.Reads as head-reads
 use Rattle.read_nodes.proofs.literal.Reads as literal-reads
 use Rattle.read_nodes.proofs.only.Reads as only-reads
-use Rattle.read_check.proofs.set_mark.Reads as set-mark-reads
+use Rattle.read_marks.proofs.set_mark.Reads as set-mark-reads
 use Rattle.read_nodes.proofs.size_of.Reads as size-of-reads
 use Rattle.base_layout.proofs.name_at.Reads as name-at-reads
 use Rattle.base_layout.proofs.used_at.Reads as used-at-reads

@@ -1,8 +1,8 @@
 use mathlib.Core.Path.{refl}
 use borrow.Author.Needs.{needs}
 use Rattle.theory_check.specs.Tests.{marked}
-use Rattle.read_check.proofs.set_mark.Statement.{statement}
-use Rattle.read_check.proofs.set_mark.Tie as tie
+use Rattle.read_marks.proofs.set_mark.Statement.{statement}
+use Rattle.read_marks.proofs.set_mark.Tie as tie
 
 element-copy-out-m : tie.Need-element-copy-out-m
 element-copy-out-m c = search needs

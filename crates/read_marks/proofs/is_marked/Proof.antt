@@ -1,8 +1,8 @@
 use mathlib.Core.Path.{refl}
 use borrow.Author.Needs.{needs}
 use Rattle.theory_check.specs.Tests.{isMarked}
-use Rattle.read_check.proofs.is_marked.Statement.{statement}
-use Rattle.read_check.proofs.is_marked.Tie as tie
+use Rattle.read_marks.proofs.is_marked.Statement.{statement}
+use Rattle.read_marks.proofs.is_marked.Tie as tie
 
 element-copy-out-result : tie.Need-element-copy-out-result
 element-copy-out-result c = search needs

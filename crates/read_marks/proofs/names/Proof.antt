@@ -2,8 +2,8 @@ use mathlib.Core.Bool.{and-false}
 use borrow.Author.Needs.{needs}
 use borrow.Author.Tests.{lt-ltb, le-ltb, le-leb, lt-leb, eq-eqb, ne-eqb}
 use Rattle.theory_check.specs.Tests.{namesOf}
-use Rattle.read_pages.proofs.names.Statement.{statement}
-use Rattle.read_pages.proofs.names.Tie as tie
+use Rattle.read_marks.proofs.names.Statement.{statement}
+use Rattle.read_marks.proofs.names.Tie as tie
 
 returns : tie.Need-returns
 unfolding namesOf

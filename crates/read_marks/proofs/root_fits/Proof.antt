@@ -1,8 +1,8 @@
 use borrow.Author.Needs.{needs}
 use borrow.Author.Tests.{eq-eqb, ne-eqb}
 use Rattle.theory_check.specs.Tests.{rootFits}
-use Rattle.read_pages.proofs.root_fits.Statement.{statement}
-use Rattle.read_pages.proofs.root_fits.Tie as tie
+use Rattle.read_marks.proofs.root_fits.Statement.{statement}
+use Rattle.read_marks.proofs.root_fits.Tie as tie
 
 mul-settled-at : tie.Need-mul-settled-at
 mul-settled-at c = search needs

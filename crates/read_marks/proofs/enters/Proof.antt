@@ -1,11 +1,29 @@
-use mathlib.Core.Bool.{and-false}
-use borrow.Author.Tests.{le-leb, lt-leb}
+use mathlib.Core.Bool.{and-false, true}
+use borrow.Author.Tests.{le-leb, lt-leb, leb-true, ltb-true}
 use borrow.Author.Needs.{needs}
+use mathlib.Core.Path.{_≡_}
+use mathlib.Core.List.{List}
+use Prim.Native.Nat.{ℕ, _+_, _*_, _≤_, _<_}
+use lib.ListN.{length}
+use lib.Dec.{leb}
+use Rattle.theory_decoding.specs.Valid.{both as and-both}
+use Rattle.theory_check.specs.Tests.{namesOf}
+use Rattle.model.specs.Limits.{mostPages, pageSize}
 use Rattle.theory_check.specs.Walk.{entersOf}
 use Rattle.theory_check.specs.Facts.{passes, fails}
-use Rattle.read_check.proofs.Walks.{named}
-use Rattle.read_check.proofs.enters.Statement.{statement}
-use Rattle.read_check.proofs.enters.Tie as tie
+use Rattle.read_marks.proofs.enters.Statement.{statement}
+use Rattle.read_marks.proofs.enters.Tie as tie
+
+-- what a page that is named shows of itself
+named : (img : List ℕ) (p page : ℕ) → namesOf img p page ≡ true → (p < mostPages) × (pageSize * p + pageSize ≤ length img)
+unfolding namesOf
+named img p page e =
+    let holder = and-both _ _ e in
+    let used = and-both _ _ (holder .0) in
+    let kind = and-both _ _ (used .0) in
+    let inside = and-both _ _ (kind .0) in
+    let low = and-both (leb 2 p) _ (inside .0) in
+    (ltb-true _ _ (low .1), leb-true _ _ (inside .1))
 
 names-requires : tie.Need-names-requires
 names-requires c κs = search needs
