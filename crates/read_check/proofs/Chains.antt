@@ -8,6 +8,7 @@ use lib.ListN.{length, take, drop, length-drop}
 use lib.Seq.{drop-drop, take-all}
 use lib.Dec.{eqb}
 use borrow.Author.Tests.{eqb-true, eqb-false}
+use Rattle.theory_check.specs.Steps.{list-none, list-more}
 use Rattle.read_nodes.specs.Inner.{Each, alone, each-fits}
 use Rattle.model.specs.Limits.{mostLevels}
 use Rattle.model.specs.Row.{nil}
@@ -20,7 +21,7 @@ use Rattle.theory_check.specs.Facts.{rest-is}
 use Rattle.read_nodes.specs.Leaf.{aggregateOf, Only}
 use Rattle.read_check.specs.Came.{Came}
 use Rattle.read_nodes.specs.Leaves.{aggregate-head, aggregate-size}
-use Rattle.read_check.proofs.Walks.{list-none, list-bad, list-more, node-inner, came-at, came-agg}
+use Rattle.read_check.proofs.Walks.{list-bad, node-inner, came-at, came-agg}
 
 -- Two outcomes with the same walk, whose rows leave the same in a table of widths.
 record Alike (d e : Decoded) : Type 0 where

@@ -15,11 +15,12 @@ use Rattle.model.specs.Tree.{width}
 use Rattle.model.specs.Reading.{usedAt, settledAt, headAt, nameAt}
 use Rattle.theory_rows.specs.Laws.{width-⊹}
 use Rattle.theory_check.specs.Tests.{wholeSize, passingKind}
-use Rattle.theory_check.specs.Walk.{State, state, node, list, withMark, entersOf, Decoded, stop, recordOf, asAgg, asRec, before, proxyStep, nodeStep, moreStep, listStep, decode, nodeOf, listOf, proxyOf}
+use Rattle.theory_check.specs.Walk.{State, state, node, list, withMark, entersOf, Decoded, stop, recordOf, asAgg, asRec, before, proxyStep, nodeStep}
+use Rattle.theory_check.specs.Walk.{listStep, decode, nodeOf, listOf, proxyOf}
 use Rattle.theory_check.specs.Widths.{widthsAfter, widths-⊹}
 use Rattle.theory_check.specs.Bounds.{decoded-wide}
 use Rattle.theory_check.specs.Facts.{both, rest-is, passes}
-use Rattle.theory_check.specs.Steps.{Entered, entered, node-eq, list-eq, head-long}
+use Rattle.theory_check.specs.Steps.{Entered, entered, node-eq, list-eq, head-long, list-none, list-more}
 use Rattle.read_nodes.specs.Leaf.{aggregateOf, literalOf}
 use Rattle.read_check.specs.Came.{Came}
 use Rattle.read_nodes.specs.Leaves.{no-kind, sized, aggregate-head, childless-head, literal-head}
@@ -45,10 +46,6 @@ module _ (img : List ℕ) (s : List ℕ) (page holder level : ℕ) (w : State) w
   abbrev Got : Decoded → Type 0
   Got d = listOf img s page holder level w ≡ d
 
-  pub list-none : length s ≡ 0 → Got (record { row = nil; walk = w })
-  unfolding listStep
-  list-none e = list-eq img s page holder level w ∙ simp (eq-eqb _ _ e)
-
   pub list-bad : (length s ≡ 0 → ⊥) → w .left ≡ 0 → Got (record { row = nil; walk = w })
   unfolding listStep
   list-bad e f = list-eq img s page holder level w ∙ simp (ne-eqb _ _ e, eq-eqb _ _ f)
@@ -56,11 +53,6 @@ module _ (img : List ℕ) (s : List ℕ) (page holder level : ℕ) (w : State) w
   pub list-stop : (length s ≡ 0 → ⊥) → (w .left ≡ 0 → ⊥) → wholeSize s ≡ 0 → Got (stop w)
   unfolding listStep
   list-stop e f n = list-eq img s page holder level w ∙ simp (ne-eqb _ _ e, ne-eqb _ _ f, eq-eqb _ _ n)
-
-  pub list-more : (length s ≡ 0 → ⊥) → (w .left ≡ 0 → ⊥) → (wholeSize s ≡ 0 → ⊥)
-      → let a = nodeOf img (take (wholeSize s) s) page holder level w in Got (before a (listOf img (drop (wholeSize s) s) page holder level (a .walk)))
-  unfolding listStep moreStep
-  list-more e f n = list-eq img s page holder level w ∙ simp (ne-eqb _ _ e, ne-eqb _ _ f, ne-eqb _ _ n)
 
   -- a node, with its kind in hand
   module _ (kind : ℕ) (is : kind ≡ passingKind s holder) where

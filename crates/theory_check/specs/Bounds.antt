@@ -13,7 +13,7 @@ use Rattle.model.specs.Tree.{width}
 use Rattle.model.specs.Reading.{lengthOk, pageOf, usedAt, nameAt}
 use Rattle.theory_rows.specs.Laws.{width-⊹, cond-case}
 use Rattle.theory_decoding.specs.Valid as valid
-use Rattle.theory_check.specs.Rec.{run, under, steps}
+use Rattle.theory_check.specs.Rec.{keeps}
 use Rattle.theory_check.specs.Tests.{wholeSize, passingKind, stateOf, settingsOk, firstOk}
 use Rattle.theory_check.specs.Walk.{State, withMark, entersOf, Decoded, Job, node, list, measure, stop, none, recordOf, step, proxyStep, nodeStep, moreStep, listStep, decode}
 use Rattle.theory_check.specs.Facts.{both}
@@ -27,8 +27,8 @@ abbrev pub bytesIn : Job → ℕ
 bytesIn (node s page holder level w) = length s
 bytesIn (list s page holder level w) = length s
 
--- What an answer shows, with 4096 for each page still left to it, is no more than n bytes and the pages left before it allow.
-abbrev Within : (n : ℕ) → State → Decoded → Type 0
+-- What an answer shows, with a page's bytes for each page still left to it, is no more than n bytes and the pages left before it allow.
+abbrev pub Within : (n : ℕ) → State → Decoded → Type 0
 Within n w d = width (d .row) + pageSize * d .walk .left ≤ n + pageSize * w .left
 
 abbrev Wide : (Job → Decoded) → Type 0
@@ -90,19 +90,9 @@ module _ (img : List ℕ) (f : Job → Decoded) (h : Wide f) where
   wide-step (node s page holder level w) = wide-node s page holder level w
   wide-step (list s page holder level w) = wide-list s page holder level w
 
-module _ (img : List ℕ) where
-  wide-under : (m : ℕ) (f : Job → Decoded) → Wide f → Wide (under measure none (step img) m f)
-  unfolding under
-  wide-under m f h j = both (Within (bytesIn j) (from j)) (ltb (measure j) m) (h j) (wide-none j)
-
-  wide-steps : (n : ℕ) → Wide (steps measure none (step img) n)
-  unfolding steps
-  wide-steps zero j = wide-none j
-  wide-steps (suc n) j = wide-step img (under measure none (step img) (measure j) (steps measure none (step img) n)) (wide-under (measure j) (steps measure none (step img) n) (wide-steps n)) j
-
-  pub decoded-wide : (j : Job) → width (decode img j .row) + pageSize * decode img j .walk .left ≤ bytesIn j + pageSize * from j .left
-  unfolding decode run
-  decoded-wide j = wide-steps (suc (measure j)) j
+pub decoded-wide : (img : List ℕ) (j : Job) → Within (bytesIn j) (from j) (decode img j)
+unfolding decode
+decoded-wide img = keeps measure none (step img) (λ (j : Job). Within (bytesIn j) (from j)) wide-none (wide-step img)
 
 -- ── the pages that it is to reach ──
 

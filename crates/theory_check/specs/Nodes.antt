@@ -14,8 +14,8 @@ use Rattle.theory_rows.specs.Laws.{length-bytes, isNil-nil, ⊹-nil}
 use Rattle.theory_rows.specs.Fits.{Shape, one, more, RecordFits, HeadFits}
 use Rattle.theory_decoding.specs.Decode.{two-bytes}
 use Rattle.theory_check.specs.Tests.{wholeSize, twoChildren, shapeOf, passingKind}
-use Rattle.theory_check.specs.Walk.{State, Decoded, decode, asAgg, before, nodeStep, moreStep, listStep, nodeOf, listOf, proxyOf}
-use Rattle.theory_check.specs.Steps.{node-eq, list-eq}
+use Rattle.theory_check.specs.Walk.{State, Decoded, asAgg, before, nodeStep, nodeOf, listOf, proxyOf}
+use Rattle.theory_check.specs.Steps.{node-eq, list-none, list-more}
 
 -- ── the tests ──
 
@@ -50,29 +50,15 @@ module _ (k : ℕ) (l : Head) (n : ℕ) (inside : List ℕ) (e : length inside �
 -- ── the walk ──
 
 module _ (img : List ℕ) (page level : ℕ) (w : State) where
-  module _ (holder : ℕ) where
-    pub list-none : listOf img [] page holder level w ≡ record { row = nil; walk = w }
-    unfolding listStep
-    list-none = list-eq img [] page holder level w
-
-    -- a list goes on after its first node
-    list-more : (s : List ℕ) → 1 ≤ w .left → 1 ≤ wholeSize s → 1 ≤ length s
-        → listOf img s page holder level w ≡ moreStep img (decode img) s page holder level w (wholeSize s)
-    unfolding listStep
-    list-more s a b c =
-        list-eq img s page holder level w
-        ∙ rw (ne-eqb (length s) 0 (λ z. omega arith), ne-eqb (w .left) 0 (λ z. omega arith), ne-eqb (wholeSize s) 0 (λ z. omega arith))
-
   module _ (l : Head) (n : ℕ) (inside : List ℕ) (e : length inside ≡ n) (h : n ≤ capacity) where
     -- the first node, then the others
     pub list-node : (k holder : ℕ) (after : List ℕ) (a d : Decoded) → 1 ≤ w .left → nodeOf img (whole k l n inside) page holder level w ≡ a
         → listOf img after page holder level (a .walk) ≡ d → listOf img (whole k l n inside ++ after) page holder level w ≡ before a d
-    unfolding moreStep
     list-node k holder after a d f i j =
         let s = whole k l n inside ++ after in
         let z = size-node k l n inside e h after in
         let m : length (whole k l n inside) ≡ 6 + n = omega arith in
-        list-more holder s f (omega arith) (omega arith)
+        list-more img s page holder level w (λ q. omega arith) (λ q. omega arith) (λ q. omega arith)
         ∙ rw (z, take-at (whole k l n inside) after (6 + n) m, drop-at (whole k l n inside) after (6 + n) m, i, j)
 
     pub agg-node : (holder : ℕ) → HeadFits l → mayStand holder 1 ≡ true → level ≤ mostLevels
@@ -150,11 +136,10 @@ not-lone (more r h) e = h
 module _ (img : List ℕ) (page level : ℕ) (w : State) (left : 1 ≤ w .left) where
   -- a list of one node is the node
   alone : (holder : ℕ) (s : List ℕ) → 1 ≤ length s → wholeSize s ≡ length s → listOf img s page holder level w ≡ nodeOf img s page holder level w
-  unfolding moreStep
   alone holder s h e =
       let a = nodeOf img s page holder level w in
-      list-more img page level w holder s left (omega arith) h
-      ∙ rw (e, take-length s, drop-length s, list-none img page level (a .walk) holder, ⊹-nil (a .row))
+      list-more img s page holder level w (λ q. omega arith) (λ q. omega arith) (λ q. omega arith)
+      ∙ rw (e, take-length s, drop-length s, list-none img [] page holder level (a .walk) refl, ⊹-nil (a .row))
 
   -- a record is what its row is
   pub record-node : (s : Bool) (r : Row) (d : Decoded) → RecordFits s r → cond (lone r) (byTable 0 r) (mayStand 0 4 && byTable 4 r) ≡ true

@@ -2,20 +2,21 @@
 use mathlib.Core.Path.{_≡_, refl, ap, _∙_, sym}
 use mathlib.Core.List.{List}
 use mathlib.Core.Bool.{true, false}
-use Prim.Native.Nat.{ℕ, zero, suc, _+_, _-_, _*_, _≤_, _<_}
+use Prim.Native.Nat.{ℕ, _+_, _-_, _*_, _≤_, _<_}
 use native.Mathlib.Nat.{le-refl, le-trans}
 use native.Mathlib.Omega.{arith}
 use lib.ListN.{length, take, drop, length-take, length-drop, getD}
 use lib.Seq.{length-take-le}
 use lib.Dec.{ltb, eqb, leb}
-use borrow.Author.Tests.{lt-ltb, eqb-false, ltb-true, leb-true, eqb-true, not-true}
-use Rattle.model.specs.Row.{mayStand}
+use borrow.Author.Tests.{lt-ltb, eqb-false, ltb-true, leb-true, eqb-true, not-true, eq-eqb, ne-eqb}
+use Rattle.model.specs.Row.{mayStand, nil}
 use Rattle.theory_decoding.specs.Valid.{both as and-both}
 use Rattle.model.specs.Limits.{mostPages, pageSize, capacity, mostLevels}
-use Rattle.theory_check.specs.Rec.{run, under, steps, unfold'}
+use Rattle.theory_check.specs.Rec.{under, unfold', keeps}
 use Rattle.model.specs.Reading.{sizeAt, usedAt, stateAt, settledAt, headAt, nameAt, backAt, kindAt}
 use Rattle.theory_check.specs.Tests.{wholeSize, passingKind, namesOf, rootFits, isMarked, shapeOf}
-use Rattle.theory_check.specs.Walk.{State, withMark, entersOf, Decoded, Job, node, list, measure, stop, none, recordOf, asAgg, asRec, step, proxyStep, nodeStep, moreStep, listStep, decode, nodeOf, listOf, proxyOf}
+use Rattle.theory_check.specs.Walk.{State, withMark, entersOf, Decoded, Job, node, list, measure, stop, none, recordOf, asAgg, asRec, step, proxyStep}
+use Rattle.theory_check.specs.Walk.{nodeStep, moreStep, listStep, decode, nodeOf, listOf, proxyOf, before}
 use Rattle.theory_check.specs.Facts.{both, arms, not-else}
 
 -- What entering page p from the record of `page` shows.
@@ -146,18 +147,9 @@ module _ (img : List ℕ) (f : Job → Decoded) (h : Less f) where
   less-step (list s page holder level w) = less-list s page holder level w
 
 module _ (img : List ℕ) where
-  less-under : (m : ℕ) (f : Job → Decoded) → Less f → Less (under measure none (step img) m f)
-  unfolding under
-  less-under m f h j = both (λ (d : Decoded). d .walk .left ≤ from j .left) (ltb (measure j) m) (h j) (less-none j)
-
-  less-steps : (n : ℕ) → Less (steps measure none (step img) n)
-  unfolding steps
-  less-steps zero j = less-none j
-  less-steps (suc n) j = less-step img (under measure none (step img) (measure j) (steps measure none (step img) n)) (less-under (measure j) (steps measure none (step img) n) (less-steps n)) j
-
   pub less : Less (decode img)
-  unfolding decode run
-  less j = less-steps (suc (measure j)) j
+  unfolding decode
+  less = keeps measure none (step img) (λ (j : Job) (d : Decoded). d .walk .left ≤ from j .left) less-none (less-step img)
 
   -- a call below the measure is answered by `decode`
   abbrev U : ℕ → Job → Decoded
@@ -223,3 +215,14 @@ module _ (img : List ℕ) where
     -- what a list is
     pub list-eq : listOf img s page holder level w ≡ listStep img (decode img) s page holder level w
     list-eq = eq (list s page holder level w) ∙ list-go
+
+    pub list-none : length s ≡ 0 → listOf img s page holder level w ≡ record { row = nil; walk = w }
+    unfolding listStep
+    list-none e = list-eq ∙ simp (eq-eqb _ _ e)
+
+    -- its first node, and the list after it
+    pub list-more : (length s ≡ 0 → ⊥) → (w .left ≡ 0 → ⊥) → (wholeSize s ≡ 0 → ⊥)
+        → let a = nodeOf img (take (wholeSize s) s) page holder level w in
+        listOf img s page holder level w ≡ before a (listOf img (drop (wholeSize s) s) page holder level (a .walk))
+    unfolding listStep moreStep
+    list-more e f n = list-eq ∙ simp (ne-eqb _ _ e, ne-eqb _ _ f, ne-eqb _ _ n)

@@ -13,9 +13,11 @@ use Rattle.model.specs.Row.{nil}
 use Rattle.theory_check.specs.Tests.{wholeSize}
 use Rattle.theory_check.specs.Walk.{State, state, node, Decoded, listOf, proxyOf}
 use Rattle.theory_check.specs.Facts.{rest-is, passes, fails}
-use Rattle.theory_check.specs.Steps.{less, length-part}
+use Rattle.theory_check.specs.Steps.{less, length-part, list-none}
 use Rattle.read_nodes.specs.Leaves.{sized, aggregate-head}
-use Rattle.read_check.proofs.Walks.{goes, headed, node-inside, list-none, list-bad, list-stop, On, Counted, on-end, counted-end, turn, turn-count, turn-childless, turn-literal, node-3-bad, node-3, node-4, node-deep, node-2, node-none, came-at, wide-at, came-stop, came-literal, proxy-no, proxy-done, node-small, count-small}
+use Rattle.read_check.proofs.Walks.{goes, headed, node-inside, list-bad, list-stop, On, Counted, on-end, counted-end, turn, turn-count, turn-childless}
+use Rattle.read_check.proofs.Walks.{turn-literal, node-3-bad, node-3, node-4, node-deep, node-2, node-none, came-at, wide-at, came-stop, came-literal}
+use Rattle.read_check.proofs.Walks.{proxy-no, proxy-done, node-small, count-small}
 use Rattle.read_check.proofs.Chains.{Chain, chain}
 use Rattle.read_check.proofs.helper_check.Reads as helper-check
 use Rattle.read_check.proofs.helper_check.Kinds as helper-check-kinds
