@@ -61,7 +61,8 @@ list-only img s page holder level w e = go (eqb (w .left) 0) refl
         let all : listOf img s page holder level w ≡ before (asAgg (headAt s 0) d) (record { row = nil; walk = d .walk }) =
         list-more img s page holder level w (λ z. omega (arith, f .0)) (eqb-false _ _ q) (λ z. omega (arith, f .0, n))
         ∙ ap (λ (x : Decoded). before x (listOf img (drop (wholeSize s) s) page holder level (x .walk))) one
-        ∙ ap (before (asAgg (headAt s 0) d)) (list-none img (drop (wholeSize s) s) page holder level (d .walk) (omega (arith, length-drop (wholeSize s) s, n))) in
+        ∙ ap (before (asAgg (headAt s 0) d))
+        (list-none img (drop (wholeSize s) s) page holder level (d .walk) (omega (arith, length-drop (wholeSize s) s, n))) in
         alike-trans (alike-same all) (record { walk = refl; table = λ c. refl })
 
 module _ (img s : List ℕ) (page level : ℕ) (w : State) where
@@ -72,7 +73,8 @@ module _ (img s : List ℕ) (page level : ℕ) (w : State) where
       let b : level + d + 1 ≡ level + suc d = omega arith in
       let x = drop (6 * d + 6) s in
       let g : listOf img (drop 6 x) page 1 (level + d + 1) w ≡ listOf img (drop (6 * suc d + 6) s) page 1 (level + suc d) w = cc (drop-drop 6 (6 * d + 6) s) in
-      alike-trans (each-walk d (λ i k. h i (omega arith))) (alike-trans (list-only img x page 1 (level + d) w (alone s level d (h d (omega arith)))) (alike-same g))
+      alike-trans (each-walk d (λ i k. h i (omega arith)))
+      (alike-trans (list-only img x page 1 (level + d) w (alone s level d (h d (omega arith)))) (alike-same g))
 
 -- what `only` gives of an aggregate that stands: where it ends, and that the walk can go on from there
 pub record Chain (img s : List ℕ) (page holder level d : ℕ) (w : State) : Type 0 where
@@ -81,7 +83,8 @@ pub record Chain (img s : List ℕ) (page holder level d : ℕ) (w : State) : Ty
   pub same : (r : ℕ) (m old new : List ℕ) → Came (listOf img (take (length s - (6 * d + 6)) (drop (6 * d + 6) s)) page 1 (level + 1 + d) w) r m old new
       → Came (nodeOf img s page holder level w) r m old new × (1 ≡ width (nodeOf img s page holder level w .row))
 
-pub chain : (img s : List ℕ) (page holder level d : ℕ) (w : State) → aggregateOf s (length s) holder level ≡ true → Only s (level + 1) d → Chain img s page holder level d w
+pub chain : (img s : List ℕ) (page holder level d : ℕ) (w : State) → aggregateOf s (length s) holder level ≡ true → Only s (level + 1) d
+    → Chain img s page holder level d w
 unfolding widthsAfter
 chain img s page holder level d w e o =
     let f = aggregate-head s holder level e in

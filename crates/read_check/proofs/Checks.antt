@@ -34,7 +34,8 @@ module _ (img : List ℕ) (n used : ℕ) (p : used ≡ usedAt img pageSize) (r :
   came : Came (walkOf img n) r m old new
   unfolding walkOf
   came =
-      let k : take (pageSize + used - pageSize) (drop pageSize img) ≡ take (usedAt img pageSize) (drop pageSize img) = ap (λ (i : ℕ). take i (drop pageSize img)) (add-sub-cancel-left pageSize used ∙ p) in
+      let k : take (pageSize + used - pageSize) (drop pageSize img) ≡ take (usedAt img pageSize) (drop pageSize img) = ap
+      (λ (i : ℕ). take i (drop pageSize img)) (add-sub-cancel-left pageSize used ∙ p) in
       came-at (ap (λ (x : List ℕ). nodeOf img x 1 0 1 (state n (replicate 128 0))) (sym k)) c
 
   pub walked : getD img pageSize 0 ≡ 1 → eqb r 1 ≡ walkOk img n

@@ -15,13 +15,12 @@ ghost use mathlib.Core.Path.{_≡_};
 ghost use mathlib.Core.Bool.{true};
 ghost use Prim.Native.Nat.{_+_, _≤_, _<_};
 ghost use lib.ListN.{length};
-ghost use Rattle.model.specs.Tree as tree;
 ghost use Rattle.model.specs.Limits.{mostPages, mostLevels};
 ghost use Rattle.model.specs.Reading.{lengthOk};
 ghost use Rattle.theory_check.specs.Walk.{state, nodeOf, listOf, proxyOf};
 ghost use Rattle.theory_check.specs.Check.{trailersOf, walkOf, walkOk, checkBy};
 ghost use Rattle.theory_check.specs.Widths.{widthsAfter};
-ghost use Rattle.read_check.specs.Came.{Came};
+ghost use Rattle.read_check.specs.Came.{Came, Shown};
 
 // ── the walk ──
 
@@ -42,8 +41,8 @@ fn proxy_check<'a>(
     widths: &mut [u32; Settings::PAGES],
 ) -> Walked
     requires { ⌜ (level ≤ mostLevels + 1) × (left ≤ mostPages) ⌝ }
-    ensures { λ r. ⌜ Came (proxyOf (now (image .entry)) p page level (state left (now (marks .entry)))) (r .left) (now (marks .exit)) (now (widths .entry)) (now (widths .exit))
-        × (r .width ≡ tree.width (proxyOf (now (image .entry)) p page level (state left (now (marks .entry))) .row)) ⌝ }
+    ensures { λ r. ⌜ Shown (proxyOf (now (image .entry)) p page level (state left (now (marks .entry))))
+        r (now (marks .exit)) (now (widths .entry)) (now (widths .exit)) ⌝ }
 {
     if !enters(image, p, page, left, marks) {
         return Walked { left: 0, width: 0 };
@@ -69,8 +68,8 @@ fn node_check<'a>(
     widths: &mut [u32; Settings::PAGES],
 ) -> Walked
     requires { ⌜ (holder < 5) × (level ≤ mostLevels + 1) × (left ≤ mostPages) × (length (now part) < 65536) ⌝ }
-    ensures { λ r. ⌜ Came (nodeOf (now (image .entry)) (now (part .entry)) page holder level (state left (now (marks .entry)))) (r .left) (now (marks .exit)) (now (widths .entry)) (now (widths .exit))
-        × (r .width ≡ tree.width (nodeOf (now (image .entry)) (now (part .entry)) page holder level (state left (now (marks .entry))) .row)) ⌝ }
+    ensures { λ r. ⌜ Shown (nodeOf (now (image .entry)) (now (part .entry)) page holder level (state left (now (marks .entry))))
+        r (now (marks .exit)) (now (widths .entry)) (now (widths .exit)) ⌝ }
 {
     let below = level + 1;
     if aggregate(part, part.len(), holder, level) {
@@ -114,7 +113,8 @@ fn list_check<'a>(
     widths: &mut [u32; Settings::PAGES],
 ) -> usize
     requires { ⌜ (level ≤ mostLevels + 1) × (left ≤ mostPages) × (length (now part) < 65536) ⌝ }
-    ensures { λ r. ⌜ Came (listOf (now (image .entry)) (now (part .entry)) page 1 level (state left (now (marks .entry)))) r (now (marks .exit)) (now (widths .entry)) (now (widths .exit)) ⌝ }
+    ensures { λ r. ⌜ Came (listOf (now (image .entry)) (now (part .entry)) page 1 level (state left (now (marks .entry))))
+        r (now (marks .exit)) (now (widths .entry)) (now (widths .exit)) ⌝ }
 {
     let mut cur = left;
     let mut at = 0;
@@ -153,8 +153,8 @@ fn helper_check<'a>(
     widths: &mut [u32; Settings::PAGES],
 ) -> Walked
     requires { ⌜ (level ≤ mostLevels + 1) × (left ≤ mostPages) × (length (now part) < 65536) ⌝ }
-    ensures { λ r. ⌜ Came (listOf (now (image .entry)) (now (part .entry)) page 4 level (state left (now (marks .entry)))) (r .left) (now (marks .exit)) (now (widths .entry)) (now (widths .exit))
-        × (r .width ≡ tree.width (listOf (now (image .entry)) (now (part .entry)) page 4 level (state left (now (marks .entry))) .row)) ⌝ }
+    ensures { λ r. ⌜ Shown (listOf (now (image .entry)) (now (part .entry)) page 4 level (state left (now (marks .entry))))
+        r (now (marks .exit)) (now (widths .entry)) (now (widths .exit)) ⌝ }
 {
     let mut cur = left;
     let mut n = 0;
@@ -194,7 +194,8 @@ fn helper_check<'a>(
 // Whether the walk from page 1, whose root is an aggregate, reaches every record page one time.
 pub fn walk_ok(image: &[u8], left: usize, widths: &mut [u32; Settings::PAGES]) -> bool
     requires { ⌜ (lengthOk (length (now image)) ≡ true) × (trailersOf (now image) ≡ 0 → ⊥) × (left ≤ mostPages) ⌝ }
-    ensures { λ r. ⌜ (r ≡ walkOk (now (image .entry)) left) × (r ≡ true → now (widths .exit) ≡ widthsAfter (walkOf (now (image .entry)) left .row) (now (widths .entry))) ⌝ }
+    ensures { λ r. ⌜ (r ≡ walkOk (now (image .entry)) left)
+        × (r ≡ true → now (widths .exit) ≡ widthsAfter (walkOf (now (image .entry)) left .row) (now (widths .entry))) ⌝ }
 {
     if image[Settings::PAGE] != 1 {
         return false;
