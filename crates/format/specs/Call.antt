@@ -7,18 +7,19 @@ use native.Mathlib.Omega.{arith}
 use borrow.Author.Tests.{eqb-true}
 use lib.ListN.{length}
 use lib.Dec.{eqb}
-use Rattle.base_ranges.specs.Long.{length-says}
 use Rattle.model.specs.Limits.{pageSize}
 use Rattle.model.specs.Row.{inRange, image}
 use Rattle.model.specs.Reading.{lengthOk}
 use Rattle.model.specs.Calls.{config, formatNumber, formatOf}
 use Rattle.model.specs.declared.Settings.{Settings}
 use Rattle.theory_decoding.specs.Valid.{both}
+use Rattle.base_ranges.specs.Long.{length-says}
 use Rattle.format.specs.First.{firstRoot}
 
 module _ (img : List ℕ) (s : Settings) (m : List ℕ) (label : ℕ) where
   -- The answer and the image of the call, from the call.
-  pub outcome : (number : ℕ) (after : List ℕ) → formatOf img s m label ≡ (number, after) → (number ≡ formatOf img s m label .0) × (after ≡ formatOf img s m label .1)
+  pub outcome : (number : ℕ) (after : List ℕ) → formatOf img s m label ≡ (number, after)
+      → (number ≡ formatOf img s m label .0) × (after ≡ formatOf img s m label .1)
   outcome number after e = (sym (ap (λ (a : ℕ × List ℕ). a .0) e), sym (ap (λ (a : ℕ × List ℕ). a .1) e))
 
   pub refused-1 : lengthOk (length img) ≡ false → formatOf img s m label ≡ (1, img)

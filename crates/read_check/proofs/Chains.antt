@@ -8,19 +8,19 @@ use lib.ListN.{length, take, drop, length-drop}
 use lib.Seq.{drop-drop, take-all}
 use lib.Dec.{eqb}
 use borrow.Author.Tests.{eqb-true, eqb-false}
-use Rattle.theory_check.specs.Steps.{list-none, list-more}
-use Rattle.read_nodes.specs.Inner.{Each, alone, each-fits}
 use Rattle.model.specs.Limits.{mostLevels}
 use Rattle.model.specs.Row.{nil}
 use Rattle.model.specs.Tree.{width}
 use Rattle.model.specs.Reading.{headAt}
+use Rattle.theory_check.specs.Steps.{list-none, list-more}
 use Rattle.theory_check.specs.Tests.{wholeSize}
 use Rattle.theory_check.specs.Walk.{State, Decoded, asAgg, before, nodeOf, listOf}
 use Rattle.theory_check.specs.Widths.{widthsAfter}
 use Rattle.theory_check.specs.Facts.{rest-is}
+use Rattle.read_nodes.specs.Inner.{Each, alone, each-fits}
 use Rattle.read_nodes.specs.Leaf.{aggregateOf, Only}
-use Rattle.read_check.specs.Came.{Came}
 use Rattle.read_nodes.specs.Leaves.{aggregate-head, aggregate-size}
+use Rattle.read_check.specs.Came.{Came}
 use Rattle.read_check.proofs.Walks.{list-bad, node-inner, came-at, came-agg}
 
 -- Two outcomes with the same walk, whose rows leave the same in a table of widths.

@@ -7,11 +7,11 @@ use native.Mathlib.Nat.{add-sub-cancel-left}
 use lib.ListN.{length, take, drop, getD, replicate}
 use lib.Dec.{eqb}
 use borrow.Author.Tests.{eq-eqb, eqb-true}
-use Rattle.theory_check.specs.Trailers.{recorded}
-use Rattle.theory_check.specs.Parts.{page-two}
-use Rattle.theory_decoding.specs.Valid.{both as and-both}
 use Rattle.model.specs.Limits.{pageSize, capacity}
 use Rattle.model.specs.Reading.{pageOf, usedAt}
+use Rattle.theory_decoding.specs.Valid.{both as and-both}
+use Rattle.theory_check.specs.Trailers.{recorded}
+use Rattle.theory_check.specs.Parts.{page-two}
 use Rattle.theory_check.specs.Tests.{stateOf, settingsOk, firstOk}
 use Rattle.theory_check.specs.Walk.{State, state, nodeOf}
 use Rattle.theory_check.specs.Check.{trailersOf, walkOf, walkOk}
@@ -34,8 +34,8 @@ module _ (img : List ℕ) (n used : ℕ) (p : used ≡ usedAt img pageSize) (r :
   came : Came (walkOf img n) r m old new
   unfolding walkOf
   came =
-      let k : take (pageSize + used - pageSize) (drop pageSize img) ≡ take (usedAt img pageSize) (drop pageSize img) = ap
-      (λ (i : ℕ). take i (drop pageSize img)) (add-sub-cancel-left pageSize used ∙ p) in
+      let k : take (pageSize + used - pageSize) (drop pageSize img) ≡ take (usedAt img pageSize) (drop pageSize img) =
+      ap (λ (i : ℕ). take i (drop pageSize img)) (add-sub-cancel-left pageSize used ∙ p) in
       came-at (ap (λ (x : List ℕ). nodeOf img x 1 0 1 (state n (replicate 128 0))) (sym k)) c
 
   pub walked : getD img pageSize 0 ≡ 1 → eqb r 1 ≡ walkOk img n

@@ -203,7 +203,16 @@ pub fn walk_ok(image: &[u8], left: usize, widths: &mut [u32; Settings::PAGES]) -
     let used = used_at(image, Settings::PAGE);
     let e = Settings::PAGE + used;
     let mut marks = [0u8; 128];
-    let r = node_check(image, &image[Settings::PAGE..e], 1, 0, 1, left, &mut marks, widths);
+    let r = node_check(
+        image,
+        &image[Settings::PAGE..e],
+        1,
+        0,
+        1,
+        left,
+        &mut marks,
+        widths,
+    );
     r.left == 1
 }
 

@@ -8,11 +8,11 @@ use lib.ListN.{length, take, getD}
 use lib.Seq.{length-take-le, getD-take}
 use lib.Dec.{eqb}
 use borrow.Author.Tests.{eq-eqb, le-leb, eqb-true, eqb-false, leb-true, ne-eqb}
-use Rattle.theory_check.specs.Steps.{passing, size-long}
-use Rattle.theory_decoding.specs.Valid.{both as and-both}
 use Rattle.model.specs.Limits.{mostNode, mostLevels}
 use Rattle.model.specs.Row.{mayStand}
 use Rattle.model.specs.Reading.{twoAt, sizeAt}
+use Rattle.theory_decoding.specs.Valid.{both as and-both}
+use Rattle.theory_check.specs.Steps.{passing, size-long}
 use Rattle.theory_check.specs.Tests.{wholeSize, passingKind, shapeOf}
 use Rattle.theory_check.specs.Facts.{no}
 use Rattle.read_nodes.specs.Leaf.{standsOf, aggregateOf, literalOf}
@@ -75,7 +75,8 @@ module _ (s : List ℕ) (holder level : ℕ) where
           let z = eqb-false kind 0 q in
           let h = passing s holder kind (sym e) z in
           let one : kind ≡ 1 = omega (arith, h .small) in
-          let stands : Stands s 1 holder level = record { first = h .first ∙ one; second = h .second; low = low; may = ap (mayStand holder) (sym one) ∙ h .may } in
+          let may = ap (mayStand holder) (sym one) ∙ h .may in
+          let stands : Stands s 1 holder level = record { first = h .first ∙ one; second = h .second; low = low; may = may } in
           no (sym none ∙ agg-is (h .long) (h .size) stands)
 
 -- the first n bytes, where the node has n
@@ -87,15 +88,18 @@ module _ (s : List ℕ) (n : ℕ) (long : 6 ≤ n) where
       let b : 5 < n = omega arith in
       rw (getD-take n s 4 0 a, getD-take n s 5 0 b)
 
-  head-in : (kind holder level : ℕ) → n ≤ length s → sizeAt s 0 ≡ n → kind ≤ 4 → shapeOf (take n s) kind ≡ true → Stands s kind holder level → kind ≡ passingKind (take n s) holder
+  head-in : (kind holder level : ℕ) → n ≤ length s → sizeAt s 0 ≡ n → kind ≤ 4 → shapeOf (take n s) kind ≡ true → Stands s kind holder level
+      → kind ≡ passingKind (take n s) holder
   head-in kind holder level inside size small shape h =
       let l = length-take-le n s inside in
       let first = getD-take n s 0 0 (omega arith) in
       let second = getD-take n s 1 0 (omega arith) in
-      head-of (take n s) holder level kind (omega arith) (two-in ∙ size ∙ sym l) small shape (record { first = first ∙ h .first; second = second ∙ h .second; low = h .low; may = h .may })
+      head-of (take n s) holder level kind (omega arith) (two-in ∙ size ∙ sym l) small shape
+      (record { first = first ∙ h .first; second = second ∙ h .second; low = h .low; may = h .may })
 
 -- the bytes are an aggregate that stands
-pub aggregate-head : (s : List ℕ) (holder level : ℕ) → aggregateOf s (length s) holder level ≡ true → (6 ≤ length s) × (1 ≡ passingKind s holder) × (level ≤ mostLevels)
+pub aggregate-head : (s : List ℕ) (holder level : ℕ) → aggregateOf s (length s) holder level ≡ true
+    → (6 ≤ length s) × (1 ≡ passingKind s holder) × (level ≤ mostLevels)
 aggregate-head s holder level e =
     let f = agg-says s holder level (length s) e in
     (f .0, head-of s holder level 1 (f .0) (f .1) (omega arith) (shape-1 s holder level) (f .2), f .2 .low)
@@ -115,7 +119,8 @@ pub sized : (s : List ℕ) (n : ℕ) → n ≡ wholeSize s → (n ≡ 0 → ⊥)
 sized s n e z = rw e (size-long s (ne-eqb _ _ (λ q. z (e ∙ q))))
 
 -- the bytes start with an aggregate that has no child
-pub childless-head : (s : List ℕ) (holder level : ℕ) → aggregateOf s 6 holder level ≡ true → (6 ≡ wholeSize s) × (1 ≡ passingKind (take 6 s) holder) × (level ≤ mostLevels)
+pub childless-head : (s : List ℕ) (holder level : ℕ) → aggregateOf s 6 holder level ≡ true
+    → (6 ≡ wholeSize s) × (1 ≡ passingKind (take 6 s) holder) × (level ≤ mostLevels)
 childless-head s holder level e =
     let f = agg-says s holder level 6 e in
     let six : 6 ≤ 6 = omega arith in

@@ -34,11 +34,15 @@ module _ (img : List ℕ) (pages p n : ℕ) where
 
     pub scan-record : (k ≡ 0 → ⊥) → k ≡ 2 → Now (scanFrom img (pages - (p + 1)) (p + 1) (n + 1))
     unfolding scanFrom
-    scan-record z e = rw (left, ne-eqb (stateOf (pageOf img p)) 0 (λ q. z (sym at-page ∙ q)), eq-eqb (stateOf (pageOf img p)) 2 (at-page ∙ e)) (ap (λ (q : ℕ). scanFrom img (pages - (p + 1)) q (n + 1)) (sym (add-one p)))
+    scan-record z e =
+        rw (left, ne-eqb (stateOf (pageOf img p)) 0 (λ q. z (sym at-page ∙ q)), eq-eqb (stateOf (pageOf img p)) 2 (at-page ∙ e))
+        (ap (λ (q : ℕ). scanFrom img (pages - (p + 1)) q (n + 1)) (sym (add-one p)))
 
     pub scan-free : (k ≡ 0 → ⊥) → (k ≡ 2 → ⊥) → Now (scanFrom img (pages - (p + 1)) (p + 1) n)
     unfolding scanFrom
-    scan-free z e = rw (left, ne-eqb (stateOf (pageOf img p)) 0 (λ q. z (sym at-page ∙ q)), ne-eqb (stateOf (pageOf img p)) 2 (λ q. e (sym at-page ∙ q))) (ap (λ (q : ℕ). scanFrom img (pages - (p + 1)) q n) (sym (add-one p)))
+    scan-free z e =
+        rw (left, ne-eqb (stateOf (pageOf img p)) 0 (λ q. z (sym at-page ∙ q)), ne-eqb (stateOf (pageOf img p)) 2 (λ q. e (sym at-page ∙ q)))
+        (ap (λ (q : ℕ). scanFrom img (pages - (p + 1)) q n) (sym (add-one p)))
 
 pub page-long : (img : List ℕ) (a : ℕ) → a + pageSize ≤ length img → length (take (a + pageSize - a) (drop a img)) ≡ pageSize
 page-long img a h = length-take-le (a + pageSize - a) (drop a img) (omega (arith, length-drop a img)) ∙ add-sub-cancel-left a pageSize

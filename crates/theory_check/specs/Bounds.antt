@@ -15,7 +15,8 @@ use Rattle.theory_rows.specs.Laws.{width-⊹, cond-case}
 use Rattle.theory_decoding.specs.Valid as valid
 use Rattle.theory_check.specs.Rec.{keeps}
 use Rattle.theory_check.specs.Tests.{wholeSize, passingKind, stateOf, settingsOk, firstOk}
-use Rattle.theory_check.specs.Walk.{State, withMark, entersOf, Decoded, Job, node, list, measure, stop, none, recordOf, step, proxyStep, nodeStep, moreStep, listStep, decode}
+use Rattle.theory_check.specs.Walk.{State, withMark, entersOf, Decoded, Job, node, list, measure, stop, none, recordOf, step, proxyStep, nodeStep}
+use Rattle.theory_check.specs.Walk.{moreStep, listStep, decode}
 use Rattle.theory_check.specs.Facts.{both}
 use Rattle.theory_check.specs.Steps.{from, head-long, size-long, entered, length-part}
 use Rattle.theory_check.specs.Check.{scanFrom, trailersOf}
@@ -64,7 +65,8 @@ module _ (img : List ℕ) (f : Job → Decoded) (h : Wide f) where
       (both P (eqb kind 2) (omega (arith, head-long s holder z))
       (omega (arith, h (list (drop 6 s) page 1 (level + 1) w), length-drop 6 s, head-long s holder z))))))
 
-  wide-more : (s : List ℕ) (page holder level : ℕ) (w : State) → wholeSize s ≤ length s → Within (length s) w (moreStep img f s page holder level w (wholeSize s))
+  wide-more : (s : List ℕ) (page holder level : ℕ) (w : State) → wholeSize s ≤ length s
+      → Within (length s) w (moreStep img f s page holder level w (wholeSize s))
   unfolding moreStep
   wide-more s page holder level w l =
       let n = wholeSize s in

@@ -70,7 +70,8 @@ module _ (st : Config) (root : Row) (v : Valid st root) where
       let fit = v .rows .0 in
       rw (record-of img 1 first fit (stored .0)) (
       record-node img 1 1 (state (suc (recordCount root)) m) (omega arith) true root (done root 1 m) fit root-stands
-      (λ x y. walked img (st .pages) (v .ranges .many) (length-image st root v) root 1 x 1 (suc (recordCount root)) 1 m (v .rows .1) (omega (arith, fit .fits)) y (stored .1)
+      (λ x y. walked img (st .pages) (v .ranges .many) (length-image st root v) root 1 x 1 (suc (recordCount root)) 1 m (v .rows .1)
+      (omega (arith, fit .fits)) y (stored .1)
       (omega arith) (omega (arith, v .levels)) u (omega arith) (omega arith))
       )
 

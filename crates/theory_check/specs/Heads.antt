@@ -5,10 +5,10 @@ use Prim.Native.Nat.{ℕ, zero, suc, _+_, _*_, _/_, _%_, _≤_, _<_}
 use native.Mathlib.Omega.{arith}
 use lib.ListN.{length, take, drop, getD}
 use lib.Seq.{getD-drop}
-use Rattle.theory_check.specs.Steps.{Passing}
 use Rattle.model.specs.Row.{two, header}
 use Rattle.model.specs.Reading.{twoAt, headAt}
 use Rattle.theory_rows.specs.Fits.{IsByte}
+use Rattle.theory_check.specs.Steps.{Passing}
 
 -- ── bytes ──
 

@@ -72,8 +72,9 @@ module _ (img : List ℕ) (page level : ℕ) (w : State) where
         → nodeOf img (whole 2 l n inside) page holder level w ≡ record { row = lit l inside nil; walk = w }
     unfolding nodeStep shapeOf twoAt
     lit-node holder f m g c =
+        let short = le-leb (length (whole 2 l n inside)) mostNode (omega arith) in
         node-eq img (whole 2 l n inside) page holder level w
-        ∙ rw (head-node 2 l n inside e h holder (omega arith) m (le-leb (length (whole 2 l n inside)) mostNode (omega arith)), le-ltb mostLevels level g, two-bytes (l .label) (f .label))
+        ∙ rw (head-node 2 l n inside e h holder (omega arith) m short, le-ltb mostLevels level g, two-bytes (l .label) (f .label))
 
     helper-node : twoChildren inside ≡ true → nodeOf img (whole 4 noHead n inside) page 0 level w ≡ listOf img inside page 4 level w
     unfolding nodeStep shapeOf twoAt mayStand standing
@@ -151,7 +152,8 @@ module _ (img : List ℕ) (page level : ℕ) (w : State) (left : 1 ≤ w .left) 
       small : size r ≤ capacity
       small = omega (arith, f .fits)
 
-      go : (b : Bool) → lone r ≡ b → cond b (byTable 0 r) (byTable 4 r) ≡ true → nodeOf img (cond b (bytes r) (header 4 noHead (6 + size r) ++ bytes r)) page 0 level w ≡ d
+      go : (b : Bool) → lone r ≡ b → cond b (byTable 0 r) (byTable 4 r) ≡ true
+          → nodeOf img (cond b (bytes r) (header 4 noHead (6 + size r) ++ bytes r)) page 0 level w ≡ d
       go true e t =
           let a = lone-tail r e in
           let b = first r small (a .1) in

@@ -51,7 +51,8 @@ module _ (st : Config) (ok : inRange st ≡ true) (z : List ℕ) (many : length 
       let pages = two-bytes (st .pages) (omega (arith, r .many)) in
       let tolerance = two-bytes (st .tolerance) (omega (arith, r .tol)) in
       let form = two-bytes (st .form) (omega (arith, r .form)) in
-      let matrix : take matrixEntries (st .matrix ++ z ++ last) ≡ st .matrix = rw (append-assoc (st .matrix) z last) (take-at (st .matrix) (z ++ last) matrixEntries (r .entries)) in
+      let matrix : take matrixEntries (st .matrix ++ z ++ last) ≡ st .matrix =
+      rw (append-assoc (st .matrix) z last) (take-at (st .matrix) (z ++ last) matrixEntries (r .entries)) in
       λ i. record { pages = pages i; target = st .target; tolerance = tolerance i; form = form i; matrix = matrix i }
 
   settings-with : settingsOk (front ++ last) (st .pages) ≡ true
@@ -67,7 +68,8 @@ module _ (st : Config) (ok : inRange st ≡ true) (z : List ℕ) (many : length 
       rw (range, pages, eq-eqb (st .pages) (st .pages) refl, zeros 8, rest, none, at 0, at 1, at 2, at 3, drop-past front last capacity 4 long, zeros 12)
 
 pub settings-ok : (st : Config) → inRange st ≡ true → settingsOk (settingsPage st) (st .pages) ≡ true
-settings-ok st ok = settings-with st ok (replicate (capacity - settingsSize) 0) (length-replicate {A = ℕ} (capacity - settingsSize) 0) (zeros (capacity - settingsSize))
+settings-ok st ok =
+    settings-with st ok (replicate (capacity - settingsSize) 0) (length-replicate {A = ℕ} (capacity - settingsSize) 0) (zeros (capacity - settingsSize))
 
 -- ── a free page ──
 

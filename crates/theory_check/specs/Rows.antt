@@ -8,7 +8,6 @@ use lib.ListN.{length, drop, getD, length-drop, take-append-drop}
 use lib.Seq.{length-take-le, getD-take, getD-drop}
 use lib.Dec.{eqb}
 use borrow.Author.Tests.{eqb-true, eqb-false, ltb-true, leb-true, not-true}
-use Rattle.theory_decoding.specs.Valid.{both as and-both}
 use Rattle.model.specs.Limits.{pageSize, capacity, mostContent, mostNode, mostLevels}
 use Rattle.model.specs.Row.{Row, nil, agg, lit, rec, _⊹_, size, isNil, nodeCount, lone, two, header, bytes, recordBytes, standing, mayStand, isAgg, height}
 use Rattle.model.specs.Row.{noHead}
@@ -18,6 +17,7 @@ use Rattle.theory_rows.specs.Fits.{Fits, Shape, one, more, RecordFits}
 use Rattle.theory_rows.specs.Laws.{length-bytes, bytes-⊹}
 use Rattle.theory_rows.specs.Bound.{Fits-⊹}
 use Rattle.theory_rows.specs.Image.{length-record}
+use Rattle.theory_decoding.specs.Valid.{both as and-both}
 use Rattle.theory_check.specs.Facts.{no}
 use Rattle.theory_check.specs.Tests.{wholeSize, shapeOf, twoChildren, rootFits}
 use Rattle.theory_check.specs.Walk.{State, Job, node, list, recordOf}

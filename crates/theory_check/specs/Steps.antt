@@ -10,10 +10,10 @@ use lib.Seq.{length-take-le}
 use lib.Dec.{ltb, eqb, leb}
 use borrow.Author.Tests.{lt-ltb, eqb-false, ltb-true, leb-true, eqb-true, not-true, eq-eqb, ne-eqb}
 use Rattle.model.specs.Row.{mayStand, nil}
-use Rattle.theory_decoding.specs.Valid.{both as and-both}
 use Rattle.model.specs.Limits.{mostPages, pageSize, capacity, mostLevels}
-use Rattle.theory_check.specs.Rec.{under, unfold', keeps}
 use Rattle.model.specs.Reading.{sizeAt, usedAt, stateAt, settledAt, headAt, nameAt, backAt, kindAt}
+use Rattle.theory_decoding.specs.Valid.{both as and-both}
+use Rattle.theory_check.specs.Rec.{under, unfold', keeps}
 use Rattle.theory_check.specs.Tests.{wholeSize, passingKind, namesOf, rootFits, isMarked, shapeOf}
 use Rattle.theory_check.specs.Walk.{State, withMark, entersOf, Decoded, Job, node, list, measure, stop, none, recordOf, asAgg, asRec, step, proxyStep}
 use Rattle.theory_check.specs.Walk.{nodeStep, moreStep, listStep, decode, nodeOf, listOf, proxyOf, before}
@@ -134,7 +134,9 @@ module _ (img : List ℕ) (f : Job → Decoded) (h : Less f) where
 
   less-more : (s : List ℕ) (page holder level : ℕ) (w : State) (n : ℕ) → Kept w (moreStep img f s page holder level w n)
   unfolding moreStep
-  less-more s page holder level w n = le-trans (h (list (drop n s) page holder level (f (node (take n s) page holder level w) .walk))) (h (node (take n s) page holder level w))
+  less-more s page holder level w n =
+      let first = node (take n s) page holder level w in
+      le-trans (h (list (drop n s) page holder level (f first .walk))) (h first)
 
   less-list : (s : List ℕ) (page holder level : ℕ) (w : State) → Kept w (listStep img f s page holder level w)
   unfolding listStep
@@ -166,7 +168,8 @@ module _ (img : List ℕ) where
   pub length-part : (a n : ℕ) → length (take n (drop a img)) ≤ n
   length-part a n = simp length-take (omega arith)
 
-  proxy-falls : (m p page level : ℕ) (w : State) → 16384 * w .left ≤ m → entersOf img p page w ≡ true → measure (node (recordOf img p) p 0 level (withMark w p)) < m
+  proxy-falls : (m p page level : ℕ) (w : State) → 16384 * w .left ≤ m → entersOf img p page w ≡ true
+      → measure (node (recordOf img p) p 0 level (withMark w p)) < m
   proxy-falls m p page level w h e =
       let f = entered img p page w e in
       omega (arith, f .room, f .used, length-part (pageSize * p) (usedAt img (pageSize * p)))
@@ -174,7 +177,9 @@ module _ (img : List ℕ) where
   proxy-eq : (m p page level : ℕ) (w : State) → 16384 * w .left ≤ m → proxyStep img (U m) p page level w ≡ proxyOf img p page level w
   unfolding proxyStep
   proxy-eq m p page level w h =
-      arms (entersOf img p page w) (λ e. ap (asRec p (eqb (settledAt img (pageSize * p)) 1)) (below m (node (recordOf img p) p 0 level (withMark w p)) (proxy-falls m p page level w h e))) (λ _. refl)
+      arms (entersOf img p page w)
+      (λ e. ap (asRec p (eqb (settledAt img (pageSize * p)) 1)) (below m (node (recordOf img p) p 0 level (withMark w p)) (proxy-falls m p page level w h e)))
+      (λ _. refl)
 
   module _ (s : List ℕ) (page holder level : ℕ) (w : State) where
     abbrev m : ℕ
@@ -190,7 +195,8 @@ module _ (img : List ℕ) where
         arms (eqb (passingKind s holder) 3) (λ _. arms (eqb (length s) 8) (λ _. proxy-eq m (nameAt s 0) page level w (omega arith)) (λ _. refl)) (λ _.
         arms (eqb (passingKind s holder) 4) (λ _. below m (list (drop 6 s) page 4 level w) (tail 4 level (head-long s holder z))) (λ _.
         arms (ltb mostLevels level) (λ _. refl) (λ _.
-        arms (eqb (passingKind s holder) 2) (λ _. refl) (λ _. ap (asAgg (headAt s 0)) (below m (list (drop 6 s) page 1 (level + 1) w) (tail 1 (level + 1) (head-long s holder z))))))))
+        arms (eqb (passingKind s holder) 2) (λ _. refl)
+        (λ _. ap (asAgg (headAt s 0)) (below m (list (drop 6 s) page 1 (level + 1) w) (tail 1 (level + 1) (head-long s holder z))))))))
 
     -- what a node is
     pub node-eq : nodeOf img s page holder level w ≡ nodeStep img (decode img) s page holder level w (passingKind s holder)
@@ -199,14 +205,16 @@ module _ (img : List ℕ) where
     abbrev k : ℕ
     k = measure (list s page holder level w)
 
-    more-go : eqb (wholeSize s) 0 ≡ false → moreStep img (U k) s page holder level w (wholeSize s) ≡ moreStep img (decode img) s page holder level w (wholeSize s)
+    more-go : eqb (wholeSize s) 0 ≡ false
+        → moreStep img (U k) s page holder level w (wholeSize s) ≡ moreStep img (decode img) s page holder level w (wholeSize s)
     unfolding moreStep
     more-go z =
+        let n = wholeSize s in
         let h = size-long s z in
-        let a : measure (node (take (wholeSize s) s) page holder level w) < k = omega (arith, length-take-le (wholeSize s) s (h .1)) in
-        let l = less (node (take (wholeSize s) s) page holder level w) in
-        let b : measure (list (drop (wholeSize s) s) page holder level (nodeOf img (take (wholeSize s) s) page holder level w .walk)) < k = omega (arith, length-drop (wholeSize s) s) in
-        rw (below k (node (take (wholeSize s) s) page holder level w) a, below k (list (drop (wholeSize s) s) page holder level (nodeOf img (take (wholeSize s) s) page holder level w .walk)) b)
+        let first = node (take n s) page holder level w in
+        let rest = list (drop n s) page holder level (decode img first .walk) in
+        let l = less first in
+        rw (below k first (omega (arith, length-take-le n s (h .1))), below k rest (omega (arith, length-drop n s)))
 
     list-go : listStep img (U k) s page holder level w ≡ listStep img (decode img) s page holder level w
     unfolding listStep

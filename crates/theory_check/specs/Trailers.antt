@@ -8,13 +8,13 @@ use lib.ListN.{length, take, drop, getD, replicate, length-drop, take-append-dro
 use lib.Seq.{length-take-le, take-add, drop-drop, drop-cons}
 use lib.Dec.{eqb}
 use borrow.Author.Tests.{eqb-true, eqb-false, leb-true}
-use Rattle.theory_decoding.specs.Valid.{both as and-both, ranges-say}
 use Rattle.model.specs.Limits.{pageSize, capacity, settingsSize, matrixEntries}
 use Rattle.model.specs.Row.{Row, two, trailer, recordBytes, recordSize, recordPage, settingsPage, recordOn}
 use Rattle.model.specs.Reading.{twoAt, configOn, usedAt, backAt, stateAt, settledAt}
 use Rattle.theory_rows.specs.Fits.{Ranges}
 use Rattle.theory_rows.specs.Laws.{cond-case}
 use Rattle.theory_rows.specs.Image.{length-record}
+use Rattle.theory_decoding.specs.Valid.{both as and-both, ranges-say}
 use Rattle.theory_check.specs.Facts.{both, not-then, not-else}
 use Rattle.theory_check.specs.Tests.{allZero, stateOf, settingsOk, recordState}
 use Rattle.theory_check.specs.Heads.{AllBytes, two-at}
@@ -142,7 +142,8 @@ state-two s long k z = go (eqb (stateOf s) 2) refl
 -- ── the settings page ──
 
 module _ (s : List ℕ) (bytes : AllBytes s) (long : length s ≡ pageSize) where
-  settings-trailer : twoAt s capacity ≡ 2 → usedAt s 0 ≡ settingsSize → allZero (take 12 (drop (capacity + 4) s)) ≡ true → drop capacity s ≡ trailer 2 0 settingsSize 0
+  settings-trailer : twoAt s capacity ≡ 2 → usedAt s 0 ≡ settingsSize → allZero (take 12 (drop (capacity + 4) s)) ≡ true
+      → drop capacity s ≡ trailer 2 0 settingsSize 0
   settings-trailer k u z =
       let a = next-two s capacity bytes (omega arith) ∙ ap (λ (n : ℕ). two n ++ drop (capacity + 2) s) k in
       let b = next-two s (capacity + 2) bytes (omega arith) ∙ ap (λ (n : ℕ). two n ++ drop (capacity + 4) s) u in
@@ -162,10 +163,12 @@ module _ (s : List ℕ) (bytes : AllBytes s) (long : length s ≡ pageSize) wher
       cc
 
   -- the matrix, then zeros up to the trailer
-  settings-rest : allZero (take (capacity - settingsSize) (drop settingsSize s)) ≡ true → drop 16 s ≡ take matrixEntries (drop 16 s) ++ replicate (capacity - settingsSize) 0 ++ drop capacity s
+  settings-rest : allZero (take (capacity - settingsSize) (drop settingsSize s)) ≡ true
+      → drop 16 s ≡ take matrixEntries (drop 16 s) ++ replicate (capacity - settingsSize) 0 ++ drop capacity s
   settings-rest z =
       sym (take-append-drop matrixEntries (drop 16 s))
-      ∙ ap (λ (x : List ℕ). take matrixEntries (drop 16 s) ++ x) (drop-drop matrixEntries 16 s ∙ next-zeros s settingsSize (capacity - settingsSize) (omega arith) z)
+      ∙ ap (λ (x : List ℕ). take matrixEntries (drop 16 s) ++ x)
+      (drop-drop matrixEntries 16 s ∙ next-zeros s settingsSize (capacity - settingsSize) (omega arith) z)
       ∙ sym (append-assoc (take matrixEntries (drop 16 s)) (replicate (capacity - settingsSize) 0) (drop capacity s))
 
 -- Page 0 of an image of n pages.

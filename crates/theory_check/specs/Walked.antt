@@ -5,7 +5,6 @@ use mathlib.Core.List.{List, []}
 use Prim.Native.Nat.{ℕ, _+_, _-_, _*_, _≤_, _<_}
 use native.Mathlib.Omega.{arith}
 use lib.ListN.{length}
-use Rattle.theory_check.specs.Steps.{list-none}
 use Rattle.model.specs.Limits.{mostPages, pageSize, capacity, mostLevels}
 use Rattle.model.specs.Row.{Row, nil, agg, lit, rec, size, lone, two, bytes, Held, mayStand, byTable, height, recordOn, noHead}
 use Rattle.model.specs.Reading.{pageOf}
@@ -14,6 +13,7 @@ use Rattle.theory_rows.specs.Laws.{length-bytes}
 use Rattle.theory_rows.specs.Image.{Stored}
 use Rattle.theory_decoding.specs.Valid.{both, names-own}
 use Rattle.theory_decoding.specs.Steps.{recordCount}
+use Rattle.theory_check.specs.Steps.{list-none}
 use Rattle.theory_check.specs.Tests.{marked}
 use Rattle.theory_check.specs.Walk.{state, Decoded, asAgg, asRec, withMark, listOf}
 use Rattle.theory_check.specs.Nodes.{list-node, agg-node, lit-node, rec-node, record-node}

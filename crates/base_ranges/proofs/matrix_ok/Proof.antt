@@ -1,9 +1,9 @@
 -- `base_ranges::matrix_ok`: the flag, and the entries that are left, say what all the entries say.
-use denote.Ref.{now}
 use mathlib.Core.Path.{refl}
 use mathlib.Core.Logic.{⊎-elim}
 use Prim.Native.Nat.{_≤_, _-_}
 use native.Mathlib.Omega.{arith}
+use denote.Ref.{now}
 use borrow.Author.Tests.{eq-eqb, ne-eqb}
 use lib.ListN.{length}
 use Rattle.model.specs.Row.{isEntry}

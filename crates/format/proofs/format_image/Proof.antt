@@ -30,7 +30,8 @@ same-length c = search needs
 
 returns-3 : tie.Need-returns-3
 returns-3 c =
-    let long = sym (c .before .before .before .before .before .before .before .length-ok .ensures) ∙ not-false _ (c .before .before .before .before .before .before .if1 .left) in
+    let i = c .before .before .before .before .before .before in
+    let long = sym (i .before .length-ok .ensures) ∙ not-false _ (i .if1 .left) in
     let fit = sym (c .before .before .before .before .before .settings-fit .ensures) ∙ not-false _ (c .before .before .before .before .if2 .left) in
     let o = outcome _ _ _ _ _ _ (accepted _ _ _ _ long fit) in
     (o .0, c .before .before .write-first .ensures ∙ o .1)

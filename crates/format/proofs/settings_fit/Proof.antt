@@ -1,6 +1,6 @@
 -- `format::settings_fit`: the page count is tested first.
-use mathlib.Core.Bool.{and-true, and-false}
 use mathlib.Core.Path.{sym, _∙_}
+use mathlib.Core.Bool.{and-true, and-false}
 use borrow.Author.Needs.{needs}
 use borrow.Author.Tests.{eq-eqb, ne-eqb}
 use Rattle.format.proofs.settings_fit.Statement.{statement}

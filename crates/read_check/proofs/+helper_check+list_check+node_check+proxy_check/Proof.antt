@@ -598,8 +598,12 @@ pub +helper-check+list-check+node-check+proxy-check-spec : {M : Type 1} → stat
     let n = c .before .before .before .before .before .before .before .used-at in
     let long = length-part (now (a .image)) (pageSize * a .p) (pageSize * a .p + n .result - pageSize * a .p) in
     let part = take (pageSize * a .p + n .result - pageSize * a .p) (drop (pageSize * a .p) (now (a .image))) in
-    omega (arith, c .before .node-check .ensures .1, node-small (now (a .image)) part (a .p) 0 (a .level) (a .left - 1)
-    (c .before .before .before .before .before .set-mark .last .0) (omega (arith, n .ensures .1, long)) (omega (arith, s .pre .1 .1))))
+    omega (
+      arith,
+      c .before .node-check .ensures .1,
+      node-small (now (a .image)) part (a .p) 0 (a .level) (a .left - 1)
+          (c .before .before .before .before .before .set-mark .last .0) (omega (arith, n .ensures .1, long)) (omega (arith, s .pre .1 .1)),
+    ))
     -- mul-widths
     (λ c.
     let k = c .before .before .before .before .before .before .before .before in

@@ -1,14 +1,14 @@
 use mathlib.Core.Bool.{false≢true}
-use native.Mathlib.Omega.{arith}
 use Prim.Native.Nat.{_+_, _-_}
+use native.Mathlib.Omega.{arith}
 use lib.ListN.{length}
 use denote.Ref.{now}
 use borrow.Author.Needs.{needs}
 use borrow.Author.Tests.{ne-eqb}
 use Rattle.model.specs.Limits.{pageSize}
 use Rattle.theory_check.specs.Check.{walkOk}
-use Rattle.base_ranges.specs.Long.{length-says}
 use Rattle.theory_check.specs.Steps.{length-part}
+use Rattle.base_ranges.specs.Long.{length-says}
 use Rattle.read_check.proofs.Checks.{first-used, walked, walked-table}
 use Rattle.read_check.proofs.walk_ok.Statement.{statement}
 use Rattle.read_check.proofs.walk_ok.Tie as tie

@@ -1,14 +1,14 @@
-use mathlib.Core.Bool.{and-false, true}
-use borrow.Author.Tests.{le-leb, lt-leb, leb-true, ltb-true}
-use borrow.Author.Needs.{needs}
 use mathlib.Core.Path.{_≡_}
+use mathlib.Core.Bool.{and-false, true}
 use mathlib.Core.List.{List}
 use Prim.Native.Nat.{ℕ, _+_, _*_, _≤_, _<_}
+use borrow.Author.Tests.{le-leb, lt-leb, leb-true, ltb-true}
+use borrow.Author.Needs.{needs}
 use lib.ListN.{length}
 use lib.Dec.{leb}
+use Rattle.model.specs.Limits.{mostPages, pageSize}
 use Rattle.theory_decoding.specs.Valid.{both as and-both}
 use Rattle.theory_check.specs.Tests.{namesOf}
-use Rattle.model.specs.Limits.{mostPages, pageSize}
 use Rattle.theory_check.specs.Walk.{entersOf}
 use Rattle.theory_check.specs.Facts.{passes, fails}
 use Rattle.read_marks.proofs.enters.Statement.{statement}
@@ -52,7 +52,8 @@ returns-4 c =
     let p3 = c .before in
     let p2 = p3 .before in
     let p1 = p2 .before .before in
-    simp (← c .is-marked .ensures, passes (p1 .before .names .ensures) (p1 .if1 .left), passes (p2 .before .root-fits .ensures) (p2 .if2 .left), le-leb _ _ (p3 .if3 .left))
+    let named = passes (p1 .before .names .ensures) (p1 .if1 .left) in
+    simp (← c .is-marked .ensures, named, passes (p2 .before .root-fits .ensures) (p2 .if2 .left), le-leb _ _ (p3 .if3 .left))
 
 pub enters-spec : {M : Type 1} → statement M
 enters-spec =

@@ -45,7 +45,7 @@ back-at-requires c κs = search needs
 
 returns-6 : tie.Need-returns-6
 unfolding namesOf
-returns-6 c = 
+returns-6 c =
     let p4 = c .before .before .before in
     let p3 = p4 .before .before in
     rw (

@@ -21,7 +21,7 @@ stands-requires c κs = search needs
 
 returns-3 : tie.Need-returns-3
 unfolding aggregateOf
-returns-3 c = 
+returns-3 c =
     let p2 = c .before in
     rw (le-leb _ _ (p2 .before .before .if1 .left), ← p2 .before .size-at .ensures .0, eq-eqb _ _ (p2 .if2 .left)) (c .stands .ensures)
 

@@ -46,13 +46,13 @@ shaped-requires c κs = search needs
 
 returns-6 : tie.Need-returns-6
 unfolding passingKind
-returns-6 c = 
+returns-6 c =
     let p2 = c .before .before .before .before .before .before .before .before in
     simp (← p2 .before .wide .ensures .0, fails (c .before .shaped .ensures) (c .if6 .taken), and-false)
 
 returns-7 : tie.Need-returns-7
 unfolding passingKind
-returns-7 c = 
+returns-7 c =
     let p5 = c .before .before in
     let p4 = p5 .before .before in
     let p3 = p4 .before .before in

@@ -5,8 +5,8 @@ use native.Mathlib.Omega.{arith}
 use lib.ListN.{length}
 use denote.Ref.{now}
 use borrow.Author.Needs.{needs}
-use Rattle.read_nodes.specs.Leaf.{innerOf}
 use Rattle.theory_check.specs.Facts.{passes, fails}
+use Rattle.read_nodes.specs.Leaf.{innerOf}
 use Rattle.read_nodes.specs.Inner.{Each, inner-is, inner-fits, inner-end, each-more}
 use Rattle.read_nodes.proofs.only.Statement.{statement}
 use Rattle.read_nodes.proofs.only.Tie as tie

@@ -19,7 +19,7 @@ label-at-requires-2 c κs = search needs
 
 returns-2 : tie.Need-returns-2
 unfolding shapeOf
-returns-2 c = 
+returns-2 c =
     let p2 = c .before .before in
     simp (← c .before .label-at2 .ensures .0, ne-eqb _ _ (p2 .before .if1 .left), eq-eqb _ _ (p2 .if2 .taken), ne-eqb _ _ (c .if3 .taken))
 
@@ -37,7 +37,7 @@ two-children-requires c κs = search needs
 
 returns-3 : tie.Need-returns-3
 unfolding shapeOf
-returns-3 c = 
+returns-3 c =
     let p3 = c .before .before in
     let p2 = p3 .before .before in
     let rest = rest-is 6 (now (p2 .before .before .before .args .part)) in

@@ -22,7 +22,7 @@ returns-3 c = simp (← c .before .before .size-at .ensures .0, lt-leb _ _ (c .i
 
 returns-4 : tie.Need-returns-4
 unfolding wholeSize
-returns-4 c = 
+returns-4 c =
     let p2 = c .before in
     simp (le-leb _ _ (p2 .before .before .if1 .left), ← p2 .before .size-at .ensures .0, le-leb _ _ (p2 .if2 .left), le-leb _ _ (c .if3 .left))
 

@@ -31,7 +31,7 @@ may-stand-requires c κs = search needs
 
 returns-4 : tie.Need-returns-4
 unfolding standsOf
-returns-4 c = 
+returns-4 c =
     let p2 = c .before .before in
     let p1 = p2 .before .before in
     rw (← p1 .before .wide .ensures .0, eq-eqb _ _ (p1 .if1 .left), eq-eqb _ _ (p2 .if2 .left), le-leb _ _ (c .before .if3 .left)) (c .may-stand .ensures)

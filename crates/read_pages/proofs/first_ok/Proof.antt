@@ -24,10 +24,11 @@ back-at-requires c κs = search needs
 
 returns-3 : tie.Need-returns-3
 unfolding firstOk
-returns-3 c = 
+returns-3 c =
     let p2 = c .before in
     let p1 = p2 .before .before in
-    rw (← p1 .before .page-state .ensures, eq-eqb _ _ (p1 .if1 .left), ← p2 .before .settled-at .ensures .0, eq-eqb _ _ (p2 .if2 .left), ← c .back-at .ensures .0)
+    let one = p2 .before .settled-at .ensures .0 in
+    rw (← p1 .before .page-state .ensures, eq-eqb _ _ (p1 .if1 .left), ← one, eq-eqb _ _ (p2 .if2 .left), ← c .back-at .ensures .0)
 
 pub first-ok-spec : {M : Type 1} → statement M
 first-ok-spec =

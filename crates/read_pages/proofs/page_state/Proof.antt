@@ -54,7 +54,7 @@ zeros-requires-2 c κs = search needs
 
 returns-6 : tie.Need-returns-6
 unfolding stateOf
-returns-6 c = 
+returns-6 c =
     let p5 = c .before .before .before in
     let p1 = p5 .before .before .before .before .before .before in
     simp (ne-eqb _ _ (p1 .if1 .left), ← p5 .before .used-at .ensures .0, fails (c .before .zeros2 .ensures) (c .if6 .taken), and-false)
@@ -78,7 +78,7 @@ returns-7 c = let p1 = c .before .before .before .before .before .before .before
 
 returns-8 : tie.Need-returns-8
 unfolding stateOf
-returns-8 c = 
+returns-8 c =
     let p6 = c .before .before .before in
     let p5 = p6 .before .before .before in
     let p4 = p5 .before .before in

@@ -37,14 +37,17 @@ part-page-state-end : tie.Need-part-page-state-end Inv-loop μ-loop
 part-page-state-end c = search needs
 
 page-state-requires : tie.Need-page-state-requires Inv-loop μ-loop
-page-state-requires c κs = let s = c .before .before .before .before in let a = s .args in let l = c .before .before .loop in page-long (now (a .image)) (pageSize * l .p) (omega arith)
+page-state-requires c κs =
+    let a = c .before .before .before .before .args in
+    page-long (now (a .image)) (pageSize * c .before .before .loop .p) (omega arith)
 
 returns : tie.Need-returns Inv-loop μ-loop
 returns c =
     let s = c .before .before .before .before .before .before in
     let a = s .args in
     let l = c .before .before .before .before .loop in
-    sym (l .inv .2 ∙ scan-bad (now (a .image)) (a .pages) (l .p) (l .n) (c .before .page-state .result) (c .before .page-state .ensures) (c .before .before .before .loop-test .taken) (c .if1 .taken))
+    let k = c .before .page-state in
+    sym (l .inv .2 ∙ scan-bad (now (a .image)) (a .pages) (l .p) (l .n) (k .result) (k .ensures) (c .before .before .before .loop-test .taken) (c .if1 .taken))
 
 add-n : tie.Need-add-n Inv-loop μ-loop
 add-n c = search needs
@@ -63,16 +66,20 @@ loop-again c =
     let k = c .before .before .page-state in
     let h = c .before .before .before .before .loop-test .taken in
     let on = scanFrom (now (a .image)) (a .pages - (l .p + 1)) (l .p + 1) in
+    let z = c .before .if1 .left in
     ⊎-elim
-    (λ w. (omega arith, omega arith, l .inv .2 ∙ scan-record (now (a .image)) (a .pages) (l .p) (l .n) (k .result) (k .ensures) h (c .before .if1 .left) (w .0 .taken) ∙ ap on (sym (w .1))))
-    (λ w. (omega arith, omega arith, l .inv .2 ∙ scan-free (now (a .image)) (a .pages) (l .p) (l .n) (k .result) (k .ensures) h (c .before .if1 .left) (w .0 .left) ∙ ap on (sym (w .1))))
+    (λ w. (omega arith, omega arith, l .inv .2 ∙ scan-record (now (a .image)) (a .pages) (l .p) (l .n) _ (k .ensures) h z (w .0 .taken) ∙ ap on (sym (w .1))))
+    (λ w. (omega arith, omega arith, l .inv .2 ∙ scan-free (now (a .image)) (a .pages) (l .p) (l .n) _ (k .ensures) h z (w .0 .left) ∙ ap on (sym (w .1))))
     (c .if2 .came)
 
 add-result : tie.Need-add-result Inv-loop μ-loop
 add-result c = search needs
 
 returns-2 : tie.Need-returns-2 Inv-loop μ-loop
-returns-2 c = let a = c .before .before .before .args in let l = c .before .loop in sym (l .inv .2 ∙ scan-end (now (a .image)) (a .pages) (l .p) (l .n) (c .loop-test .left))
+returns-2 c =
+    let a = c .before .before .before .args in
+    let l = c .before .loop in
+    sym (l .inv .2 ∙ scan-end (now (a .image)) (a .pages) (l .p) (l .n) (c .loop-test .left))
 
 pub scan-pages-spec : {M : Type 1} → statement M
 scan-pages-spec =

@@ -29,7 +29,7 @@ in-range-requires c κs = search needs
 
 returns-2 : tie.Need-returns-2
 unfolding settingsOk
-returns-2 c = 
+returns-2 c =
     let range = fails (c .before .in-range .ensures) (c .if2 .taken) in
     simp (rw (c .before .before .before .before .before .numbers-on .ensures) at range, and-false)
 
@@ -100,7 +100,7 @@ zeros-requires-3 c κs = search needs
 
 returns-8 : tie.Need-returns-8
 unfolding settingsOk
-returns-8 c = 
+returns-8 c =
     let p7 = c .before .before in
     let p6 = p7 .before .before in
     let p5 = p6 .before .before in
