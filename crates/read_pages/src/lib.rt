@@ -16,7 +16,7 @@ ghost use Rattle.theory_check.specs.Tests.{allZero, stateOf, settingsOk, firstO
 ghost use Rattle.theory_check.specs.Check.{scanFrom, trailersOf};
 ghost use Rattle.read_pages.specs.Numbers.{settingsOn};
 
-// Where the settings' page has its matrix's end, and a page its back link, and the zeros after that.
+// The bytes used of page 0, to the matrix's end; where a page has its back link, and the zeros after that; where page 1 ends.
 const USED: usize = 16 + Settings::ENTRIES;
 
 const BACK: usize = Settings::CAPACITY + 4;
