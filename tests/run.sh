@@ -3,24 +3,31 @@
 set -euo pipefail
 cd "$(dirname "$0")/.."
 cc=${CC:-cc}
-echo "tests: proving and building the archive (minutes)"
+at() { echo "tests: $1 of 9: $2"; }
+at 1 "the archive (minutes, where the crates are not proved yet)"
 rt staticlib nichelarder >/dev/null
 flags=(-std=c99 -O2 -Wall -Wextra -Werror)
 "$cc" "${flags[@]}" tests/replay.c target/staticlib/libnichelarder.a -o target/replay
 "$cc" "${flags[@]}" tests/deep.c target/staticlib/libnichelarder.a -o target/deep
 "$cc" "${flags[@]}" tests/stack.c target/staticlib/libnichelarder.a -o target/stack -pthread
 "$cc" "${flags[@]}" tests/buffers.c target/staticlib/libnichelarder.a -o target/buffers
-# the header alone, in C and in C++, and the example, whose output is stored
+at 2 "the header alone, in C and in C++, and the example, whose output is stored"
 strict=(-Wall -Wextra -Wpedantic -Wconversion -Wshadow -Werror)
 "$cc" -std=c99 "${strict[@]}" -Wstrict-prototypes -Wmissing-prototypes -c tests/header.c -o target/header.o
 "${CXX:-c++}" -x c++ -std=c++11 "${strict[@]}" -Wold-style-cast -c tests/header.c -o target/header.o
 "$cc" -std=c99 "${strict[@]}" examples/panel.c target/staticlib/libnichelarder.a -o target/panel
 target/panel | diff examples/panel.txt -
-# the stored scripts, and scripts from elsewhere if VECTORS names a folder of them
+at 3 "the stored scripts${VECTORS:+, and those of $VECTORS}"
 target/replay tests/scripts/*.txt ${VECTORS:+"$VECTORS"/base-*.txt}
+at 4 "random inserts"
 REPLAY=target/replay bash tests/random.sh inserts 8000
+at 5 "hostile calls"
 REPLAY=target/replay bash tests/random.sh hostile 20000
+at 6 "the deepest image on a stack of 1 MB"
 (ulimit -s 1024 && target/deep)
+at 7 "the stack of an insert"
 target/stack
+at 8 "buffers that lie in the image, and empty ones"
 target/buffers
+at 9 "the listing program"
 bash tests/listing.sh

@@ -5,8 +5,10 @@ use Prim.Native.Nat.{ℕ, suc, _+_, _-_, _/_, _%_, _<_, _≤_}
 use native.Mathlib.Omega.{arith}
 use native.Mathlib.Nat.{add-zero, zero-add, add-assoc}
 use native.Mathlib.Numerals.{add-one, add-two, add-three}
-use lib.ListN.{length, take, drop, getD, set, replicate, length-append, length-take, length-drop, length-replicate, drop-of-length-le, take-append-drop, replicate-append-replicate}
-use lib.Seq.{take-append-le, drop-append-le, take-append-add, drop-append-add, take-at, drop-at, set-at, drop-cons, take-suc, take-all, length-take-le, drop-drop, sets-eq}
+use lib.ListN.{length, take, drop, getD, set, replicate, length-append, length-take, length-drop, length-replicate, drop-of-length-le, take-append-drop}
+use lib.ListN.{replicate-append-replicate}
+use lib.Seq.{take-append-le, drop-append-le, take-append-add, drop-append-add, take-at, drop-at, set-at, drop-cons, take-suc, take-all, length-take-le}
+use lib.Seq.{drop-drop, sets-eq}
 use Rattle.model.specs.Row.{two}
 
 -- l with the elements from index at replaced by xs
@@ -51,7 +53,8 @@ over-next at k xs ys l q h =
     let a : take at l ++ (xs ++ r) ≡ p ++ r = sym (append-assoc (take at l) xs r) in
     ap (λ (z : List ℕ). take k z ++ (ys ++ drop (k + length ys) z)) a
     ∙ ap (λ (z : List ℕ). z ++ (ys ++ drop (k + length ys) (p ++ r))) (take-at p r k n)
-    ∙ ap (λ (z : List ℕ). p ++ (ys ++ z)) (sym (drop-drop (length ys) k (p ++ r)) ∙ ap (λ (z : List ℕ). drop (length ys) z) (drop-at p r k n) ∙ drop-drop (length ys) (at + length xs) l)
+    ∙ ap (λ (z : List ℕ). p ++ (ys ++ z))
+    (sym (drop-drop (length ys) k (p ++ r)) ∙ ap (λ (z : List ℕ). drop (length ys) z) (drop-at p r k n) ∙ drop-drop (length ys) (at + length xs) l)
     ∙ ap (λ (i : ℕ). p ++ (ys ++ drop i l)) e
     ∙ append-assoc (take at l) xs (ys ++ drop (at + length (xs ++ ys)) l)
     ∙ ap (λ (z : List ℕ). take at l ++ z) (sym (append-assoc xs ys (drop (at + length (xs ++ ys)) l)))
@@ -88,12 +91,15 @@ two-at at v l h k =
     ap (set (set l at (v % 256)) (at + 1)) e ∙ two-sets at (v % 256) (v / 256 % 256) l h
 
 -- four stores
-pub four-sets : (at a b c d : ℕ) (l : List ℕ) → at + 3 < length l → set (set (set (set l at a) (at + 1) b) (at + 2) c) (at + 3) d ≡ over at (a ∷ b ∷ c ∷ d ∷ []) l
+pub four-sets : (at a b c d : ℕ) (l : List ℕ) → at + 3 < length l
+    → set (set (set (set l at a) (at + 1) b) (at + 2) c) (at + 3) d ≡ over at (a ∷ b ∷ c ∷ d ∷ []) l
 unfolding over
-four-sets at a b c d l h = rw (add-one, add-two, add-three) (sets-eq (a ∷ b ∷ c ∷ d ∷ []) l at (omega arith) ∙ append-assoc (take at l) (a ∷ b ∷ c ∷ d ∷ []) (drop (at + 4) l))
+four-sets at a b c d l h =
+    rw (add-one, add-two, add-three) (sets-eq (a ∷ b ∷ c ∷ d ∷ []) l at (omega arith) ∙ append-assoc (take at l) (a ∷ b ∷ c ∷ d ∷ []) (drop (at + 4) l))
 
 -- two writes in a row, of adjacent pieces, are one
-pub over-then : (at k : ℕ) (xs ys l m n : List ℕ) → m ≡ over at xs l → n ≡ over k ys m → k ≡ at + length xs → at + (length xs + length ys) ≤ length l → n ≡ over at (xs ++ ys) l
+pub over-then : (at k : ℕ) (xs ys l m n : List ℕ) → m ≡ over at xs l → n ≡ over k ys m → k ≡ at + length xs → at + (length xs + length ys) ≤ length l
+    → n ≡ over at (xs ++ ys) l
 over-then at k xs ys l m n p q e h = q ∙ ap (λ (z : List ℕ). over k ys z) p ∙ over-next at k xs ys l e h
 
 -- a write in the first part, and one in the second
@@ -125,7 +131,8 @@ over-again a xs ys l e h =
     let t : length (take a l) ≡ a = length-take-le a l (omega arith) in
     let r : List ℕ = drop (a + length xs) l in
     let n : length (take a l ++ xs) ≡ a + length xs = simp length-append (omega arith) in
-    rw (e, take-at (take a l) (xs ++ r) a t) (ap (λ (z : List ℕ). take a l ++ (ys ++ z)) (rw (← append-assoc (take a l) xs r) (drop-at (take a l ++ xs) r (a + length xs) n)))
+    rw (e, take-at (take a l) (xs ++ r) a t)
+    (ap (λ (z : List ℕ). take a l ++ (ys ++ z)) (rw (← append-assoc (take a l) xs r) (drop-at (take a l ++ xs) r (a + length xs) n)))
 
 -- the front that was written
 pub take-over : (n : ℕ) (xs l : List ℕ) → length xs ≡ n → take n (over 0 xs l) ≡ xs
@@ -138,5 +145,6 @@ over-inside a k xs ys l h room =
     let t : length (take a l) ≡ a = length-take-le a l (omega arith) in
     let r : List ℕ = drop (a + length xs) l in
     let n : length (over k ys xs) ≡ length xs = length-over k ys xs h in
-    ap (λ (z : List ℕ). over (a + k) ys z) (over-is a xs l) ∙ over-right (a + k) k ys (take a l) (xs ++ r) (omega arith) ∙ ap (λ (z : List ℕ). take a l ++ z) (over-left k ys xs r h)
+    ap (λ (z : List ℕ). over (a + k) ys z) (over-is a xs l) ∙ over-right (a + k) k ys (take a l) (xs ++ r) (omega arith)
+    ∙ ap (λ (z : List ℕ). take a l ++ z) (over-left k ys xs r h)
     ∙ ap (λ (z : ℕ). take a l ++ (over k ys xs ++ drop (a + z) l)) (sym n) ∙ sym (over-is a (over k ys xs) l)

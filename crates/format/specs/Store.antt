@@ -84,7 +84,7 @@ module _ (st : Config) (l : List ℕ) (r : inRange st ≡ true) (z : l ≡ zeros
   split : l ≡ zeros (pageSize + (pageSize + pageSize * (st .pages - 2)))
   split = z ∙ ap zeros pages-left
 
-  pub room : 8192 ≤ length l
+  pub room : 2 * pageSize ≤ length l
   room = omega (arith, whole z, ranges-say st r .few)
 
   pub page-0 : take pageSize l ≡ zeros pageSize
@@ -101,7 +101,7 @@ module _ (st : Config) (l : List ℕ) (r : inRange st ≡ true) (z : l ≡ zeros
     pub page-1 : take pageSize (drop pageSize (p ++ drop pageSize l)) ≡ zeros pageSize
     page-1 = ap (take pageSize) behind ∙ take-zeros pageSize (pageSize * (st .pages - 2))
 
-    pub room-1 : 8192 ≤ length (p ++ drop pageSize l)
+    pub room-1 : 2 * pageSize ≤ length (p ++ drop pageSize l)
     room-1 = simp (length-append, length-drop) (omega (arith, room))
 
     -- and its second page q.

@@ -1,54 +1,26 @@
-// Formatting: the settings' ranges, the two pages of a store with a root aggregate alone, and the call.
+// Formatting: the two pages of a store with a root aggregate alone, and the call.
 use base_numbers::clear;
 use base_numbers::copy_in;
 use base_numbers::put16;
+use base_ranges::in_range;
+use base_ranges::length_ok;
 use model::Settings;
 ghost use mathlib.Core.Path.{_≡_};
 ghost use mathlib.Core.Bool.{true, _&&_};
-ghost use Prim.Native.Nat.{_*_, _≤_};
+ghost use Prim.Native.Nat.{_*_};
 ghost use lib.ListN.{length};
 ghost use lib.Dec.{eqb};
 ghost use Rattle.model.specs.Row as row;
-ghost use Rattle.model.specs.Limits.{mostPages, pageSize};
-ghost use Rattle.model.specs.Reading.{lengthOk};
+ghost use Rattle.model.specs.Limits.{pageSize};
 ghost use Rattle.model.specs.Calls.{config, formatOf};
-ghost use Rattle.format.specs.First.{matrixFits, numbersFit, firstRoot, firstPage, rootPage, zeros, Numbers};
+ghost use Rattle.format.specs.First.{firstRoot, firstPage, rootPage, zeros, Numbers};
 
-// Whether every entry of the matrix is 0 or 2.
-pub fn matrix_fits(matrix: &[u8]) -> bool
-    ensures { λ r. ⌜ r ≡ matrixFits (now (matrix .entry)) ⌝ }
-{
-    let mut ok = true;
-    let mut i = 0;
-    while i < matrix.len() {
-        if matrix[i] != 0 {
-            if matrix[i] != 2 {
-                ok = false;
-            }
-        }
-        i = i + 1;
-    }
-    ok
-}
+// Where a page's trailer has the length used, that of page 0, and the bytes of pages 0 and 1.
+const USED: usize = Settings::CAPACITY + 2;
 
-// Whether target, tolerance and form are in range, and the page count is the image's.
-pub fn numbers_fit(settings: Settings, pages: usize) -> bool
-    ensures { λ r. ⌜ r ≡ numbersFit settings pages ⌝ }
-{
-    if settings.pages != pages {
-        return false;
-    }
-    if settings.target < 64 {
-        return false;
-    }
-    if 192 < settings.target {
-        return false;
-    }
-    if 512 < settings.tolerance {
-        return false;
-    }
-    settings.form == 1
-}
+const FIRST_USED: usize = 16 + Settings::ENTRIES;
+
+const FIRST_PAGES: usize = 2 * Settings::PAGE;
 
 // Page 0, zero before.
 fn put_settings(page: &mut [u8], settings: Settings, matrix: &[u8])
@@ -61,7 +33,7 @@ fn put_settings(page: &mut [u8], settings: Settings, matrix: &[u8])
     put16(page, 6, settings.form);
     copy_in(matrix, page, 16);
     put16(page, Settings::CAPACITY, 2);
-    put16(page, 4082, 272);
+    put16(page, USED, FIRST_USED);
 }
 
 // Page 1, zero before: a root aggregate without children.
@@ -73,7 +45,7 @@ fn put_root(page: &mut [u8], label: u16)
     put16(page, 2, label as usize);
     put16(page, 4, 6);
     put16(page, Settings::CAPACITY, 257);
-    put16(page, 4082, 6);
+    put16(page, USED, 6);
 }
 
 // The image of a store with a root aggregate alone, whatever bytes it had.
@@ -83,35 +55,18 @@ pub fn write_first(image: &mut [u8], settings: Settings, matrix: &[u8], label: u
 {
     let n = image.len();
     clear(image, 0, n);
-    put_settings(&mut image[0..4096], settings, matrix);
-    put_root(&mut image[4096..8192], label);
+    put_settings(&mut image[0..Settings::PAGE], settings, matrix);
+    put_root(&mut image[Settings::PAGE..FIRST_PAGES], label);
 }
 
-// Whether an image can have n bytes: 2 to 1,024 whole pages.
-pub fn length_ok(n: usize) -> bool
-    ensures { λ r. ⌜ r ≡ lengthOk n ⌝ }
-{
-    if n % Settings::PAGE != 0 {
-        return false;
-    }
-    if n / Settings::PAGE < 2 {
-        return false;
-    }
-    n / Settings::PAGE <= Settings::PAGES
-}
-
-// Whether the settings are in range, for an image of so many pages.
+// Whether the settings are in range, and the page count is the image's.
 fn settings_fit(settings: Settings, matrix: &[u8], pages: usize) -> bool
-    requires { ⌜ (2 ≤ pages) × (pages ≤ mostPages) ⌝ }
     ensures { λ r. ⌜ r ≡ (row.inRange (config settings (now (matrix .entry))) && eqb (settings .pages) pages) ⌝ }
 {
-    if matrix.len() != 256 {
+    if settings.pages != pages {
         return false;
     }
-    if !numbers_fit(settings, pages) {
-        return false;
-    }
-    matrix_fits(matrix)
+    in_range(settings, matrix)
 }
 
 // Format: a store with a root aggregate alone in the whole image, or the refusal's number with the image as it was.

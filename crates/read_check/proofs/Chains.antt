@@ -2,56 +2,26 @@
 use mathlib.Core.Path.{_≡_, refl, ap, sym, _∙_}
 use mathlib.Core.List.{List}
 use mathlib.Core.Bool.{Bool, true, false}
-use Prim.Native.Nat.{ℕ, zero, suc, _+_, _-_, _*_, _≤_, _<_}
+use Prim.Native.Nat.{ℕ, zero, suc, _+_, _-_, _*_, _≤_}
 use native.Mathlib.Omega.{arith}
 use lib.ListN.{length, take, drop, length-drop}
 use lib.Seq.{drop-drop, take-all}
 use lib.Dec.{eqb}
-use borrow.Author.Tests.{lt-ltb, eqb-true, eqb-false}
+use borrow.Author.Tests.{eqb-true, eqb-false}
+use Rattle.model.specs.Limits.{mostLevels}
 use Rattle.model.specs.Row.{nil}
 use Rattle.model.specs.Tree.{width}
 use Rattle.model.specs.Reading.{headAt}
-use Rattle.theory_check.specs.Tests.{sizeOf}
+use Rattle.theory_check.specs.Steps.{list-none, list-more}
+use Rattle.theory_check.specs.Tests.{wholeSize}
 use Rattle.theory_check.specs.Walk.{State, Decoded, asAgg, before, nodeOf, listOf}
 use Rattle.theory_check.specs.Widths.{widthsAfter}
 use Rattle.theory_check.specs.Facts.{rest-is}
-use Rattle.read_check.specs.Leaf.{aggregateOf, innerOf, Only}
+use Rattle.read_nodes.specs.Inner.{Each, alone, each-fits}
+use Rattle.read_nodes.specs.Leaf.{aggregateOf, Only}
+use Rattle.read_nodes.specs.Leaves.{aggregate-head, aggregate-size}
 use Rattle.read_check.specs.Came.{Came}
-use Rattle.read_check.proofs.Leaves.{aggregate-head, aggregate-size}
-use Rattle.read_check.proofs.Walks.{list-none, list-bad, list-more, node-inner, came-at, came-agg}
-
-module _ (s : List ℕ) (level : ℕ) where
-  abbrev pub Each : ℕ → Type 0
-  Each d = (i : ℕ) → i < d → innerOf s level i ≡ true
-
-  -- the test as the loop makes it
-  pub inner-is : (d at : ℕ) → at ≡ 6 * d + 6 → aggregateOf (take (length s - at) (drop at s)) (length s - at) 1 (level + d) ≡ innerOf s level d
-  inner-is d at e =
-      ap (λ (x : List ℕ). aggregateOf x (length s - at) 1 (level + d)) (rest-is at s)
-      ∙ ap (λ (a : ℕ). aggregateOf (drop a s) (length s - a) 1 (level + d)) e
-
-  -- the aggregate after d + 1 headers, alone
-  alone : (d : ℕ) → innerOf s level d ≡ true → aggregateOf (drop (6 * d + 6) s) (length (drop (6 * d + 6) s)) 1 (level + d) ≡ true
-  alone d e = ap (λ (n : ℕ). aggregateOf (drop (6 * d + 6) s) n 1 (level + d)) (length-drop (6 * d + 6) s) ∙ e
-
-  pub inner-fits : (d : ℕ) → innerOf s level d ≡ true → (6 * d + 12 ≤ length s) × (level + d ≤ 24)
-  inner-fits d e = let f = aggregate-head _ _ _ (alone d e) in (omega (arith, f .0, length-drop (6 * d + 6) s), f .2)
-
-  -- no byte is left
-  pub inner-end : (d : ℕ) → length s ≤ 6 * d + 6 → innerOf s level d ≡ false
-  unfolding aggregateOf
-  inner-end d h = let k : length (drop (6 * d + 6) s) < 6 = omega (arith, length-drop (6 * d + 6) s) in simp (lt-ltb _ _ k)
-
-  pub each-more : (d : ℕ) → Each d → innerOf s level d ≡ true → Each (d + 1)
-  each-more d h e i b = go (eqb i d) refl
-    where
-      go : (x : Bool) → eqb i d ≡ x → innerOf s level i ≡ true
-      go true q = ap (innerOf s level) (eqb-true i d q) ∙ e
-      go false q = h i (omega (arith, eqb-false i d q))
-
-  pub each-fits : (d : ℕ) → 6 ≤ length s → level ≤ 25 → Each d → (6 * d + 6 ≤ length s) × (level + d ≤ 25)
-  each-fits zero long low h = (omega arith, omega arith)
-  each-fits (suc d) long low h = let f = inner-fits d (h d (omega arith)) in (omega (arith, f .0), omega (arith, f .1))
+use Rattle.read_check.proofs.Walks.{list-bad, node-inner, came-at, came-agg}
 
 -- Two outcomes with the same walk, whose rows leave the same in a table of widths.
 record Alike (d e : Decoded) : Type 0 where
@@ -86,12 +56,13 @@ list-only img s page holder level w e = go (eqb (w .left) 0) refl
         let f = aggregate-head s holder level e in
         let n = aggregate-size s holder level e in
         let d = listOf img (drop 6 s) page 1 (level + 1) w in
-        let one : nodeOf img (take (sizeOf s) s) page holder level w ≡ asAgg (headAt s 0) d =
-        ap (λ (x : List ℕ). nodeOf img x page holder level w) (take-all (sizeOf s) s (omega (arith, n))) ∙ node-inner img s page holder level w e in
+        let one : nodeOf img (take (wholeSize s) s) page holder level w ≡ asAgg (headAt s 0) d =
+        ap (λ (x : List ℕ). nodeOf img x page holder level w) (take-all (wholeSize s) s (omega (arith, n))) ∙ node-inner img s page holder level w e in
         let all : listOf img s page holder level w ≡ before (asAgg (headAt s 0) d) (record { row = nil; walk = d .walk }) =
         list-more img s page holder level w (λ z. omega (arith, f .0)) (eqb-false _ _ q) (λ z. omega (arith, f .0, n))
-        ∙ ap (λ (x : Decoded). before x (listOf img (drop (sizeOf s) s) page holder level (x .walk))) one
-        ∙ ap (before (asAgg (headAt s 0) d)) (list-none img (drop (sizeOf s) s) page holder level (d .walk) (omega (arith, length-drop (sizeOf s) s, n))) in
+        ∙ ap (λ (x : Decoded). before x (listOf img (drop (wholeSize s) s) page holder level (x .walk))) one
+        ∙ ap (before (asAgg (headAt s 0) d))
+        (list-none img (drop (wholeSize s) s) page holder level (d .walk) (omega (arith, length-drop (wholeSize s) s, n))) in
         alike-trans (alike-same all) (record { walk = refl; table = λ c. refl })
 
 module _ (img s : List ℕ) (page level : ℕ) (w : State) where
@@ -102,16 +73,18 @@ module _ (img s : List ℕ) (page level : ℕ) (w : State) where
       let b : level + d + 1 ≡ level + suc d = omega arith in
       let x = drop (6 * d + 6) s in
       let g : listOf img (drop 6 x) page 1 (level + d + 1) w ≡ listOf img (drop (6 * suc d + 6) s) page 1 (level + suc d) w = cc (drop-drop 6 (6 * d + 6) s) in
-      alike-trans (each-walk d (λ i k. h i (omega arith))) (alike-trans (list-only img x page 1 (level + d) w (alone s level d (h d (omega arith)))) (alike-same g))
+      alike-trans (each-walk d (λ i k. h i (omega arith)))
+      (alike-trans (list-only img x page 1 (level + d) w (alone s level d (h d (omega arith)))) (alike-same g))
 
 -- what `only` gives of an aggregate that stands: where it ends, and that the walk can go on from there
 pub record Chain (img s : List ℕ) (page holder level d : ℕ) (w : State) : Type 0 where
   pub inside : 6 * d + 6 ≤ length s
-  pub low : level + 1 + d ≤ 25
+  pub low : level + 1 + d ≤ mostLevels + 1
   pub same : (r : ℕ) (m old new : List ℕ) → Came (listOf img (take (length s - (6 * d + 6)) (drop (6 * d + 6) s)) page 1 (level + 1 + d) w) r m old new
       → Came (nodeOf img s page holder level w) r m old new × (1 ≡ width (nodeOf img s page holder level w .row))
 
-pub chain : (img s : List ℕ) (page holder level d : ℕ) (w : State) → aggregateOf s (length s) holder level ≡ true → Only s (level + 1) d → Chain img s page holder level d w
+pub chain : (img s : List ℕ) (page holder level d : ℕ) (w : State) → aggregateOf s (length s) holder level ≡ true → Only s (level + 1) d
+    → Chain img s page holder level d w
 unfolding widthsAfter
 chain img s page holder level d w e o =
     let f = aggregate-head s holder level e in

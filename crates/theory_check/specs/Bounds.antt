@@ -2,22 +2,23 @@
 use mathlib.Core.Path.{_≡_}
 use mathlib.Core.Bool.{true, _&&_}
 use mathlib.Core.List.{List}
-use Prim.Native.Nat.{ℕ, zero, suc, _+_, _-_, _*_, _/_, _%_, _≤_}
+use Prim.Native.Nat.{ℕ, zero, suc, _+_, _-_, _*_, _/_, _≤_, _%_}
 use native.Mathlib.Omega.{arith}
 use lib.ListN.{length, take, drop, length-drop}
 use lib.Seq.{length-take-le}
-use lib.Dec.{ltb, leb, eqb}
+use lib.Dec.{ltb, eqb, leb}
 use borrow.Author.Tests.{leb-true}
-use Rattle.model.specs.Limits.{mostPages, pageSize}
+use Rattle.model.specs.Limits.{mostPages, pageSize, mostLevels}
 use Rattle.model.specs.Tree.{width}
-use Rattle.model.specs.Reading.{twoAt, lengthOk, pageOf, usedAt}
+use Rattle.model.specs.Reading.{lengthOk, pageOf, usedAt, nameAt}
 use Rattle.theory_rows.specs.Laws.{width-⊹, cond-case}
 use Rattle.theory_decoding.specs.Valid as valid
-use Rattle.theory_check.specs.Rec.{run, under, steps}
-use Rattle.theory_check.specs.Tests.{sizeOf, headOf, stateOf, settingsOk, firstOk}
-use Rattle.theory_check.specs.Walk.{State, withMark, entersOf, Decoded, Job, node, list, measure, stop, none, recordOf, step, proxyStep, nodeStep, moreStep, listStep, decode}
+use Rattle.theory_check.specs.Rec.{keeps}
+use Rattle.theory_check.specs.Tests.{wholeSize, passingKind, stateOf, settingsOk, firstOk}
+use Rattle.theory_check.specs.Walk.{State, withMark, entersOf, Decoded, Job, node, list, measure, stop, none, recordOf, step, proxyStep, nodeStep}
+use Rattle.theory_check.specs.Walk.{moreStep, listStep, decode}
 use Rattle.theory_check.specs.Facts.{both}
-use Rattle.theory_check.specs.Steps.{from, head-long, size-long, entered, length-part, used-is}
+use Rattle.theory_check.specs.Steps.{from, head-long, size-long, entered, length-part}
 use Rattle.theory_check.specs.Check.{scanFrom, trailersOf}
 
 -- ── the nodes that a walk shows ──
@@ -27,8 +28,8 @@ abbrev pub bytesIn : Job → ℕ
 bytesIn (node s page holder level w) = length s
 bytesIn (list s page holder level w) = length s
 
--- What an answer shows, with 4096 for each page still left to it, is no more than n bytes and the pages left before it allow.
-abbrev Within : (n : ℕ) → State → Decoded → Type 0
+-- What an answer shows, with a page's bytes for each page still left to it, is no more than n bytes and the pages left before it allow.
+abbrev pub Within : (n : ℕ) → State → Decoded → Type 0
 Within n w d = width (d .row) + pageSize * d .walk .left ≤ n + pageSize * w .left
 
 abbrev Wide : (Job → Decoded) → Type 0
@@ -48,26 +49,27 @@ module _ (img : List ℕ) (f : Job → Decoded) (h : Wide f) where
       cond-case (Within 0 w) (entersOf img p page w)
       (λ e.
       let g = entered img p page w e in
-      omega (arith, h (node (recordOf img p) p 0 level (withMark w p)), g .room, g .used, used-is img p, length-part img (pageSize * p) (usedAt img (pageSize * p))))
+      omega (arith, h (node (recordOf img p) p 0 level (withMark w p)), g .room, g .used, length-part img (pageSize * p) (usedAt img (pageSize * p))))
       (λ _. wide-stop 0 w)
 
-  wide-node : (s : List ℕ) (page holder level : ℕ) (w : State) → Within (length s) w (nodeStep img f s page holder level w (headOf s holder))
+  wide-node : (s : List ℕ) (page holder level : ℕ) (w : State) → Within (length s) w (nodeStep img f s page holder level w (passingKind s holder))
   unfolding nodeStep
   wide-node s page holder level w =
       let P = Within (length s) w in
-      let kind = headOf s holder in
+      let kind = passingKind s holder in
       let bad = wide-stop (length s) w in
       cond-case P (eqb kind 0) (λ _. bad) (λ z.
-      both P (eqb kind 3) (both P (eqb (length s) 8) (omega (arith, wide-proxy (twoAt s 6) page level w)) bad)
+      both P (eqb kind 3) (both P (eqb (length s) 8) (omega (arith, wide-proxy (nameAt s 0) page level w)) bad)
       (both P (eqb kind 4) (omega (arith, h (list (drop 6 s) page 4 level w), length-drop 6 s))
-      (both P (ltb 24 level) bad
-      (both P (eqb kind 2) (omega (arith, head-long img s holder z))
-      (omega (arith, h (list (drop 6 s) page 1 (level + 1) w), length-drop 6 s, head-long img s holder z))))))
+      (both P (ltb mostLevels level) bad
+      (both P (eqb kind 2) (omega (arith, head-long s holder z))
+      (omega (arith, h (list (drop 6 s) page 1 (level + 1) w), length-drop 6 s, head-long s holder z))))))
 
-  wide-more : (s : List ℕ) (page holder level : ℕ) (w : State) → sizeOf s ≤ length s → Within (length s) w (moreStep img f s page holder level w (sizeOf s))
+  wide-more : (s : List ℕ) (page holder level : ℕ) (w : State) → wholeSize s ≤ length s
+      → Within (length s) w (moreStep img f s page holder level w (wholeSize s))
   unfolding moreStep
   wide-more s page holder level w l =
-      let n = sizeOf s in
+      let n = wholeSize s in
       let a = f (node (take n s) page holder level w) in
       let d = f (list (drop n s) page holder level (a .walk)) in
       omega (
@@ -84,25 +86,15 @@ module _ (img : List ℕ) (f : Job → Decoded) (h : Wide f) where
   wide-list s page holder level w =
       let P = Within (length s) w in
       both P (eqb (length s) 0) (omega arith) (both P (eqb (w .left) 0) (omega arith)
-      (cond-case P (eqb (sizeOf s) 0) (λ _. wide-stop (length s) w) (λ z. wide-more s page holder level w (size-long img s z .1))))
+      (cond-case P (eqb (wholeSize s) 0) (λ _. wide-stop (length s) w) (λ z. wide-more s page holder level w (size-long s z .1))))
 
   wide-step : Wide (step img f)
   wide-step (node s page holder level w) = wide-node s page holder level w
   wide-step (list s page holder level w) = wide-list s page holder level w
 
-module _ (img : List ℕ) where
-  wide-under : (m : ℕ) (f : Job → Decoded) → Wide f → Wide (under measure none (step img) m f)
-  unfolding under
-  wide-under m f h j = both (Within (bytesIn j) (from j)) (ltb (measure j) m) (h j) (wide-none j)
-
-  wide-steps : (n : ℕ) → Wide (steps measure none (step img) n)
-  unfolding steps
-  wide-steps zero j = wide-none j
-  wide-steps (suc n) j = wide-step img (under measure none (step img) (measure j) (steps measure none (step img) n)) (wide-under (measure j) (steps measure none (step img) n) (wide-steps n)) j
-
-  pub decoded-wide : (j : Job) → width (decode img j .row) + pageSize * decode img j .walk .left ≤ bytesIn j + pageSize * from j .left
-  unfolding decode run
-  decoded-wide j = wide-steps (suc (measure j)) j
+pub decoded-wide : (img : List ℕ) (j : Job) → Within (bytesIn j) (from j) (decode img j)
+unfolding decode
+decoded-wide img = keeps measure none (step img) (λ (j : Job). Within (bytesIn j) (from j)) wide-none (wide-step img)
 
 -- ── the pages that it is to reach ──
 
@@ -118,8 +110,6 @@ pub trailers-most : (img : List ℕ) → lengthOk (length img) ≡ true → trai
 unfolding trailersOf lengthOk
 trailers-most img e =
     let n = length img / pageSize in
-    let sizes = valid.both (eqb (length img % pageSize) 0 && leb 2 n) (leb n mostPages) e in
+    let sizes = valid.both (eqb (length img % pageSize) 0 && leb 2 n) _ e in
     let P : ℕ → Type 0 = λ x. x ≤ mostPages in
-    both P (settingsOk (pageOf img 0) n)
-    (both P (firstOk (pageOf img 1)) (omega (arith, scan-most img (n - 2) 2 0, leb-true n mostPages (sizes .1))) (omega arith))
-    (omega arith)
+    both P (settingsOk (pageOf img 0) n && firstOk (pageOf img 1)) (omega (arith, scan-most img (n - 2) 2 0, leb-true n mostPages (sizes .1))) (omega arith)

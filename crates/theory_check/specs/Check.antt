@@ -1,11 +1,11 @@
 -- The check in the order of the code: the length, page 0, all trailers and free pages, then the walk.
-use mathlib.Core.Bool.{Bool, false, cond}
+use mathlib.Core.Bool.{Bool, cond, _&&_}
 use mathlib.Core.List.{List}
 use Prim.Native.Nat.{ℕ, zero, suc, _+_, _-_, _/_}
-use lib.ListN.{length, getD, replicate}
+use lib.ListN.{length, replicate}
 use lib.Dec.{eqb}
 use Rattle.model.specs.Limits.{pageSize}
-use Rattle.model.specs.Reading.{lengthOk, pageOf}
+use Rattle.model.specs.Reading.{lengthOk, pageOf, kindAt}
 use Rattle.theory_check.specs.Tests.{stateOf, settingsOk, firstOk}
 use Rattle.theory_check.specs.Walk.{state, Decoded, recordOf, nodeOf}
 
@@ -21,14 +21,14 @@ scanFrom img (suc k) p n =
 unfoldable pub trailersOf : (img : List ℕ) → ℕ
 trailersOf img =
     let found = scanFrom img (length img / pageSize - 2) 2 0 in
-    cond (settingsOk (pageOf img 0) (length img / pageSize)) (cond (firstOk (pageOf img 1)) found 0) 0
+    cond (settingsOk (pageOf img 0) (length img / pageSize) && firstOk (pageOf img 1)) found 0
 
 -- The walk from page 1, whose record's root is an aggregate.
 unfoldable pub walkOf : (img : List ℕ) → (left : ℕ) → Decoded
 walkOf img n = nodeOf img (recordOf img 1) 1 0 1 (state n (replicate 128 0))
 
 unfoldable pub walkOk : (img : List ℕ) → (left : ℕ) → Bool
-walkOk img n = cond (eqb (getD img pageSize 0) 1) (eqb (walkOf img n .walk .left) 1) false
+walkOk img n = eqb (kindAt img pageSize) 1 && eqb (walkOf img n .walk .left) 1
 
 unfoldable pub checkBy : (img : List ℕ) → ℕ
 checkBy img =

@@ -8,12 +8,12 @@ use lib.ListN.{length, getD, replicate}
 use lib.Seq.{take-at}
 use borrow.Author.Tests.{ne-eqb}
 use Rattle.model.specs.Limits.{pageSize}
-use Rattle.model.specs.Row.{Row, store, Held, records, settingsPage, pagesFrom, image, lone, byTable, mayStand, standing, Config, recordOn}
+use Rattle.model.specs.Row.{Row, store, Held, records, settingsPage, pagesFrom, image, lone, byTable, mayStand, standing, Config, recordOn, inRange, valid}
 use Rattle.model.specs.Reading.{Reads, pageOf}
 use Rattle.theory_rows.specs.Fits.{Valid}
 use Rattle.theory_rows.specs.Store.{settled-lone}
 use Rattle.theory_rows.specs.Image.{length-settings, once}
-use Rattle.theory_decoding.specs.Valid.{both, by-table}
+use Rattle.theory_decoding.specs.Valid.{both, by-table, valid-holds}
 use Rattle.theory_decoding.specs.Steps.{recordCount}
 use Rattle.theory_decoding.specs.Length.{length-image, image-length-ok}
 use Rattle.theory_decoding.specs.Decode.{stored-image}
@@ -38,11 +38,19 @@ module _ (st : Config) (root : Row) (v : Valid st root) where
   unfolding image
   zero-page = take-at (settingsPage st) (pagesFrom (records 0 (store root)) (st .pages - 1) 1) pageSize (length-settings st (v .ranges .entries))
 
+  in-range : inRange st ≡ true
+  unfolding valid
+  in-range =
+      let placed = both _ _ (valid-holds st root v) in
+      let levels = both _ _ (placed .0) in
+      let top = both _ _ (levels .0) in
+      both _ _ (top .0) .0
+
   trailers-image : trailersOf img ≡ suc (recordCount root)
   unfolding trailersOf
   trailers-image =
       let n : length img / pageSize ≡ st .pages = omega (arith, length-image st root v) in
-      rw (n, zero-page, settings-ok st (v .ranges), stored-image st root v .0, first-ok first (v .rows .0 .fits) refl refl) (scan-image st root v)
+      rw (n, zero-page, settings-ok st in-range, stored-image st root v .0, first-ok first (v .rows .0 .fits) refl refl) (scan-image st root v)
 
   fresh-image : Fresh (st .pages) (replicate 128 0) root
   fresh-image = record {
@@ -62,7 +70,8 @@ module _ (st : Config) (root : Row) (v : Valid st root) where
       let fit = v .rows .0 in
       rw (record-of img 1 first fit (stored .0)) (
       record-node img 1 1 (state (suc (recordCount root)) m) (omega arith) true root (done root 1 m) fit root-stands
-      (λ x y. walked img (st .pages) (v .ranges .many) (length-image st root v) root 1 x 1 (suc (recordCount root)) 1 m (v .rows .1) (omega (arith, fit .fits)) y (stored .1)
+      (λ x y. walked img (st .pages) (v .ranges .many) (length-image st root v) root 1 x 1 (suc (recordCount root)) 1 m (v .rows .1)
+      (omega (arith, fit .fits)) y (stored .1)
       (omega arith) (omega (arith, v .levels)) u (omega arith) (omega arith))
       )
 

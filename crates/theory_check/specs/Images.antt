@@ -51,7 +51,8 @@ pages-are img hs (suc k) q l h =
     let next : pageSize * q + pageSize ≡ pageSize * suc q = omega arith in
     sym (take-append-drop pageSize (drop (pageSize * q) img))
     ∙ ap₂ _++_ (h q (omega arith) (omega arith))
-    (drop-drop pageSize (pageSize * q) img ∙ ap (λ (n : ℕ). drop n img) next ∙ pages-are img hs k (suc q) (omega arith) (λ p a b. h p (omega arith) (omega arith)))
+    (drop-drop pageSize (pageSize * q) img ∙ ap (λ (n : ℕ). drop n img) next
+    ∙ pages-are img hs k (suc q) (omega arith) (λ p a b. h p (omega arith) (omega arith)))
 
 pub image-is : (img : List ℕ) (st : Config) (root : Row) → 1 ≤ st .pages → length img ≡ pageSize * st .pages → pageOf img 0 ≡ settingsPage st
     → Stored (pageOf img) 0 (store root) → ((q : ℕ) → 1 ≤ q → q < st .pages → count q (store root) ≡ 0 → pageOf img q ≡ replicate pageSize 0)

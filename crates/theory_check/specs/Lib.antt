@@ -1,5 +1,5 @@
-pub mod Rec
 pub mod Facts
+pub mod Rec
 pub mod Tests
 pub mod Marks
 pub mod Walk

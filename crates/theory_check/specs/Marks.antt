@@ -99,7 +99,8 @@ module _ (m : List ℕ) (p : ℕ) (k : IsMarks m) (low : p < mostPages) where
           by true f = sym (eq-eqb q p (omega (arith, eqb-true (q % 8) (p % 8) f)))
           by false f = sym (ne-eqb q p (λ z. eqb-false (q % 8) (p % 8) f (ap (λ (n : ℕ). n % 8) z)))
 
-      go : (b : Bool) → eqb (q / 8) (p / 8) ≡ b → eqb (getD (set m (p / 8) v) (q / 8) 0 / 2 ^ (q % 8) % 2) 1 ≡ cond (eqb q p) true (eqb (getD m (q / 8) 0 / 2 ^ (q % 8) % 2) 1)
+      go : (b : Bool) → eqb (q / 8) (p / 8) ≡ b
+          → eqb (getD (set m (p / 8) v) (q / 8) 0 / 2 ^ (q % 8) % 2) 1 ≡ cond (eqb q p) true (eqb (getD m (q / 8) 0 / 2 ^ (q % 8) % 2) 1)
       go true e =
           let f = eqb-true (q / 8) (p / 8) e in
           rw (f, getD-set-same m (p / 8) v 0 (omega (arith, k .long)), ← same-page f) (set-bit (getD m (p / 8) 0) (p % 8) (q % 8) (omega arith) (omega arith))

@@ -7,15 +7,15 @@ use native.Mathlib.Omega.{arith}
 use lib.ListN.{length, length-append}
 use lib.Seq.{take-at, drop-at, take-length, drop-length}
 use borrow.Author.Tests.{le-ltb, lt-ltb, le-leb, eq-eqb, ne-eqb}
-use Rattle.model.specs.Limits.{capacity, mostContent, mostNode}
+use Rattle.model.specs.Limits.{capacity, mostContent, mostNode, mostLevels}
 use Rattle.model.specs.Row.{Row, nil, agg, lit, rec, _⊹_, size, lone, nodeCount, two, header, bytes, recordBytes, mayStand, standing, byTable, noHead, Head}
-use Rattle.model.specs.Reading.{twoAt}
+use Rattle.model.specs.Reading.{twoAt, sizeAt}
 use Rattle.theory_rows.specs.Laws.{length-bytes, isNil-nil, ⊹-nil}
 use Rattle.theory_rows.specs.Fits.{Shape, one, more, RecordFits, HeadFits}
 use Rattle.theory_decoding.specs.Decode.{two-bytes}
-use Rattle.theory_check.specs.Tests.{sizeOf, twoChildren, shapeOf, headOf}
-use Rattle.theory_check.specs.Walk.{State, Decoded, decode, asAgg, before, nodeStep, moreStep, listStep, nodeOf, listOf, proxyOf}
-use Rattle.theory_check.specs.Steps.{node-eq, list-eq}
+use Rattle.theory_check.specs.Tests.{wholeSize, twoChildren, shapeOf, passingKind}
+use Rattle.theory_check.specs.Walk.{State, Decoded, asAgg, before, nodeStep, nodeOf, listOf, proxyOf}
+use Rattle.theory_check.specs.Steps.{node-eq, list-none, list-more}
 
 -- ── the tests ──
 
@@ -24,70 +24,57 @@ abbrev pub whole : (kind : ℕ) → Head → (n : ℕ) → (inside : List ℕ) �
 whole k l n inside = header k l (6 + n) ++ inside
 
 module _ (k : ℕ) (l : Head) (n : ℕ) (inside : List ℕ) (e : length inside ≡ n) (h : n ≤ capacity) where
-  size-at : (s : List ℕ) → twoAt (header k l (6 + n) ++ s) 4 ≡ 6 + n
+  size-at : (s : List ℕ) → sizeAt (header k l (6 + n) ++ s) 0 ≡ 6 + n
   unfolding twoAt
   size-at s = two-bytes (6 + n) (omega arith)
 
-  size-node : (after : List ℕ) → sizeOf (whole k l n inside ++ after) ≡ 6 + n
-  unfolding sizeOf
+  size-node : (after : List ℕ) → wholeSize (whole k l n inside ++ after) ≡ 6 + n
+  unfolding wholeSize
   size-node after =
       let m : length (whole k l n inside ++ after) ≡ 6 + n + length after = omega (arith, length-append inside after) in
       rw (
         size-at (inside ++ after),
         m,
-        le-ltb (6 + n + length after) 6 (omega arith),
-        le-ltb (6 + n) 6 (omega arith),
-        le-ltb (6 + n + length after) (6 + n) (omega arith),
+        le-leb 6 (6 + n + length after) (omega arith),
+        le-leb 6 (6 + n) (omega arith),
+        le-leb (6 + n) (6 + n + length after) (omega arith),
       )
 
   -- a node that keeps what its kind asks, where it may stand
-  head-node : (holder : ℕ) → k ≤ 4 → mayStand holder k ≡ true → shapeOf (whole k l n inside) k ≡ true → headOf (whole k l n inside) holder ≡ k
-  unfolding headOf
+  head-node : (holder : ℕ) → k ≤ 4 → mayStand holder k ≡ true → shapeOf (whole k l n inside) k ≡ true → passingKind (whole k l n inside) holder ≡ k
+  unfolding passingKind
   head-node holder a m s =
       let t : length (whole k l n inside) ≡ 6 + n = omega arith in
-      rw (size-at inside, t, le-ltb (6 + n) 6 (omega arith), le-ltb 4 k a, m, eq-eqb (6 + n) (6 + n) refl, s)
+      rw (size-at inside, t, le-leb 6 (6 + n) (omega arith), le-leb k 4 a, m, eq-eqb (6 + n) (6 + n) refl, s)
 
 -- ── the walk ──
 
 module _ (img : List ℕ) (page level : ℕ) (w : State) where
-  module _ (holder : ℕ) where
-    pub list-none : listOf img [] page holder level w ≡ record { row = nil; walk = w }
-    unfolding listStep
-    list-none = list-eq img [] page holder level w
-
-    -- a list goes on after its first node
-    list-more : (s : List ℕ) → 1 ≤ w .left → 1 ≤ sizeOf s → 1 ≤ length s
-        → listOf img s page holder level w ≡ moreStep img (decode img) s page holder level w (sizeOf s)
-    unfolding listStep
-    list-more s a b c =
-        list-eq img s page holder level w
-        ∙ rw (ne-eqb (length s) 0 (λ z. omega arith), ne-eqb (w .left) 0 (λ z. omega arith), ne-eqb (sizeOf s) 0 (λ z. omega arith))
-
   module _ (l : Head) (n : ℕ) (inside : List ℕ) (e : length inside ≡ n) (h : n ≤ capacity) where
     -- the first node, then the others
     pub list-node : (k holder : ℕ) (after : List ℕ) (a d : Decoded) → 1 ≤ w .left → nodeOf img (whole k l n inside) page holder level w ≡ a
         → listOf img after page holder level (a .walk) ≡ d → listOf img (whole k l n inside ++ after) page holder level w ≡ before a d
-    unfolding moreStep
     list-node k holder after a d f i j =
         let s = whole k l n inside ++ after in
         let z = size-node k l n inside e h after in
         let m : length (whole k l n inside) ≡ 6 + n = omega arith in
-        list-more holder s f (omega arith) (omega arith)
+        list-more img s page holder level w (λ q. omega arith) (λ q. omega arith) (λ q. omega arith)
         ∙ rw (z, take-at (whole k l n inside) after (6 + n) m, drop-at (whole k l n inside) after (6 + n) m, i, j)
 
-    pub agg-node : (holder : ℕ) → HeadFits l → mayStand holder 1 ≡ true → level ≤ 24
+    pub agg-node : (holder : ℕ) → HeadFits l → mayStand holder 1 ≡ true → level ≤ mostLevels
         → nodeOf img (whole 1 l n inside) page holder level w ≡ asAgg l (listOf img inside page 1 (level + 1) w)
     unfolding nodeStep shapeOf twoAt
     agg-node holder f m g =
         node-eq img (whole 1 l n inside) page holder level w
-        ∙ rw (head-node 1 l n inside e h holder (omega arith) m refl, le-ltb 24 level g, two-bytes (l .label) (f .label))
+        ∙ rw (head-node 1 l n inside e h holder (omega arith) m refl, le-ltb mostLevels level g, two-bytes (l .label) (f .label))
 
-    pub lit-node : (holder : ℕ) → HeadFits l → mayStand holder 2 ≡ true → level ≤ 24 → n ≤ mostContent
+    pub lit-node : (holder : ℕ) → HeadFits l → mayStand holder 2 ≡ true → level ≤ mostLevels → n ≤ mostContent
         → nodeOf img (whole 2 l n inside) page holder level w ≡ record { row = lit l inside nil; walk = w }
     unfolding nodeStep shapeOf twoAt
     lit-node holder f m g c =
+        let short = le-leb (length (whole 2 l n inside)) mostNode (omega arith) in
         node-eq img (whole 2 l n inside) page holder level w
-        ∙ rw (head-node 2 l n inside e h holder (omega arith) m (le-leb (length (whole 2 l n inside)) mostNode (omega arith)), le-ltb 24 level g, two-bytes (l .label) (f .label))
+        ∙ rw (head-node 2 l n inside e h holder (omega arith) m short, le-ltb mostLevels level g, two-bytes (l .label) (f .label))
 
     helper-node : twoChildren inside ≡ true → nodeOf img (whole 4 noHead n inside) page 0 level w ≡ listOf img inside page 4 level w
     unfolding nodeStep shapeOf twoAt mayStand standing
@@ -112,7 +99,7 @@ tail (lit h c rest) = rest
 tail (rec p s r rest) = rest
 
 -- the size of a row's first node
-first : (r : Row) → size r ≤ capacity → 1 ≤ nodeCount r → (6 ≤ sizeOf (bytes r)) × (sizeOf (bytes r) + size (tail r) ≡ size r)
+first : (r : Row) → size r ≤ capacity → 1 ≤ nodeCount r → (6 ≤ wholeSize (bytes r)) × (wholeSize (bytes r) + size (tail r) ≡ size r)
 first nil f n = absurd (omega arith)
 first (agg h cs rest) f n = omega (arith, size-node 1 h (size cs) (bytes cs) (length-bytes cs) (omega arith) (bytes rest))
 first (lit h c rest) f n = omega (arith, size-node 2 h (length c) c refl (omega arith) (bytes rest))
@@ -141,7 +128,7 @@ unfolding twoChildren
 two-children r f h =
     let a = first r f (omega arith) in
     let b = some-size (tail r) (more-tail r h) in
-    rw (ne-eqb (sizeOf (bytes r)) 0 (λ z. omega arith), lt-ltb (sizeOf (bytes r)) (length (bytes r)) (omega (arith, length-bytes r)))
+    rw (ne-eqb (wholeSize (bytes r)) 0 (λ z. omega arith), lt-ltb (wholeSize (bytes r)) (length (bytes r)) (omega (arith, length-bytes r)))
 
 not-lone : {s : Bool} {r : Row} → Shape s r → lone r ≡ false → 2 ≤ nodeCount r
 not-lone (one e) h = absurd (false≢true (sym h ∙ e))
@@ -149,12 +136,11 @@ not-lone (more r h) e = h
 
 module _ (img : List ℕ) (page level : ℕ) (w : State) (left : 1 ≤ w .left) where
   -- a list of one node is the node
-  alone : (holder : ℕ) (s : List ℕ) → 1 ≤ length s → sizeOf s ≡ length s → listOf img s page holder level w ≡ nodeOf img s page holder level w
-  unfolding moreStep
+  alone : (holder : ℕ) (s : List ℕ) → 1 ≤ length s → wholeSize s ≡ length s → listOf img s page holder level w ≡ nodeOf img s page holder level w
   alone holder s h e =
       let a = nodeOf img s page holder level w in
-      list-more img page level w holder s left (omega arith) h
-      ∙ rw (e, take-length s, drop-length s, list-none img page level (a .walk) holder, ⊹-nil (a .row))
+      list-more img s page holder level w (λ q. omega arith) (λ q. omega arith) (λ q. omega arith)
+      ∙ rw (e, take-length s, drop-length s, list-none img [] page holder level (a .walk) refl, ⊹-nil (a .row))
 
   -- a record is what its row is
   pub record-node : (s : Bool) (r : Row) (d : Decoded) → RecordFits s r → cond (lone r) (byTable 0 r) (mayStand 0 4 && byTable 4 r) ≡ true
@@ -166,7 +152,8 @@ module _ (img : List ℕ) (page level : ℕ) (w : State) (left : 1 ≤ w .left) 
       small : size r ≤ capacity
       small = omega (arith, f .fits)
 
-      go : (b : Bool) → lone r ≡ b → cond b (byTable 0 r) (byTable 4 r) ≡ true → nodeOf img (cond b (bytes r) (header 4 noHead (6 + size r) ++ bytes r)) page 0 level w ≡ d
+      go : (b : Bool) → lone r ≡ b → cond b (byTable 0 r) (byTable 4 r) ≡ true
+          → nodeOf img (cond b (bytes r) (header 4 noHead (6 + size r) ++ bytes r)) page 0 level w ≡ d
       go true e t =
           let a = lone-tail r e in
           let b = first r small (a .1) in

@@ -1,26 +1,27 @@
 -- What the tests on pages say of the pages of a valid store's image.
-use mathlib.Core.Path.{_≡_, refl}
-use mathlib.Core.Bool.{Bool, true, false, cond, not, _||_, false≢true}
-use mathlib.Core.List.{List, [], _∷_, _++_, append-assoc}
+use mathlib.Core.Path.{_≡_, refl, ap, _∙_}
+use mathlib.Core.Bool.{Bool, true, false, cond, not, false≢true}
+use mathlib.Core.List.{List, _∷_, _++_, append-assoc}
 use Prim.Native.Nat.{ℕ, zero, suc, _+_, _-_, _*_, _≤_, _<_}
 use native.Mathlib.Omega.{arith}
 use lib.ListN.{length, take, drop, getD, replicate, length-append, length-replicate}
 use lib.Seq.{take-at, drop-at, take-take, drop-append-add, getD-take, getD-drop}
-use lib.Dec.{ltb, eqb}
-use borrow.Author.Tests.{le-ltb, lt-leb, eq-eqb}
-use Rattle.model.specs.Limits.{mostPages, pageSize, capacity, settingsSize}
-use Rattle.model.specs.Row.{Row, nil, agg, lit, rec, lone, recordSize, recordBytes, two, trailer, Held, recordPage, Config, settingsPage, every, isEntry, isAgg}
-use Rattle.model.specs.Reading.{twoAt, pageOf, backAt, settledAt}
+use lib.Dec.{eqb, leb}
+use borrow.Author.Tests.{eq-eqb, le-leb, lt-ltb}
+use Rattle.model.specs.Limits.{mostPages, pageSize, capacity, settingsSize, matrixEntries}
+use Rattle.model.specs.Row.{Row, nil, agg, lit, rec, lone, recordSize, recordBytes, two, trailer, Held, recordPage, Config, settingsPage}
+use Rattle.model.specs.Row.{isAgg, inRange}
+use Rattle.model.specs.Reading.{twoAt, pageOf, backAt, settledAt, configOn}
 use Rattle.theory_rows.specs.Fits.{Shape, RecordFits, Ranges}
 use Rattle.theory_rows.specs.Store.{settled-lone}
 use Rattle.theory_rows.specs.Image.{length-record}
-use Rattle.theory_decoding.specs.Valid.{both}
+use Rattle.theory_decoding.specs.Valid.{ranges-say}
 use Rattle.theory_decoding.specs.Decode.{two-bytes, getD-past, in-trailer, settled-page, used-page, take-page}
-use Rattle.theory_check.specs.Tests.{isMarked, namesOf, rootFits, all, allZero, matrixOk, stateOf, numbersOk, settingsOk, firstOk}
+use Rattle.theory_check.specs.Tests.{isMarked, namesOf, rootFits, allZero, stateOf, settingsOk, firstOk}
 use Rattle.theory_check.specs.Walk.{State, withMark, asRec, recordOf, entersOf, proxyStep, proxyOf, nodeOf}
 
 zeros : (n : ℕ) → allZero (replicate n 0) ≡ true
-unfolding all
+unfolding allZero
 zeros zero = refl
 zeros (suc n) = zeros n
 
@@ -33,35 +34,26 @@ drop-past a b n i e = rw (← e) (drop-append-add a b i)
 
 -- ── page 0 ──
 
-matrix-ok : (m : List ℕ) → every isEntry m ≡ true → matrixOk m ≡ true
-unfolding all
-matrix-ok [] e = refl
-matrix-ok (x ∷ m) e = let t = both (isEntry x) (every isEntry m) e in rw (go (eqb x 0) (eqb x 2) (t .0)) (matrix-ok m (t .1))
-  where
-    go : (a b : Bool) → a || b ≡ true → cond a true b ≡ true
-    go true b e = e
-    go false b e = e
-
 -- with any zeros behind the matrix, so that nothing has to count them
-module _ (st : Config) (r : Ranges st) (z : List ℕ) (many : length z ≡ (capacity - settingsSize)) (none : allZero z ≡ true) where
+module _ (st : Config) (ok : inRange st ≡ true) (z : List ℕ) (many : length z ≡ (capacity - settingsSize)) (none : allZero z ≡ true) where
   abbrev last : List ℕ
   last = trailer 2 0 settingsSize 0
 
   abbrev front : List ℕ
   front = two (st .pages) ++ (st .target ∷ 0 ∷ two (st .tolerance)) ++ two (st .form) ++ replicate 8 0 ++ st .matrix ++ z
 
-  numbers-with : numbersOk (front ++ last) (st .pages) ≡ true
-  unfolding numbersOk twoAt
-  numbers-with =
-      rw (
-        two-bytes (st .pages) (omega (arith, r .many)),
-        eq-eqb (st .pages) (st .pages) refl,
-        le-ltb (st .target) 64 (r .low),
-        le-ltb 192 (st .target) (r .high),
-        two-bytes (st .tolerance) (omega (arith, r .tol)),
-        le-ltb 512 (st .tolerance) (r .tol),
-        r .form,
-      )
+  r : Ranges st
+  r = ranges-say st ok
+
+  config-with : configOn (front ++ last) ≡ st
+  unfolding twoAt
+  config-with =
+      let pages = two-bytes (st .pages) (omega (arith, r .many)) in
+      let tolerance = two-bytes (st .tolerance) (omega (arith, r .tol)) in
+      let form = two-bytes (st .form) (omega (arith, r .form)) in
+      let matrix : take matrixEntries (st .matrix ++ z ++ last) ≡ st .matrix =
+      rw (append-assoc (st .matrix) z last) (take-at (st .matrix) (z ++ last) matrixEntries (r .entries)) in
+      λ i. record { pages = pages i; target = st .target; tolerance = tolerance i; form = form i; matrix = matrix i }
 
   settings-with : settingsOk (front ++ last) (st .pages) ≡ true
   unfolding settingsOk twoAt
@@ -70,12 +62,14 @@ module _ (st : Config) (r : Ranges st) (z : List ℕ) (many : length z ≡ (capa
       let n = r .entries in
       let long : length front ≡ capacity = omega (arith, length-append (st .matrix) z) in
       let at : (i : ℕ) → getD s (capacity + i) 0 ≡ getD last i 0 = λ i. getD-past front last capacity i long in
-      let matrix : take 256 (drop 16 s) ≡ st .matrix = rw (append-assoc (st .matrix) z last) (take-at (st .matrix) (z ++ last) 256 n) in
-      let rest : take (capacity - settingsSize) (drop settingsSize s) ≡ z = part (st .matrix) z last 256 (capacity - settingsSize) n many in
-      rw (numbers-with, zeros 8, matrix, matrix-ok (st .matrix) (r .each), rest, none, at 0, at 1, at 2, at 3, drop-past front last capacity 4 long, zeros 12)
+      let pages : twoAt s 0 ≡ st .pages = ap (λ (c : Config). c .pages) config-with in
+      let range : inRange (configOn s) ≡ true = ap inRange config-with ∙ ok in
+      let rest : take (capacity - settingsSize) (drop settingsSize s) ≡ z = part (st .matrix) z last matrixEntries (capacity - settingsSize) n many in
+      rw (range, pages, eq-eqb (st .pages) (st .pages) refl, zeros 8, rest, none, at 0, at 1, at 2, at 3, drop-past front last capacity 4 long, zeros 12)
 
-pub settings-ok : (st : Config) → Ranges st → settingsOk (settingsPage st) (st .pages) ≡ true
-settings-ok st r = settings-with st r (replicate (capacity - settingsSize) 0) (length-replicate {A = ℕ} (capacity - settingsSize) 0) (zeros (capacity - settingsSize))
+pub settings-ok : (st : Config) → inRange st ≡ true → settingsOk (settingsPage st) (st .pages) ≡ true
+settings-ok st ok =
+    settings-with st ok (replicate (capacity - settingsSize) 0) (length-replicate {A = ℕ} (capacity - settingsSize) 0) (zeros (capacity - settingsSize))
 
 -- ── a free page ──
 
@@ -85,7 +79,7 @@ free-state = rw (zeros pageSize)
 
 -- ── a record's page ──
 
-not-two : (b : Bool) → ltb 1 (cond b 1 0) ≡ false
+not-two : (b : Bool) → leb (cond b 1 0) 1 ≡ true
 not-two true = refl
 not-two false = refl
 
@@ -102,7 +96,7 @@ root-kind (rec p b r rest) s t e = absurd (false≢true e)
 
 module _ (h : Held) (f : recordSize (h .row) ≤ capacity) where
   pub record-state : stateOf (recordPage h) ≡ 2
-  unfolding stateOf all
+  unfolding stateOf allZero
   record-state =
       let n = recordSize (h .row) in
       let free : List ℕ = replicate (capacity - n) 0 in
@@ -113,7 +107,7 @@ module _ (h : Held) (f : recordSize (h .row) ≤ capacity) where
         in-trailer h f 1,
         not-two (h .settled),
         used-page h f,
-        le-ltb capacity n f,
+        le-leb n capacity f,
         part (recordBytes (h .row)) free last n (capacity - n) (length-record (h .row)) (length-replicate (capacity - n) 0),
         zeros (capacity - n),
         drop-past (recordBytes (h .row) ++ free) last capacity 6 long,
@@ -134,21 +128,21 @@ module _ (img : List ℕ) (p : ℕ) (h : Held) (f : RecordFits (h .settled) (h .
   pub on-page : (i j : ℕ) → j ≡ pageSize * p + i → i < pageSize → getD img j 0 ≡ getD (recordPage h) i 0
   on-page i j a b = rw (a, ← e, getD-take pageSize (drop (pageSize * p) img) i 0 b, getD-drop (pageSize * p) img i 0)
 
-  two-on-page : (i j : ℕ) → j ≡ pageSize * p + i → i < 4095 → twoAt img j ≡ twoAt (recordPage h) i
+  two-on-page : (i j : ℕ) → j ≡ pageSize * p + i → i + 1 < pageSize → twoAt img j ≡ twoAt (recordPage h) i
   unfolding twoAt
   two-on-page i j a b = rw (on-page i j a (omega arith), on-page (i + 1) (j + 1) (omega arith) (omega arith))
 
   pub record-of : recordOf img p ≡ recordBytes (h .row)
   record-of =
       rw (
-        two-on-page 4082 (pageSize * p + 4082) refl (omega arith),
+        two-on-page (capacity + 2) (pageSize * p + (capacity + 2)) refl (omega arith),
         used-page h (f .fits),
         ← take-take (recordSize (h .row)) pageSize (drop (pageSize * p) img) (omega (arith, f .fits)),
         e,
       ) (take-page h (f .fits))
 
   settled-of : eqb (settledAt img (pageSize * p)) 1 ≡ h .settled
-  settled-of = rw (on-page 4081 (pageSize * p + 4081) refl (omega arith)) (settled-page h (f .fits))
+  settled-of = rw (on-page (capacity + 1) (pageSize * p + (capacity + 1)) refl (omega arith)) (settled-page h (f .fits))
 
   root-fits : rootFits img p ≡ true
   unfolding rootFits
@@ -163,15 +157,15 @@ module _ (img : List ℕ) (p : ℕ) (h : Held) (f : RecordFits (h .settled) (h .
     unfolding namesOf
     names-of =
         rw (
-          le-ltb p 2 few,
-          lt-leb mostPages p many,
-          le-ltb (length img) (pageSize * p + pageSize) inside,
+          le-leb 2 p few,
+          lt-ltb p mostPages many,
+          le-leb (pageSize * p + pageSize) (length img) inside,
           on-page capacity (pageSize * p + capacity) refl (omega arith),
           in-trailer h (f .fits) 0,
-          two-on-page 4082 (pageSize * p + capacity + 2) (omega arith) (omega arith),
+          two-on-page (capacity + 2) (pageSize * p + (capacity + 2)) refl (omega arith),
           used-page h (f .fits),
-          le-ltb capacity (recordSize (h .row)) (f .fits),
-          two-on-page 4084 (pageSize * p + capacity + 4) (omega arith) (omega arith),
+          le-leb (recordSize (h .row)) capacity (f .fits),
+          two-on-page (capacity + 4) (pageSize * p + (capacity + 4)) refl (omega arith),
           holder-page h (f .fits) l,
           eq-eqb (h .holder) (h .holder) refl,
         )
@@ -180,4 +174,4 @@ module _ (img : List ℕ) (p : ℕ) (h : Held) (f : RecordFits (h .settled) (h .
     pub proxy-of : (level : ℕ) (w : State) → 2 ≤ w .left → isMarked (w .marks) p ≡ false
         → proxyOf img p (h .holder) level w ≡ asRec p (h .settled) (nodeOf img (recordBytes (h .row)) p 0 level (withMark w p))
     unfolding proxyStep entersOf
-    proxy-of level w a m = rw (names-of, root-fits, le-ltb (w .left) 2 a, m, settled-of, record-of)
+    proxy-of level w a m = rw (names-of, root-fits, le-leb 2 (w .left) a, m, settled-of, record-of)

@@ -7,7 +7,7 @@ use native.Mathlib.Nat.{add-assoc}
 use lib.ListN.{length, take, drop, getD, length-drop}
 use lib.Seq.{length-take-le, take-take, getD-take, getD-drop}
 use lib.Dec.{eqb}
-use Rattle.model.specs.Limits.{pageSize}
+use Rattle.model.specs.Limits.{pageSize, capacity}
 use Rattle.model.specs.Row.{Row, recordBytes, recordPage, recordOn}
 use Rattle.model.specs.Reading.{twoAt, pageOf, usedAt, backAt, settledAt}
 use Rattle.theory_check.specs.Tests.{stateOf}
@@ -25,7 +25,7 @@ module _ (img : List ℕ) (p : ℕ) where
   pub page-byte : (i : ℕ) → i < pageSize → getD (pageOf img p) i 0 ≡ getD img (pageSize * p + i) 0
   page-byte i h = getD-take pageSize (drop (pageSize * p) img) i 0 h ∙ getD-drop (pageSize * p) img i 0
 
-  pub page-two : (i : ℕ) → i < 4095 → twoAt (pageOf img p) i ≡ twoAt img (pageSize * p + i)
+  pub page-two : (i : ℕ) → i + 1 < pageSize → twoAt (pageOf img p) i ≡ twoAt img (pageSize * p + i)
   unfolding twoAt
   page-two i h = rw (page-byte i (omega arith), page-byte (i + 1) (omega arith), add-assoc)
 
@@ -37,9 +37,9 @@ module _ (img : List ℕ) (p : ℕ) where
       let s = pageOf img p in
       let long = page-long inside in
       let k = record-says s (page-bytes whole) long two in
-      let used = page-two 4082 (omega arith) in
+      let used = page-two (capacity + 2) (omega arith) in
       let front : take (usedAt s 0) s ≡ recordBytes r =
       take-take (usedAt s 0) pageSize (drop (pageSize * p) img) (omega (arith, k .used)) ∙ ap (λ (n : ℕ). take n (drop (pageSize * p) img)) used ∙ e in
       record-page s long k r front p
       ∙ ap₂ (λ (b h : ℕ). recordPage (recordOn p (eqb b 1) h r))
-      (page-byte 4081 (omega arith)) (page-two 4084 (omega arith) ∙ h)
+      (page-byte (capacity + 1) (omega arith)) (page-two (capacity + 4) (omega arith) ∙ h)

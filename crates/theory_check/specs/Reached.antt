@@ -9,18 +9,18 @@ use lib.Dec.{eqb, leb}
 use borrow.Author.Tests.{eqb-true, ne-eqb, eq-eqb, lt-leb}
 use Rattle.model.specs.Limits.{mostPages, pageSize, capacity}
 use Rattle.model.specs.Row.{Row, nil, agg, lit, rec, _⊹_, count, outside, standing, mayStand}
-use Rattle.model.specs.Reading.{twoAt, pageOf}
+use Rattle.model.specs.Reading.{pageOf, nameAt}
 use Rattle.theory_rows.specs.Image.{Stored}
 use Rattle.theory_rows.specs.Pages.{count-⊹}
 use Rattle.theory_check.specs.Tests.{isMarked, marked, stateOf}
 use Rattle.theory_check.specs.Marks.{IsMarks, marks-kept, is-marked}
 use Rattle.theory_check.specs.Walk.{State, Job, node, list}
-use Rattle.theory_check.specs.Steps.{from}
+use Rattle.theory_check.specs.Steps.{from, Entered}
 use Rattle.theory_check.specs.Heads.{AllBytes}
 use Rattle.theory_check.specs.Trailers.{state-two}
 use Rattle.theory_check.specs.Parts.{page-long, page-byte, page-record}
 use Rattle.theory_check.specs.Sums.{sum, sum-add, only, sum-only}
-use Rattle.theory_check.specs.Passes.{Enters, Passes, proxy, helper, literal, aggregate, empty, next}
+use Rattle.theory_check.specs.Passes.{Passes, proxy, helper, literal, aggregate, empty, next}
 use Rattle.theory_check.specs.Rows.{node-is}
 
 -- ── marks ──
@@ -45,8 +45,8 @@ new-mark m p q n x fresh e h = go (eqb q p) refl (rw e at h)
 module _ {img : List ℕ} where
   pub marks : {j : Job} {r : Row} {v : State} → Passes img j r v → IsMarks (from j .marks) → Marked (from j .marks) (v .marks) r
   marks (proxy {s = s} {w = w} h n g p) m =
-      let new = twoAt s 6 in
-      let low = g .known .low in
+      let new = nameAt s 0 in
+      let low = g .low in
       let k = marks p (marks-kept (w .marks) new m low) in
       record { kept = k .kept; once = λ q l. new-mark (w .marks) new q _ _ (g .fresh) (is-marked (w .marks) new q m low l) (k .once q l) }
   marks (helper h p) m = marks p m
@@ -81,21 +81,21 @@ pageIn (list s page holder level w) = page
 
 module _ (img : List ℕ) (whole : AllBytes img) (kept : (q : ℕ) → 2 ≤ q → q < length img / pageSize → stateOf (pageOf img q) ≡ 0 → ⊥) where
   -- a page that the walk enters has a record
-  state-entered : {p page : ℕ} {w : State} → Enters img p page w → stateOf (pageOf img p) ≡ 2
+  state-entered : {p page : ℕ} {w : State} → Entered img p page w → stateOf (pageOf img p) ≡ 2
   state-entered {p} g =
-      state-two (pageOf img p) (page-long img p (g .known .inside)) (page-byte img p capacity (omega arith) ∙ g .kind)
-      (kept p (g .past) (omega (arith, g .known .inside)))
+      state-two (pageOf img p) (page-long img p (g .inside)) (page-byte img p capacity (omega arith) ∙ g .kind)
+      (kept p (g .past) (omega (arith, g .inside)))
 
-  has-entered : {p page : ℕ} {w : State} → Enters img p page w → hasRecord img p ≡ true
+  has-entered : {p page : ℕ} {w : State} → Entered img p page w → hasRecord img p ≡ true
   has-entered {p} g =
       let low : leb p 1 ≡ false = lt-leb p 1 (g .past) in
-      let high : leb (length img / pageSize) p ≡ false = lt-leb (length img / pageSize) p (omega (arith, g .known .inside)) in
+      let high : leb (length img / pageSize) p ≡ false = lt-leb (length img / pageSize) p (omega (arith, g .inside)) in
       rw (low, high) (eq-eqb (stateOf (pageOf img p)) 2 (state-entered g))
 
   -- other pages are not named
   pub others : {j : Job} {r : Row} {v : State} → Passes img j r v → (q : ℕ) → hasRecord img q ≡ false → count q r ≡ 0
   others (proxy {s = s} h n g p) q e =
-      let other : eqb q (twoAt s 6) ≡ false = ne-eqb q (twoAt s 6) (λ d. true≢false (sym (has-entered g) ∙ ap (hasRecord img) (sym d) ∙ e)) in
+      let other : eqb q (nameAt s 0) ≡ false = ne-eqb q (nameAt s 0) (λ d. true≢false (sym (has-entered g) ∙ ap (hasRecord img) (sym d) ∙ e)) in
       rw other (omega (arith, others p q e))
   others (helper h p) q e = others p q e
   others (literal h l) q e = refl
@@ -106,13 +106,13 @@ module _ (img : List ℕ) (whole : AllBytes img) (kept : (q : ℕ) → 2 ≤ q �
   -- a page less is left for each name
   pub left : {j : Job} {r : Row} {v : State} → Passes img j r v → from j .left ≤ v .left + names img r
   left (proxy {s = s} {r = r} h n g p) =
-      let new = twoAt s 6 in
+      let new = nameAt s 0 in
       omega (
         arith,
         left p,
         sum-add (λ q. only new q + count q r) (λ q. 0) (length img / pageSize - 2) 2,
         sum-add (only new) (λ q. count q r) (length img / pageSize - 2) 2,
-        sum-only new (length img / pageSize - 2) 2 (g .past) (omega (arith, g .known .inside)),
+        sum-only new (length img / pageSize - 2) 2 (g .past) (omega (arith, g .inside)),
       )
   left (helper h p) = left p
   left (literal h l) = omega arith
@@ -125,7 +125,7 @@ module _ (img : List ℕ) (whole : AllBytes img) (kept : (q : ℕ) → 2 ≤ q �
   pub stored : {j : Job} {r : Row} {v : State} → Passes img j r v → Stored (pageOf img) (pageIn j) r
   unfolding mayStand standing
   stored (proxy {s = s} {page = page} {r = r} h n g p) =
-      (page-record img (twoAt s 6) whole (g .known .inside) (state-entered g) page (g .holder) r (node-is p .root refl), stored p, tt)
+      (page-record img (nameAt s 0) whole (g .inside) (state-entered g) page (g .holder) r (node-is p .root refl), stored p, tt)
   stored (helper h p) = stored p
   stored (literal h l) = tt
   stored (aggregate h l p) = (stored p, tt)

@@ -8,20 +8,21 @@ use lib.ListN.{length, drop, getD, length-drop, take-append-drop}
 use lib.Seq.{length-take-le, getD-take, getD-drop}
 use lib.Dec.{eqb}
 use borrow.Author.Tests.{eqb-true, eqb-false, ltb-true, leb-true, not-true}
-use Rattle.model.specs.Limits.{pageSize, capacity, mostContent, mostNode}
+use Rattle.model.specs.Limits.{pageSize, capacity, mostContent, mostNode, mostLevels}
 use Rattle.model.specs.Row.{Row, nil, agg, lit, rec, _⊹_, size, isNil, nodeCount, lone, two, header, bytes, recordBytes, standing, mayStand, isAgg, height}
 use Rattle.model.specs.Row.{noHead}
-use Rattle.model.specs.Reading.{twoAt, usedAt, settledAt, headAt}
+use Rattle.model.specs.Reading.{usedAt, settledAt, headAt, nameAt}
 use Rattle.theory_rows.specs.Keeps.{nodeCount-⊹}
 use Rattle.theory_rows.specs.Fits.{Fits, Shape, one, more, RecordFits}
 use Rattle.theory_rows.specs.Laws.{length-bytes, bytes-⊹}
 use Rattle.theory_rows.specs.Bound.{Fits-⊹}
 use Rattle.theory_rows.specs.Image.{length-record}
-use Rattle.theory_check.specs.Facts.{no, then-true, else-true}
-use Rattle.theory_check.specs.Tests.{sizeOf, shapeOf, twoChildren, rootFits}
+use Rattle.theory_decoding.specs.Valid.{both as and-both}
+use Rattle.theory_check.specs.Facts.{no}
+use Rattle.theory_check.specs.Tests.{wholeSize, shapeOf, twoChildren, rootFits}
 use Rattle.theory_check.specs.Walk.{State, Job, node, list, recordOf}
-use Rattle.theory_check.specs.Steps.{used-is, length-part}
-use Rattle.theory_check.specs.Heads.{Head, two-at, two-low, is-byte, all-drop, header-is}
+use Rattle.theory_check.specs.Steps.{length-part}
+use Rattle.theory_check.specs.Heads.{PassingNode, two-at, two-low, is-byte, all-drop, header-is}
 use Rattle.theory_check.specs.Passes.{Passes, proxy, helper, literal, aggregate, empty, next}
 
 -- ── rows ──
@@ -81,75 +82,75 @@ two-left (a ∷ b ∷ []) h = refl
 two-left (a ∷ b ∷ c ∷ r) h = absurd (omega arith)
 
 -- what may not stand there does not
-never : {A : Type 0} (s : List ℕ) (holder kind : ℕ) → Head s holder kind → mayStand holder kind ≡ false → A
-never s holder kind h e = no (sym e ∙ h .may)
+never : {A : Type 0} (s : List ℕ) (holder kind : ℕ) → PassingNode s holder kind → mayStand holder kind ≡ false → A
+never s holder kind h e = no (sym e ∙ h .node .may)
 
 module _ (s : List ℕ) (holder : ℕ) where
   -- the header with what stands inside
-  around : (kind : ℕ) → Head s holder kind → (n : ℕ) (x : List ℕ) → length x ≡ n → drop 6 s ≡ x → s ≡ header kind (headAt s 0) (6 + n) ++ x
+  around : (kind : ℕ) → PassingNode s holder kind → (n : ℕ) (x : List ℕ) → length x ≡ n → drop 6 s ≡ x → s ≡ header kind (headAt s 0) (6 + n) ++ x
   around kind h n x l e =
-      let m : length s ≡ 6 + n = omega (arith, h .long, length-drop 6 s, ap length e) in
+      let m : length s ≡ 6 + n = omega (arith, h .node .long, length-drop 6 s, ap length e) in
       header-is s holder kind h ∙ ap₂ (λ (n : ℕ) (x : List ℕ). header kind (headAt s 0) n ++ x) m e
 
-  is-rec : Head s holder 3 → length s ≡ 8 → s ≡ header 3 noHead 8 ++ two (twoAt s 6)
+  is-rec : PassingNode s holder 3 → length s ≡ 8 → s ≡ header 3 noHead 8 ++ two (nameAt s 0)
   unfolding shapeOf
   is-rec h n =
-      let l : twoAt s 2 ≡ 0 = eqb-true (twoAt s 2) 0 (h .shape) in
-      let x : drop 6 s ≡ two (twoAt s 6) =
+      let l : headAt s 0 .label ≡ 0 = eqb-true (headAt s 0 .label) 0 (h .node .shape) in
+      let x : drop 6 s ≡ two (nameAt s 0) =
       two-left (drop 6 s) (omega (arith, length-drop 6 s)) ∙ rw (getD-drop 6 s 0 0, getD-drop 6 s 1 0) (sym (two-at s 6 (h .all))) in
-      around 3 h 2 (two (twoAt s 6)) refl x ∙ rw l
+      around 3 h 2 (two (nameAt s 0)) refl x ∙ rw l
 
-  is-lit : Head s holder 2 → s ≡ bytes (lit (headAt s 0) (drop 6 s) nil)
+  is-lit : PassingNode s holder 2 → s ≡ bytes (lit (headAt s 0) (drop 6 s) nil)
   is-lit h = around 2 h (length (drop 6 s)) (drop 6 s) refl refl ∙ rw (append-nil (drop 6 s))
 
-  is-agg : Head s holder 1 → (r : Row) → drop 6 s ≡ bytes r → s ≡ bytes (agg (headAt s 0) r nil)
+  is-agg : PassingNode s holder 1 → (r : Row) → drop 6 s ≡ bytes r → s ≡ bytes (agg (headAt s 0) r nil)
   is-agg h r e = around 1 h (size r) (bytes r) (length-bytes r) e ∙ rw (append-nil (bytes r))
 
-  is-helper : Head s holder 4 → (r : Row) → drop 6 s ≡ bytes r → 2 ≤ nodeCount r → s ≡ recordBytes r
+  is-helper : PassingNode s holder 4 → (r : Row) → drop 6 s ≡ bytes r → 2 ≤ nodeCount r → s ≡ recordBytes r
   unfolding shapeOf
   is-helper h r e n =
-      let l : twoAt s 2 ≡ 0 = eqb-true (twoAt s 2) 0 (then-true (eqb (twoAt s 2) 0) (h .shape) .0) in
+      let l : headAt s 0 .label ≡ 0 = eqb-true (headAt s 0 .label) 0 (and-both (eqb (headAt s 0 .label) 0) _ (h .node .shape) .0) in
       around 4 h (size r) (bytes r) (length-bytes r) e ∙ rw (l, not-lone r n)
 
-  helper-pair : Head s holder 4 → twoChildren (drop 6 s) ≡ true
+  helper-pair : PassingNode s holder 4 → twoChildren (drop 6 s) ≡ true
   unfolding shapeOf
-  helper-pair h = then-true (eqb (twoAt s 2) 0) (h .shape) .1
+  helper-pair h = and-both (eqb (headAt s 0 .label) 0) _ (h .node .shape) .1
 
-pair-long : (s : List ℕ) → twoChildren s ≡ true → sizeOf s < length s
+pair-long : (s : List ℕ) → twoChildren s ≡ true → wholeSize s < length s
 unfolding twoChildren
-pair-long s e = ltb-true (sizeOf s) (length s) (else-true (eqb (sizeOf s) 0) e .1)
+pair-long s e = ltb-true (wholeSize s) (length s) (and-both (not (eqb (wholeSize s) 0)) _ e .1)
 
 module _ {img : List ℕ} where
   is : {j : Job} {r : Row} {v : State} → Passes img j r v → Is j r
   unfolding mayStand standing
   is (proxy {s = s} {holder = holder} h n g p) = record {
-    long = h .long;
+    long = h .node .long;
     plain = λ _. is-rec s holder h n;
     root = never s holder 3 h;
     shape = never s holder 3 h;
-    top = λ e. absurd (omega (arith, h .first));
+    top = λ e. absurd (omega (arith, h .node .first));
   }
   is (helper {s = s} {holder = holder} {r = r} h p) =
       let i = is p in
       let n = i .pair refl (helper-pair s holder h) in
       record {
-        long = h .long;
+        long = h .node .long;
         plain = never s holder 4 h;
         root = λ _. is-helper s holder h r (i .plain refl) n;
-        shape = λ _. elim [ true ↦ λ k. absurd (k refl (h .first)) | false ↦ λ _. more r n ];
-        top = λ e. absurd (omega (arith, h .first));
+        shape = λ _. elim [ true ↦ λ k. absurd (k refl (h .node .first)) | false ↦ λ _. more r n ];
+        top = λ e. absurd (omega (arith, h .node .first));
       }
   is (literal {s = s} {holder = holder} h l) = record {
-    long = h .long;
+    long = h .node .long;
     plain = λ _. is-lit s holder h;
     root = λ _. is-lit s holder h;
     shape = λ _ _ _. one refl;
-    top = λ e. absurd (omega (arith, h .first));
+    top = λ e. absurd (omega (arith, h .node .first));
   }
   is (aggregate {s = s} {holder = holder} {r = r} h l p) =
       let same = is-agg s holder h r (is p .plain refl) in
       record {
-        long = h .long;
+        long = h .node .long;
         plain = λ _. same;
         root = λ _. same;
         shape = λ _ _ _. one refl;
@@ -160,10 +161,10 @@ module _ {img : List ℕ} where
       let i = is p in
       let k = is q in
       record {
-        plain = λ e. sym (take-append-drop (sizeOf s) s) ∙ ap₂ _++_ (i .plain e) (k .plain e) ∙ sym (bytes-⊹ a r);
+        plain = λ e. sym (take-append-drop (wholeSize s) s) ∙ ap₂ _++_ (i .plain e) (k .plain e) ∙ sym (bytes-⊹ a r);
         pair = λ e t.
-            let x = some-node a (omega (arith, ap length (i .plain e), length-take-le (sizeOf s) s h)) in
-            let y = some-node r (omega (arith, ap length (k .plain e), length-drop (sizeOf s) s, pair-long s t)) in
+            let x = some-node a (omega (arith, ap length (i .plain e), length-take-le (wholeSize s) s h)) in
+            let y = some-node r (omega (arith, ap length (k .plain e), length-drop (wholeSize s) s, pair-long s t)) in
             omega (arith, nodeCount-⊹ a r);
       }
 
@@ -196,11 +197,11 @@ module _ {img : List ℕ} where
   pub fits : {j : Job} {r : Row} {v : State} → Passes img j r v → Fits r
   unfolding shapeOf
   fits (proxy {s = s} {r = r} h n g p) =
-      let used : usedAt img (pageSize * twoAt s 6) ≤ capacity = omega (arith, g .known .used, used-is img (twoAt s 6)) in
-      (record-fits img (twoAt s 6) r (is p) used _ (settled-root img (twoAt s 6) (g .root)), fits p, tt)
+      let used : usedAt img (pageSize * nameAt s 0) ≤ capacity = g .used in
+      (record-fits img (nameAt s 0) r (is p) used _ (settled-root img (nameAt s 0) (g .root)), fits p, tt)
   fits (helper h p) = fits p
   fits (literal {s = s} h l) =
-      let short : length (drop 6 s) ≤ mostContent = omega (arith, length-drop 6 s, leb-true (length s) mostNode (h .shape)) in
+      let short : length (drop 6 s) ≤ mostContent = omega (arith, length-drop 6 s, leb-true (length s) mostNode (h .node .shape)) in
       (record { label = two-low s 2 (h .all) }, short, is-byte (drop 6 s) (all-drop 6 s (h .all)), tt)
   fits (aggregate {s = s} h l p) = (record { label = two-low s 2 (h .all) }, fits p, tt)
   fits (empty e) = tt
@@ -213,10 +214,10 @@ levelOf (node s page holder level w) = level
 levelOf (list s page holder level w) = level
 
 module _ {img : List ℕ} where
-  pub levels : {j : Job} {r : Row} {v : State} → Passes img j r v → height r ≤ 25 - levelOf j
+  pub levels : {j : Job} {r : Row} {v : State} → Passes img j r v → height r ≤ mostLevels + 1 - levelOf j
   levels (proxy h n g p) = omega (arith, levels p)
   levels (helper h p) = levels p
   levels (literal h l) = omega arith
   levels (aggregate h l p) = omega (arith, levels p)
   levels (empty e) = omega arith
-  levels (next {level = level} {a = a} {r = r} l h p q) = height-⊹ (25 - level) a r (levels p) (levels q)
+  levels (next {level = level} {a = a} {r = r} l h p q) = height-⊹ (mostLevels + 1 - level) a r (levels p) (levels q)

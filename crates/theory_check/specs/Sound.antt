@@ -1,25 +1,25 @@
 -- The check is sound: an image that passes reads as a store.
 use mathlib.Core.Path.{_≡_, refl, sym, subst, _∙_}
 use mathlib.Core.List.{List}
-use mathlib.Core.Bool.{Bool, true, false, cond, not, _&&_, _||_, and-false}
+use mathlib.Core.Bool.{Bool, true, false, cond, not, _||_, and-false}
 use Prim.Native.Nat.{ℕ, _+_, _-_, _*_, _/_, _%_, _≤_, _<_}
 use native.Mathlib.Omega.{arith}
 use lib.ListN.{length, getD, replicate}
 use lib.Dec.{eqb, leb}
 use borrow.Author.Tests.{eqb-true, eqb-false, eq-eqb, leb-true, leb-false}
-use Rattle.model.specs.Limits.{mostPages, pageSize}
+use Rattle.model.specs.Limits.{mostPages, pageSize, capacity}
 use Rattle.model.specs.Row.{Row, store, Config, count, outside, recordPage, standing, mayStand, recordOn}
 use Rattle.model.specs.Reading.{Reads, lengthOk, configOn, pageOf, backAt, settledAt}
 use Rattle.theory_rows.specs.Fits.{Fits, Placed, Valid}
 use Rattle.theory_decoding.specs.Valid as valid
 use Rattle.theory_decoding.specs.Valid.{valid-holds}
-use Rattle.theory_check.specs.Facts.{then-true, both}
+use Rattle.theory_check.specs.Facts.{both, not-then, not-else}
 use Rattle.theory_check.specs.Tests.{isMarked, stateOf, settingsOk, firstOk}
 use Rattle.theory_check.specs.Walk.{State, state, recordOf, node}
 use Rattle.theory_check.specs.Check.{trailersOf, walkOf, walkOk, checkBy}
 use Rattle.theory_check.specs.Marks.{marks-none}
 use Rattle.theory_check.specs.Heads.{AllBytes}
-use Rattle.theory_check.specs.Trailers.{not-then, not-else, record-says, free-says, SettingsIs, settings-say}
+use Rattle.theory_check.specs.Trailers.{record-says, free-says, SettingsIs, settings-say}
 use Rattle.theory_check.specs.Passes.{Passes, passes, record-bytes}
 use Rattle.theory_check.specs.Rows.{node-is, first-byte, record-fits, fits, levels}
 use Rattle.theory_check.specs.Parts.{page-bytes, page-long, page-byte, page-two, page-record}
@@ -47,19 +47,19 @@ check-says img e =
     let k = trailersOf img in
     let length-ok = not-else (lengthOk n) (λ z. omega arith) e in
     let trailers-ok = not-then (eqb k 0) (λ z. omega arith) (length-ok .1) in
-    let walk-ok = then-true (eqb (getD img pageSize 0) 1) (not-else (walkOk img k) (λ z. omega arith) (trailers-ok .1) .0) in
-    let sizes = valid.both (eqb (n % pageSize) 0 && leb 2 (n / pageSize)) (leb (n / pageSize) mostPages) (length-ok .0) in
-    let least = valid.both (eqb (n % pageSize) 0) (leb 2 (n / pageSize)) (sizes .0) in
+    let walk-ok = valid.both _ _ (not-else (walkOk img k) (λ z. omega arith) (trailers-ok .1) .0) in
+    let sizes = valid.both _ _ (length-ok .0) in
+    let least = valid.both _ _ (sizes .0) in
     let some : 0 ≡ k → ⊥ = λ z. eqb-false k 0 (trailers-ok .0) (sym z) in
-    let settings-ok = not-else (settingsOk (pageOf img 0) (n / pageSize)) {n = k} some refl in
-    let first-ok = not-else (firstOk (pageOf img 1)) some (settings-ok .1) in
+    let pages-ok = not-else _ {n = k} some refl in
+    let first-ok = valid.both _ _ (pages-ok .0) in
     record {
       whole = eqb-true (n % pageSize) 0 (least .0);
       few = leb-true 2 (n / pageSize) (least .1);
       many = leb-true (n / pageSize) mostPages (sizes .1);
-      settings = settings-ok .0;
-      first = first-ok .0;
-      scanned = subst (Scanned img (n / pageSize - 2) 2 0) (first-ok .1) (scan-says img (n / pageSize - 2) 2 0 (λ z. some (sym z ∙ first-ok .1)));
+      settings = first-ok .0;
+      first = first-ok .1;
+      scanned = subst (Scanned img (n / pageSize - 2) 2 0) (pages-ok .1) (scan-says img (n / pageSize - 2) 2 0 (λ z. some (sym z ∙ pages-ok .1)));
       top = eqb-true (getD img pageSize 0) 1 (walk-ok .0);
       ended = eqb-true (walkOf img k .walk .left) 1 (walk-ok .1);
     }
@@ -73,13 +73,12 @@ record FirstIs (img : List ℕ) : Type 0 where
 first-says : (img : List ℕ) → firstOk (pageOf img 1) ≡ true → FirstIs img
 unfolding firstOk
 first-says img e =
-    let s = pageOf img 1 in
-    let two = then-true (eqb (stateOf s) 2) e in
-    let one = then-true (eqb (settledAt s 0) 1) (two .1) in
+    let holder = valid.both _ _ e in
+    let settled = valid.both _ _ (holder .0) in
     record {
-      stands = eqb-true (stateOf s) 2 (two .0);
-      settled = sym (page-byte img 1 4081 (omega arith)) ∙ eqb-true (settledAt s 0) 1 (one .0);
-      holder = sym (page-two img 1 4084 (omega arith)) ∙ eqb-true (backAt s 0) 0 (one .1);
+      stands = eqb-true _ _ (settled .0);
+      settled = sym (page-byte img 1 (capacity + 1) (omega arith)) ∙ eqb-true _ _ (settled .1);
+      holder = sym (page-two img 1 (capacity + 4) (omega arith)) ∙ eqb-true _ _ (holder .1);
     }
 
 -- ── the store ──
@@ -101,7 +100,7 @@ module _ (img : List ℕ) (bytes : AllBytes img) (c : Checked img) (root : Row) 
 
   settings : SettingsIs (pageOf img 0) pages
   settings =
-      settings-say (pageOf img 0) pages (page-bytes img 0 bytes) (page-long img 0 (inside 0 (omega (arith, c .few)))) (c .few) (c .many) (c .settings)
+      settings-say (pageOf img 0) pages (page-bytes img 0 bytes) (page-long img 0 (inside 0 (omega (arith, c .few)))) (c .settings)
 
   first : FirstIs img
   first = first-says img (c .first)
@@ -159,7 +158,7 @@ module _ (img : List ℕ) (bytes : AllBytes img) (c : Checked img) (root : Row) 
   rows =
       let s = pageOf img 1 in
       let used = record-says s (page-bytes img 1 bytes) (page-long img 1 (inside 1 (omega (arith, c .few)))) (first .stands) .used in
-      (record-fits img 1 root (node-is p) (omega (arith, page-two img 1 4082 (omega arith))) true (λ _ e. omega (arith, c .top)), fits p, tt)
+      (record-fits img 1 root (node-is p) (omega (arith, page-two img 1 (capacity + 2) (omega arith))) true (λ _ e. omega (arith, c .top)), fits p, tt)
 
   is-valid : Valid (st img) root
   is-valid = record {

@@ -1,49 +1,37 @@
 -- The single tests of the check, on the bytes.
-use mathlib.Core.Bool.{Bool, true, false, cond, not}
-use mathlib.Core.List.{List, [], _∷_}
+use mathlib.Core.Bool.{Bool, true, cond, not, _&&_}
+use mathlib.Core.List.{List}
 use Prim.Native.Nat.{ℕ, _+_, _-_, _*_, _/_, _%_, _^_}
 use lib.ListN.{length, take, drop, getD, set}
 use lib.Bits.{bitOr}
 use lib.Dec.{ltb, leb, eqb}
 use Rattle.model.specs.Limits.{mostPages, pageSize, capacity, mostNode, settingsSize}
-use Rattle.model.specs.Row.{mayStand}
-use Rattle.model.specs.Reading.{twoAt, sizeAt, usedAt, backAt, stateAt, settledAt}
+use Rattle.model.specs.Row.{mayStand, every, inRange}
+use Rattle.model.specs.Reading.{twoAt, kindAt, headAt, sizeAt, stateAt, settledAt, usedAt, backAt, configOn}
 
 -- ── nodes ──
 
 -- The size of the node that some bytes start with, 0 where no whole node stands there.
-unfoldable pub sizeOf : List ℕ → ℕ
-sizeOf s =
-    cond (ltb (length s) 6) 0
-    (cond (ltb (twoAt s 4) 6) 0
-    (cond (ltb (length s) (twoAt s 4)) 0
-    (twoAt s 4)))
+unfoldable pub wholeSize : List ℕ → ℕ
+wholeSize s = cond (leb 6 (length s) && leb 6 (sizeAt s 0) && leb (sizeAt s 0) (length s)) (sizeAt s 0) 0
 
 -- A list of nodes starts with a whole node and goes on after it.
 unfoldable pub twoChildren : List ℕ → Bool
-twoChildren s = cond (eqb (sizeOf s) 0) false (ltb (sizeOf s) (length s))
+twoChildren s = not (eqb (wholeSize s) 0) && ltb (wholeSize s) (length s)
 
 -- What a kind asks of its node.
 unfoldable pub shapeOf : List ℕ → (kind : ℕ) → Bool
 shapeOf s kind =
-    cond (eqb kind 3)
-    (eqb (twoAt s 2) 0)
-    (cond (eqb kind 4)
-    (cond (eqb (twoAt s 2) 0) (twoChildren (drop 6 s)) false)
+    cond (eqb kind 3) (eqb (headAt s 0 .label) 0)
+    (cond (eqb kind 4) (eqb (headAt s 0 .label) 0 && twoChildren (drop 6 s))
     (cond (eqb kind 2) (leb (length s) mostNode) true))
 
 -- The kind of the node that some bytes are, 0 where it is not well formed by itself or may not stand in the holder.
-unfoldable pub headOf : List ℕ → (holder : ℕ) → ℕ
-headOf s holder =
-    cond (ltb (length s) 6) 0
-    (cond (ltb 4 (getD s 0 0)) 0
-    (cond (mayStand holder (getD s 0 0))
-    (cond (eqb (getD s 1 0) 0)
-    (cond (eqb (twoAt s 4) (length s))
-    (cond (shapeOf s (getD s 0 0)) (getD s 0 0) 0)
-    0)
-    0)
-    0))
+unfoldable pub passingKind : List ℕ → (holder : ℕ) → ℕ
+passingKind s holder =
+    let kind = kindAt s 0 in
+    let placed = leb 6 (length s) && leb kind 4 && mayStand holder kind in
+    cond (placed && eqb (getD s 1 0) 0 && eqb (sizeAt s 0) (length s) && shapeOf s kind) kind 0
 
 -- ── marks: a bit for each page ──
 
@@ -58,71 +46,35 @@ marked m p = set m (p / 8) (bitOr (getD m (p / 8) 0) (1 * 2 ^ (p % 8) % 256))
 -- By its trailer page p holds a record whose proxy stands in the record of a page.
 unfoldable pub namesOf : List ℕ → (p page : ℕ) → Bool
 namesOf img p page =
-    cond (ltb p 2) false
-    (cond (leb mostPages p) false
-    (cond (ltb (length img) (pageSize * p + pageSize)) false
-    (cond (eqb (stateAt img (pageSize * p)) 1)
-    (cond (ltb capacity (twoAt img (pageSize * p + capacity + 2))) false
-    (eqb (sizeAt img (pageSize * p + capacity)) page))
-    false)))
+    let at = pageSize * p in
+    let inside = leb 2 p && ltb p mostPages && leb (at + pageSize) (length img) in
+    inside && eqb (stateAt img at) 1 && leb (usedAt img at) capacity && eqb (backAt img at) page
 
 -- A settled record's root is no helper.
 unfoldable pub rootFits : List ℕ → (p : ℕ) → Bool
-rootFits img p = cond (eqb (settledAt img (pageSize * p)) 1) (not (eqb (getD img (pageSize * p) 0) 4)) true
+rootFits img p = cond (eqb (settledAt img (pageSize * p)) 1) (not (eqb (kindAt img (pageSize * p)) 4)) true
 
--- A test holds of every byte.
-unfoldable pub all : (ℕ → Bool) → List ℕ → Bool
-all f [] = true
-all f (x ∷ xs) = cond (f x) (all f xs) false
+unfoldable pub allZero : List ℕ → Bool
+allZero s = every (λ x. eqb x 0) s
 
-abbrev pub allZero : List ℕ → Bool
-allZero = all (λ x. eqb x 0)
+-- A record's page by its trailer and its tail.
+abbrev pub recordState : (page : List ℕ) → Bool
+recordState s =
+    let n = usedAt s 0 in
+    let trailer = eqb (stateAt s 0) 1 && leb (settledAt s 0) 1 && leb n capacity in
+    trailer && allZero (take (capacity - n) (drop n s)) && allZero (take 10 (drop (capacity + 6) s))
 
-abbrev pub entryOk : ℕ → Bool
-entryOk x = cond (eqb x 0) true (eqb x 2)
-
-abbrev pub matrixOk : List ℕ → Bool
-matrixOk = all entryOk
-
--- What a page by its trailer and its tail is: 0 against the rules, 1 free, 2 a record's.
+-- What a page is: 0 against the rules, 1 free, 2 a record's.
 unfoldable pub stateOf : (page : List ℕ) → ℕ
-stateOf s =
-    cond (eqb (stateAt s 0) 0) (cond (allZero s) 1 0)
-    (cond (eqb (stateAt s 0) 1)
-    (cond (ltb 1 (settledAt s 0)) 0
-    (cond (ltb capacity (usedAt s 0)) 0
-    (cond (allZero (take (capacity - usedAt s 0) (drop (usedAt s 0) s)))
-    (cond (allZero (take 10 (drop 4086 s))) 2 0)
-    0)))
-    0)
-
-unfoldable pub numbersOk : (page : List ℕ) → (pages : ℕ) → Bool
-numbersOk s pages =
-    cond (eqb (twoAt s 0) pages)
-    (cond (ltb (getD s 2 0) 64) false
-    (cond (ltb 192 (getD s 2 0)) false
-    (cond (eqb (getD s 3 0) 0)
-    (cond (ltb 512 (twoAt s 4)) false
-    (eqb (twoAt s 6) 1))
-    false)))
-    false
+stateOf s = cond (eqb (stateAt s 0) 0) (cond (allZero s) 1 0) (cond (recordState s) 2 0)
 
 -- Page 0, for an image of so many pages.
 unfoldable pub settingsOk : (page : List ℕ) → (pages : ℕ) → Bool
 settingsOk s pages =
-    cond (numbersOk s pages)
-    (cond (allZero (take 8 (drop 8 s)))
-    (cond (matrixOk (take 256 (drop 16 s)))
-    (cond (allZero (take (capacity - settingsSize) (drop settingsSize s)))
-    (cond (eqb (twoAt s capacity) 2)
-    (cond (eqb (usedAt s 0) settingsSize)
-    (allZero (take 12 (drop 4084 s)))
-    false) false) false) false) false) false
+    let numbers = eqb (twoAt s 0) pages && inRange (configOn s) && eqb (getD s 3 0) 0 && allZero (take 8 (drop 8 s)) in
+    let trailer = eqb (twoAt s capacity) 2 && eqb (usedAt s 0) settingsSize && allZero (take 12 (drop (capacity + 4) s)) in
+    numbers && allZero (take (capacity - settingsSize) (drop settingsSize s)) && trailer
 
 -- Page 1: a settled record with no holder.
 unfoldable pub firstOk : (page : List ℕ) → Bool
-firstOk s =
-    cond (eqb (stateOf s) 2)
-    (cond (eqb (settledAt s 0) 1)
-    (eqb (backAt s 0) 0)
-    false) false
+firstOk s = eqb (stateOf s) 2 && eqb (settledAt s 0) 1 && eqb (backAt s 0) 0

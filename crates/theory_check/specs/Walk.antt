@@ -1,14 +1,14 @@
 -- The walk: what stands in an image from a node on, as a row, with the state of the walk.
-use mathlib.Core.Bool.{Bool, false, cond, not}
+use mathlib.Core.Bool.{Bool, cond, not, _&&_}
 use mathlib.Core.List.{List}
 use Prim.Native.Nat.{ℕ, _+_, _-_, _*_}
 use lib.ListN.{length, take, drop}
-use lib.Dec.{ltb, eqb}
-use Rattle.model.specs.Limits.{pageSize}
+use lib.Dec.{ltb, leb, eqb}
+use Rattle.model.specs.Limits.{pageSize, mostLevels}
 use Rattle.model.specs.Row.{Head, Row, nil, agg, lit, rec, _⊹_}
 use Rattle.model.specs.Reading.{headAt, nameAt, usedAt, settledAt}
 use Rattle.theory_check.specs.Rec.{run}
-use Rattle.theory_check.specs.Tests.{sizeOf, headOf, isMarked, marked, namesOf, rootFits}
+use Rattle.theory_check.specs.Tests.{wholeSize, passingKind, isMarked, marked, namesOf, rootFits}
 
 -- The state of the walk: 0 where it is refused, else one more than the record pages still to be reached; and a mark for each page.
 pub record State : Type 0 where
@@ -26,8 +26,7 @@ withMark w p = state (w .left - 1) (marked (w .marks) p)
 
 -- The walk can go on in page p, whose proxy stands in the record of `page`.
 unfoldable pub entersOf : List ℕ → (p page : ℕ) → State → Bool
-entersOf img p page w =
-    cond (namesOf img p page) (cond (rootFits img p) (cond (ltb (w .left) 2) false (not (isMarked (w .marks) p))) false) false
+entersOf img p page w = namesOf img p page && rootFits img p && leb 2 (w .left) && not (isMarked (w .marks) p)
 
 pub record Decoded : Type 0 where
   pub row : Row
@@ -76,7 +75,7 @@ module _ (img : List ℕ) (call : Job → Decoded) where
       (cond (eqb kind 3)
       (cond (eqb (length s) 8) (proxyStep (nameAt s 0) page level w) (stop w))
       (cond (eqb kind 4) (call (list (drop 6 s) page 4 level w))
-      (cond (ltb 24 level) (stop w)
+      (cond (ltb mostLevels level) (stop w)
       (cond (eqb kind 2) (record { row = lit (headAt s 0) (drop 6 s) nil; walk = w })
       (asAgg (headAt s 0) (call (list (drop 6 s) page 1 (level + 1) w)))))))
 
@@ -89,10 +88,10 @@ module _ (img : List ℕ) (call : Job → Decoded) where
   listStep s page holder level w =
       cond (eqb (length s) 0) (record { row = nil; walk = w })
       (cond (eqb (w .left) 0) (record { row = nil; walk = w })
-      (cond (eqb (sizeOf s) 0) (stop w) (moreStep s page holder level w (sizeOf s))))
+      (cond (eqb (wholeSize s) 0) (stop w) (moreStep s page holder level w (wholeSize s))))
 
   abbrev pub step : Job → Decoded
-  step (node s page holder level w) = nodeStep s page holder level w (headOf s holder)
+  step (node s page holder level w) = nodeStep s page holder level w (passingKind s holder)
   step (list s page holder level w) = listStep s page holder level w
 
 -- A job's outcome in an image.

@@ -1,11 +1,11 @@
 -- The walk over the bytes of a row whose records stand on their pages gives the row.
 use mathlib.Core.Path.{_≡_, refl, ap, _∙_}
 use mathlib.Core.Bool.{Bool, true, cond, _&&_}
-use mathlib.Core.List.{List}
+use mathlib.Core.List.{List, []}
 use Prim.Native.Nat.{ℕ, _+_, _-_, _*_, _≤_, _<_}
 use native.Mathlib.Omega.{arith}
 use lib.ListN.{length}
-use Rattle.model.specs.Limits.{mostPages, pageSize, capacity}
+use Rattle.model.specs.Limits.{mostPages, pageSize, capacity, mostLevels}
 use Rattle.model.specs.Row.{Row, nil, agg, lit, rec, size, lone, two, bytes, Held, mayStand, byTable, height, recordOn, noHead}
 use Rattle.model.specs.Reading.{pageOf}
 use Rattle.theory_rows.specs.Fits.{Fits}
@@ -13,9 +13,10 @@ use Rattle.theory_rows.specs.Laws.{length-bytes}
 use Rattle.theory_rows.specs.Image.{Stored}
 use Rattle.theory_decoding.specs.Valid.{both, names-own}
 use Rattle.theory_decoding.specs.Steps.{recordCount}
+use Rattle.theory_check.specs.Steps.{list-none}
 use Rattle.theory_check.specs.Tests.{marked}
 use Rattle.theory_check.specs.Walk.{state, Decoded, asAgg, asRec, withMark, listOf}
-use Rattle.theory_check.specs.Nodes.{list-none, list-node, agg-node, lit-node, rec-node, record-node}
+use Rattle.theory_check.specs.Nodes.{list-node, agg-node, lit-node, rec-node, record-node}
 use Rattle.theory_check.specs.Pages.{proxy-of}
 use Rattle.theory_check.specs.Fresh.{marksAfter, Fresh, fresh-after}
 
@@ -31,11 +32,11 @@ three a b c e =
 
 module _ (img : List ℕ) (pages : ℕ) (many : pages ≤ mostPages) (long : length img ≡ pageSize * pages) where
   pub walked : (row : Row) (page holder level left k : ℕ) (m : List ℕ) → Fits row → size row ≤ capacity → byTable holder row ≡ true
-      → Stored (pageOf img) page row → page < 65536 → height row + level ≤ 25 → Fresh pages m row → left ≡ recordCount row + k → 1 ≤ k
+      → Stored (pageOf img) page row → page < 65536 → height row + level ≤ mostLevels + 1 → Fresh pages m row → left ≡ recordCount row + k → 1 ≤ k
       → listOf img (bytes row) page holder level (state left m) ≡ done row k m
   walked nil page holder level left k m f z t s p h u e l =
       let same : left ≡ k = omega arith in
-      rw same (list-none img page level (state k m) holder)
+      rw same (list-none img [] page holder level (state k m) refl)
   walked (agg d cs rest) page holder level left k m f z t s p h u e l =
       let c = three (mayStand holder 1) (byTable 1 cs) (byTable holder rest) t in
       let w = state left m in

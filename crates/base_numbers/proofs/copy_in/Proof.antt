@@ -32,8 +32,11 @@ loop-less : tie.Need-loop-less Inv-loop μ-loop
 loop-less c = omega arith
 
 loop-again : tie.Need-loop-again Inv-loop μ-loop
-loop-again c =
-    (copy-turn _ _ _ _ _ (c .before .before .loop .inv .0) (c .before .before .before .pre) (c .before .loop-test .taken), (omega arith, simp length-set (omega arith)))
+loop-again c = (
+  copy-turn _ _ _ _ _ (c .before .before .loop .inv .0) (c .before .before .before .pre)
+      (c .before .loop-test .taken),
+  (omega arith, simp length-set (omega arith)),
+)
 
 same-length : tie.Need-same-length Inv-loop μ-loop
 same-length c = c .before .loop .inv .1 .1

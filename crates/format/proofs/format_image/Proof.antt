@@ -2,7 +2,7 @@
 use mathlib.Core.Path.{sym, _∙_}
 use borrow.Author.Needs.{needs}
 use borrow.Author.Tests.{not-true, not-false}
-use Rattle.format.specs.Call.{length-says, outcome, refused-1, refused-2, accepted, ready}
+use Rattle.format.specs.Call.{outcome, refused-1, refused-2, accepted, ready}
 use Rattle.format.proofs.format_image.Statement.{statement}
 use Rattle.format.proofs.format_image.Tie as tie
 
@@ -13,9 +13,7 @@ returns : tie.Need-returns
 returns c = outcome _ _ _ _ _ _ (refused-1 _ _ _ _ (sym (c .before .length-ok .ensures) ∙ not-true _ (c .if1 .taken)))
 
 settings-fit-requires : tie.Need-settings-fit-requires
-settings-fit-requires c κs =
-    let l = length-says _ (sym (c .before .length-ok .ensures) ∙ not-false _ (c .if1 .left)) in
-    (l .few, l .many)
+settings-fit-requires c κs = search needs
 
 returns-2 : tie.Need-returns-2
 returns-2 c =
@@ -32,7 +30,8 @@ same-length c = search needs
 
 returns-3 : tie.Need-returns-3
 returns-3 c =
-    let long = sym (c .before .before .before .before .before .before .before .length-ok .ensures) ∙ not-false _ (c .before .before .before .before .before .before .if1 .left) in
+    let i = c .before .before .before .before .before .before in
+    let long = sym (i .before .length-ok .ensures) ∙ not-false _ (i .if1 .left) in
     let fit = sym (c .before .before .before .before .before .settings-fit .ensures) ∙ not-false _ (c .before .before .before .before .if2 .left) in
     let o = outcome _ _ _ _ _ _ (accepted _ _ _ _ long fit) in
     (o .0, c .before .before .write-first .ensures ∙ o .1)

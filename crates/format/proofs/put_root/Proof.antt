@@ -16,23 +16,29 @@ put16-requires-3 : tie.Need-put16-requires-3
 put16-requires-3 c κs = omega (arith, whole (c .before .before .before .before .before .before .before .before .before .before .pre))
 
 put16-requires-4 : tie.Need-put16-requires-4
-put16-requires-4 c κs = omega (arith, whole (c .before .before .before .before .before .before .before .before .before .before .before .before .before .before .pre))
+put16-requires-4 c κs =
+    let p = c .before .before .before .before .before .before .before .before .before .before .before .before .before .before .pre in
+    omega (arith, whole p)
 
 put16-requires-5 : tie.Need-put16-requires-5
-put16-requires-5 c κs = omega (arith, whole (c .before .before .before .before .before .before .before .before .before .before .before .before .before .before .before .before .before .before .pre))
+put16-requires-5 c κs =
+    let p = c .before .before .before .before .before .before .before .before .before .before .before .before .before .before .before .before
+    .before .before .pre in
+    omega (arith, whole p)
 
 same-length : tie.Need-same-length
 same-length c = search needs
 
 returns : tie.Need-returns
 returns c =
-    let start = c .before .before .before .before .before .before .before .before .before .before .before .before .before .before .before .before .before .before .before .before .before in
-    root-written _ _ _ _ _ _ _ (start .fits .label .fits) (start .pre)
-    (c .before .before .before .before .before .before .before .before .before .before .before .before .before .before .before .before .before .before .put16 .ensures)
-    (c .before .before .before .before .before .before .before .before .before .before .before .before .before .before .put162 .ensures)
-    (c .before .before .before .before .before .before .before .before .before .before .put163 .ensures)
-    (c .before .before .before .before .before .before .put164 .ensures)
-    (c .before .before .put165 .ensures)
+    let w5 = c .before .before in
+    let w4 = w5 .before .before .before .before in
+    let w3 = w4 .before .before .before .before in
+    let w2 = w3 .before .before .before .before in
+    let w1 = w2 .before .before .before .before in
+    let s = w1 .before .before .before in
+    root-written _ _ _ _ _ _ _ (s .fits .label .fits) (s .pre) (w1 .put16 .ensures) (w2 .put162 .ensures) (w3 .put163 .ensures)
+    (w4 .put164 .ensures) (w5 .put165 .ensures)
 
 pub put-root-spec : {M : Type 1} → statement M
 put-root-spec =

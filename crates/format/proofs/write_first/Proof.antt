@@ -1,8 +1,8 @@
 -- `format::write_first`: the image is cleared, and its first two pages are written.
-use denote.Ref.{now}
 use mathlib.Core.Path.{_≡_, _∙_}
 use Prim.Native.Nat.{_*_}
 use native.Mathlib.Omega.{arith}
+use denote.Ref.{now}
 use borrow.Author.Needs.{needs}
 use lib.ListN.{length}
 use Rattle.model.specs.Limits.{pageSize}
@@ -17,7 +17,9 @@ zeroed c = cleared (now (c .before .before .before .before .args .image)) (c .cl
 
 -- and what put_settings leaves is a page.
 paged : (c : tie.After-put-settings) → length (c .put-settings .last .0) ≡ pageSize
-paged c = c .put-settings .kept .0 ∙ whole (page-0 _ _ (c .before .before .before .before .before .before .before .before .pre .1) (zeroed (c .before .before .before .before)))
+paged c =
+    let z = c .before .before .before .before in
+    c .put-settings .kept .0 ∙ whole (page-0 _ _ (z .before .before .before .before .pre .1) (zeroed z))
 
 clear-requires : tie.Need-clear-requires
 clear-requires c κs = search needs
@@ -32,7 +34,10 @@ part-put-settings-end : tie.Need-part-put-settings-end
 part-put-settings-end c = omega (arith, room _ _ (c .before .before .before .before .before .before .pre .1) (zeroed (c .before .before)))
 
 put-settings-requires : tie.Need-put-settings-requires
-put-settings-requires c κs = (page-0 _ _ (c .before .before .before .before .before .before .before .pre .1) (zeroed (c .before .before .before)), numbers-of _ (c .before .before .before .before .before .before .before .pre .1))
+put-settings-requires c κs =
+    let z = c .before .before .before in
+    let ok = z .before .before .before .before .pre .1 in
+    (page-0 _ _ ok (zeroed z), numbers-of _ ok)
 
 sub-put-root : tie.Need-sub-put-root
 sub-put-root c = search needs
@@ -41,19 +46,25 @@ part-put-root-start : tie.Need-part-put-root-start
 part-put-root-start c = search needs
 
 part-put-root-end : tie.Need-part-put-root-end
-part-put-root-end c = room-1 _ _ (c .before .before .before .before .before .before .before .before .before .before .pre .1) (zeroed (c .before .before .before .before .before .before)) (c .before .before .put-settings .last .0) (paged (c .before .before))
+part-put-root-end c =
+    let p = c .before .before in
+    let z = p .before .before .before .before in
+    room-1 _ _ (z .before .before .before .before .pre .1) (zeroed z) (p .put-settings .last .0) (paged p)
 
 put-root-requires : tie.Need-put-root-requires
-put-root-requires c κs = page-1 _ _ (c .before .before .before .before .before .before .before .before .before .before .before .pre .1) (zeroed (c .before .before .before .before .before .before .before)) (c .before .before .before .put-settings .last .0) (paged (c .before .before .before))
+put-root-requires c κs =
+    let p = c .before .before .before in
+    let z = p .before .before .before .before in
+    page-1 _ _ (z .before .before .before .before .pre .1) (zeroed z) (p .put-settings .last .0) (paged p)
 
 same-length : tie.Need-same-length
 same-length c = search needs
 
 returns : tie.Need-returns
 returns c =
-    all-written _ _ (c .before .before .before .before .before .before .before .before .before .before .before .before .before .before .pre .1) (zeroed (c .before .before .before .before .before .before .before .before .before .before)) _ (paged (c .before .before .before .before .before .before)) _ _
-    (c .before .before .before .before .before .before .put-settings .ensures)
-    (c .before .before .put-root .ensures)
+    let p = c .before .before .before .before .before .before in
+    let z = p .before .before .before .before in
+    all-written _ _ (z .before .before .before .before .pre .1) (zeroed z) _ (paged p) _ _ (p .put-settings .ensures) (c .before .before .put-root .ensures)
 
 pub write-first-spec : {M : Type 1} → statement M
 write-first-spec =

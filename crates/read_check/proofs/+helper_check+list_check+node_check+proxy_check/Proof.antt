@@ -10,13 +10,14 @@ use borrow.Fn.Kinds.{In}
 use borrow.Fn.PlainCycle.{Measures, is, falls, and}
 use Rattle.model.specs.Limits.{pageSize}
 use Rattle.model.specs.Row.{nil}
-use Rattle.theory_check.specs.Tests.{sizeOf}
+use Rattle.theory_check.specs.Tests.{wholeSize}
 use Rattle.theory_check.specs.Walk.{State, state, node, Decoded, listOf, proxyOf}
-use Rattle.theory_check.specs.Facts.{rest-is}
-use Rattle.theory_check.specs.Steps.{less, length-part, used-is}
-use Rattle.read_check.proofs.Calls.{passes, fails}
-use Rattle.read_check.proofs.Leaves.{aggregate-head}
-use Rattle.read_check.proofs.Walks.{goes, headed, sized, node-inside, list-none, list-bad, list-stop, On, Counted, on-end, counted-end, turn, turn-count, turn-childless, turn-literal, node-3-bad, node-3, node-4, node-deep, node-2, node-none, came-at, wide-at, came-stop, came-literal, proxy-no, proxy-done, node-small, count-small}
+use Rattle.theory_check.specs.Facts.{rest-is, passes, fails}
+use Rattle.theory_check.specs.Steps.{less, length-part, list-none}
+use Rattle.read_nodes.specs.Leaves.{sized, aggregate-head}
+use Rattle.read_check.proofs.Walks.{goes, headed, node-inside, list-bad, list-stop, On, Counted, on-end, counted-end, Past, turn, turn-childless}
+use Rattle.read_check.proofs.Walks.{turn-literal, node-3-bad, node-3, node-4, node-deep, node-2, node-none, came-at, wide-at, came-stop, came-literal}
+use Rattle.read_check.proofs.Walks.{proxy-no, proxy-done, node-small, count-small}
 use Rattle.read_check.proofs.Chains.{Chain, chain}
 use Rattle.read_check.proofs.helper_check.Reads as helper-check
 use Rattle.read_check.proofs.helper_check.Kinds as helper-check-kinds
@@ -30,14 +31,15 @@ use Rattle.read_check.proofs.+helper_check+list_check+node_check+proxy_
 use Rattle.read_check.proofs.proxy_check.Reads as proxy-check
 use Rattle.read_check.proofs.proxy_check.Kinds as proxy-check-kinds
 use Rattle.read_check.proofs.+helper_check+list_check+node_check+proxy_check.Lts-proxy_check as proxy-check-lts
-use Rattle.read_check.proofs.aggregate.Reads as aggregate-reads
-use Rattle.read_check.proofs.enters.Reads as enters-reads
-use Rattle.read_check.proofs.head.Reads as head-reads
-use Rattle.read_check.proofs.literal.Reads as literal-reads
-use Rattle.read_check.proofs.only.Reads as only-reads
-use Rattle.read_check.proofs.set_mark.Reads as set-mark-reads
-use Rattle.read_check.proofs.size_of.Reads as size-of-reads
-use Rattle.base_numbers.proofs.two.Reads as two-reads
+use Rattle.read_nodes.proofs.aggregate.Reads as aggregate-reads
+use Rattle.read_marks.proofs.enters.Reads as enters-reads
+use Rattle.read_nodes.proofs.head.Reads as head-reads
+use Rattle.read_nodes.proofs.literal.Reads as literal-reads
+use Rattle.read_nodes.proofs.only.Reads as only-reads
+use Rattle.read_marks.proofs.set_mark.Reads as set-mark-reads
+use Rattle.read_nodes.proofs.size_of.Reads as size-of-reads
+use Rattle.base_layout.proofs.name_at.Reads as name-at-reads
+use Rattle.base_layout.proofs.used_at.Reads as used-at-reads
 use Rattle.read_check.proofs.+helper_check+list_check+node_check+proxy_check.{statement}
 use Rattle.read_check.proofs.+helper_check+list_check+node_check+proxy_check.Tie.{close}
 
@@ -94,53 +96,64 @@ helper-claims t = (
 -- the part from `at` on, with the walk as it is, comes to what the whole comes to with the walk that came in
 abbrev helper-check-Inv-loop : helper-check-lts.InvT-loop
 helper-check-Inv-loop image part page level left marks₀ widths₀ cur₀ n₀ at₀ marks widths cur n at =
-    On image part page 4 level (listOf image part page 4 level (state left marks₀)) widths₀ (state cur marks) at widths × (cur ≤ left)
-    × Counted image part page 4 level (listOf image part page 4 level (state left marks₀)) (state cur marks) n at
+    On image part page 4 level (state left marks₀) widths₀ (state cur marks) at widths × (cur ≤ left)
+    × Counted image part page 4 level (state left marks₀) (state cur marks) n at
 
 abbrev helper-check-μ-loop : helper-check-lts.MeasureT-loop
 helper-check-μ-loop image part page level left marks₀ widths₀ cur₀ n₀ at₀ marks widths cur n at = length part - at
 
 -- After the turn of the loop that passes an aggregate with no child.
-helper-childless : (t : ℕ) (c : helper-check-lts.Then2 (helper-claims t) (helper-check-at t) helper-check.Post helper-check-Inv-loop helper-check-μ-loop) → let k = c .before .before .before .before .before in
-    let s = k .before .before .before in
+helper-childless : (t : ℕ) (c : helper-check-lts.Then2 (helper-claims t) (helper-check-at t) helper-check.Post helper-check-Inv-loop helper-check-μ-loop)
+    → let k = c .before .before .before .before .before in
+    let a = k .before .before .before .args in
     let l = k .loop in
-    On (now (s .args .image)) (now (s .args .part)) (s .args .page) 4 (s .args .level) (listOf (now (s .args .image)) (now (s .args .part)) (s .args .page) 4 (s .args .level) (state (s .args .left) (now (s .args .marks)))) (now (s .args .widths)) (state (l .cur) (l .marks)) (l .at + 6) (l .widths)
-    × ((n : ℕ) → Counted (now (s .args .image)) (now (s .args .part)) (s .args .page) 4 (s .args .level) (listOf (now (s .args .image)) (now (s .args .part)) (s .args .page) 4 (s .args .level) (state (s .args .left) (now (s .args .marks)))) (state (l .cur) (l .marks)) (n) (l .at) → Counted (now (s .args .image)) (now (s .args .part)) (s .args .page) 4 (s .args .level) (listOf (now (s .args .image)) (now (s .args .part)) (s .args .page) 4 (s .args .level) (state (s .args .left) (now (s .args .marks)))) (state (l .cur) (l .marks)) (n + 1) (l .at + 6))
-helper-childless t c = turn-childless _ _ _ _ _ _ _ _ _ _ (c .before .before .before .before .before .loop .inv .0) (c .before .before .before .before .loop-test .taken) (c .before .before .before .if1 .left) (sym (c .before .aggregate .ensures) ∙ c .if2 .taken)
+    Past (now (a .image)) (now (a .part)) (a .page) 4 (a .level) (state (a .left) (now (a .marks))) (now (a .widths)) (state (l .cur) (l .marks)) (l .at)
+    (state (l .cur) (l .marks)) (l .at + 6) (l .widths) 1
+helper-childless t c =
+    let k = c .before .before .before .before .before in
+    turn-childless _ _ _ _ _ _ _ _ _ _ (k .loop .inv .0) (c .before .before .before .before .loop-test .taken) (c .before .before .before .if1 .left)
+    (sym (c .before .aggregate .ensures) ∙ c .if2 .taken)
 
 -- The size of the node that is not passed so.
-helper-whole : (t : ℕ) (c : helper-check-lts.Else3 (helper-claims t) (helper-check-at t) helper-check.Post helper-check-Inv-loop helper-check-μ-loop) → let k = c .before .before .before .before .before .before .before in
+helper-whole : (t : ℕ) (c : helper-check-lts.Else3 (helper-claims t) (helper-check-at t) helper-check.Post helper-check-Inv-loop helper-check-μ-loop)
+    → let k = c .before .before .before .before .before .before .before in
     let part = now (k .before .before .before .args .part) in
     let n = c .before .size-of .result in
     (6 ≤ n) × (k .loop .at + n ≤ length part) × (n ≡ length (take n (take (length part - k .loop .at) (drop (k .loop .at) part))))
-helper-whole t c = let k = c .before .before .before .before .before .before .before in node-inside (now (k .before .before .before .args .part)) (k .loop .at) _ (c .before .size-of .ensures) (c .if3 .left) (c .before .before .before .before .before .before .loop-test .taken)
+helper-whole t c =
+    let k = c .before .before .before .before .before .before .before in
+    node-inside (now (k .before .before .before .args .part)) (k .loop .at) _ (c .before .size-of .ensures) (c .if3 .left)
+    (c .before .before .before .before .before .before .loop-test .taken)
 
 -- After the turn that passes a literal.
-helper-passed : (t : ℕ) (c : helper-check-lts.Then4 (helper-claims t) (helper-check-at t) helper-check.Post helper-check-Inv-loop helper-check-μ-loop) → let k = c .before .before .before .before .before .before .before .before .before in
-    let s = k .before .before .before in
+helper-passed : (t : ℕ) (c : helper-check-lts.Then4 (helper-claims t) (helper-check-at t) helper-check.Post helper-check-Inv-loop helper-check-μ-loop)
+    → let k = c .before .before .before .before .before .before .before .before .before in
+    let a = k .before .before .before .args in
     let l = k .loop in
-    On (now (s .args .image)) (now (s .args .part)) (s .args .page) 4 (s .args .level) (listOf (now (s .args .image)) (now (s .args .part)) (s .args .page) 4 (s .args .level) (state (s .args .left) (now (s .args .marks)))) (now (s .args .widths)) (state (l .cur) (l .marks)) (l .at + c .before .before .before .size-of .result) (l .widths)
-    × ((n : ℕ) → Counted (now (s .args .image)) (now (s .args .part)) (s .args .page) 4 (s .args .level) (listOf (now (s .args .image)) (now (s .args .part)) (s .args .page) 4 (s .args .level) (state (s .args .left) (now (s .args .marks)))) (state (l .cur) (l .marks)) (n) (l .at) → Counted (now (s .args .image)) (now (s .args .part)) (s .args .page) 4 (s .args .level) (listOf (now (s .args .image)) (now (s .args .part)) (s .args .page) 4 (s .args .level) (state (s .args .left) (now (s .args .marks)))) (state (l .cur) (l .marks)) (n + 1) (l .at + c .before .before .before .size-of .result))
+    Past (now (a .image)) (now (a .part)) (a .page) 4 (a .level) (state (a .left) (now (a .marks))) (now (a .widths)) (state (l .cur) (l .marks)) (l .at)
+    (state (l .cur) (l .marks)) (l .at + c .before .before .before .size-of .result) (l .widths) 1
 helper-passed t c =
-    turn-literal _ _ _ _ _ _ _ _ _ _ (c .before .before .before .before .before .before .before .before .before .loop .inv .0) (c .before .before .before .before .before .before .before .before .loop-test .taken) (c .before .before .before .before .before .before .before .if1 .left) _
-    (c .before .before .before .size-of .ensures) (c .before .before .if3 .left) (sym (c .before .literal .ensures) ∙ c .if4 .taken)
+    let e = c .before .before in
+    let k = e .before .before .before .before .before .before .before in
+    turn-literal _ _ _ _ _ _ _ _ _ _ (k .loop .inv .0) (e .before .before .before .before .before .before .loop-test .taken)
+    (e .before .before .before .before .before .if1 .left)
+    _ (e .before .size-of .ensures) (e .if3 .left) (sym (c .before .literal .ensures) ∙ c .if4 .taken)
 
 -- After the turn with any other node.
-helper-gone : (t : ℕ) (c : helper-check-lts.After-node-check (helper-claims t) (helper-check-at t) helper-check.Post helper-check-Inv-loop helper-check-μ-loop) → let k = c .before .before .before .before .before .before .before .before .before .before .before .before .before in
-    let s = k .before .before .before in
+helper-gone : (t : ℕ) (c : helper-check-lts.After-node-check (helper-claims t) (helper-check-at t) helper-check.Post helper-check-Inv-loop helper-check-μ-loop)
+    → let e = c .before .before .before .before .before .before in
+    let k = e .before .before .before .before .before .before .before in
+    let a = k .before .before .before .args in
     let l = k .loop in
-    On (now (s .args .image)) (now (s .args .part)) (s .args .page) 4 (s .args .level) (listOf (now (s .args .image)) (now (s .args .part)) (s .args .page) 4 (s .args .level) (state (s .args .left) (now (s .args .marks)))) (now (s .args .widths)) (state (c .node-check .result .left) (c .node-check .last .1 .1 .1 .1 .1 .1 .0)) (l .at + c .before .before .before .before .before .before .before .size-of .result) (c .node-check .last .1 .1 .1 .1 .1 .1 .1 .0)
+    let d = c .node-check in
+    Past (now (a .image)) (now (a .part)) (a .page) 4 (a .level) (state (a .left) (now (a .marks))) (now (a .widths)) (state (l .cur) (l .marks)) (l .at)
+    (state (d .result .left) (d .last .1 .1 .1 .1 .1 .1 .0)) (l .at + e .before .size-of .result) (d .last .1 .1 .1 .1 .1 .1 .1 .0) (d .result .width)
 helper-gone t c =
-    turn _ _ _ _ _ _ _ _ _ _ (c .before .before .before .before .before .before .before .before .before .before .before .before .before .loop .inv .0) (c .before .before .before .before .before .before .before .before .before .before .before .before .loop-test .taken) (c .before .before .before .before .before .before .before .before .before .before .before .if1 .left) _
-    (c .before .before .before .before .before .before .before .size-of .ensures) (c .before .before .before .before .before .before .if3 .left) _ _ _ _ (c .node-check .ensures)
-
-helper-more : (t : ℕ) (c : helper-check-lts.After-node-check (helper-claims t) (helper-check-at t) helper-check.Post helper-check-Inv-loop helper-check-μ-loop) → let k = c .before .before .before .before .before .before .before .before .before .before .before .before .before in
-    let s = k .before .before .before in
-    let l = k .loop in
-    Counted (now (s .args .image)) (now (s .args .part)) (s .args .page) 4 (s .args .level) (listOf (now (s .args .image)) (now (s .args .part)) (s .args .page) 4 (s .args .level) (state (s .args .left) (now (s .args .marks)))) (state (c .node-check .result .left) (c .node-check .last .1 .1 .1 .1 .1 .1 .0)) (l .n + c .node-check .result .width) (l .at + c .before .before .before .before .before .before .before .size-of .result)
-helper-more t c =
-    turn-count _ _ _ _ _ _ _ _ _ _ (c .before .before .before .before .before .before .before .before .before .before .before .before .before .loop .inv .0) (c .before .before .before .before .before .before .before .before .before .before .before .before .loop-test .taken) (c .before .before .before .before .before .before .before .before .before .before .before .if1 .left) _
-    (c .before .before .before .before .before .before .before .size-of .ensures) (c .before .before .before .before .before .before .if3 .left) _ _ _ _ (c .node-check .ensures) _ (c .before .before .before .before .before .before .before .before .before .before .before .before .before .loop .inv .2)
+    let e = c .before .before .before .before .before .before in
+    let k = e .before .before .before .before .before .before .before in
+    turn _ _ _ _ _ _ _ _ _ _ (k .loop .inv .0) (e .before .before .before .before .before .before .loop-test .taken)
+    (e .before .before .before .before .before .if1 .left)
+    _ (e .before .size-of .ensures) (e .if3 .left) _ _ _ _ (c .node-check .ensures)
 
 -- ── list_check ──
 
@@ -159,42 +172,63 @@ list-claims t = (
 -- the part from `at` on, with the walk as it is, comes to what the whole comes to with the walk that came in
 abbrev list-check-Inv-loop : list-check-lts.InvT-loop
 list-check-Inv-loop image part page level left marks₀ widths₀ cur₀ at₀ marks widths cur at =
-    On image part page 1 level (listOf image part page 1 level (state left marks₀)) widths₀ (state cur marks) at widths × (cur ≤ left)
+    On image part page 1 level (state left marks₀) widths₀ (state cur marks) at widths × (cur ≤ left)
 
 abbrev list-check-μ-loop : list-check-lts.MeasureT-loop
 list-check-μ-loop image part page level left marks₀ widths₀ cur₀ at₀ marks widths cur at = length part - at
 
 -- After the turn of the loop that passes an aggregate with no child.
-list-childless : (t : ℕ) (c : list-check-lts.Then2 (list-claims t) (list-check-at t) list-check.Post list-check-Inv-loop list-check-μ-loop) → let k = c .before .before .before .before .before in
-    let s = k .before .before .before in
+list-childless : (t : ℕ) (c : list-check-lts.Then2 (list-claims t) (list-check-at t) list-check.Post list-check-Inv-loop list-check-μ-loop)
+    → let k = c .before .before .before .before .before in
+    let a = k .before .before .before .args in
     let l = k .loop in
-    On (now (s .args .image)) (now (s .args .part)) (s .args .page) 1 (s .args .level) (listOf (now (s .args .image)) (now (s .args .part)) (s .args .page) 1 (s .args .level) (state (s .args .left) (now (s .args .marks)))) (now (s .args .widths)) (state (l .cur) (l .marks)) (l .at + 6) (l .widths)
-list-childless t c = turn-childless _ _ _ _ _ _ _ _ _ _ (c .before .before .before .before .before .loop .inv .0) (c .before .before .before .before .loop-test .taken) (c .before .before .before .if1 .left) (sym (c .before .aggregate .ensures) ∙ c .if2 .taken) .0
+    Past (now (a .image)) (now (a .part)) (a .page) 1 (a .level) (state (a .left) (now (a .marks))) (now (a .widths)) (state (l .cur) (l .marks)) (l .at)
+    (state (l .cur) (l .marks)) (l .at + 6) (l .widths) 1
+list-childless t c =
+    let k = c .before .before .before .before .before in
+    turn-childless _ _ _ _ _ _ _ _ _ _ (k .loop .inv .0) (c .before .before .before .before .loop-test .taken) (c .before .before .before .if1 .left)
+    (sym (c .before .aggregate .ensures) ∙ c .if2 .taken)
 
 -- The size of the node that is not passed so.
-list-whole : (t : ℕ) (c : list-check-lts.Else3 (list-claims t) (list-check-at t) list-check.Post list-check-Inv-loop list-check-μ-loop) → let k = c .before .before .before .before .before .before .before in
+list-whole : (t : ℕ) (c : list-check-lts.Else3 (list-claims t) (list-check-at t) list-check.Post list-check-Inv-loop list-check-μ-loop)
+    → let k = c .before .before .before .before .before .before .before in
     let part = now (k .before .before .before .args .part) in
     let n = c .before .size-of .result in
     (6 ≤ n) × (k .loop .at + n ≤ length part) × (n ≡ length (take n (take (length part - k .loop .at) (drop (k .loop .at) part))))
-list-whole t c = let k = c .before .before .before .before .before .before .before in node-inside (now (k .before .before .before .args .part)) (k .loop .at) _ (c .before .size-of .ensures) (c .if3 .left) (c .before .before .before .before .before .before .loop-test .taken)
+list-whole t c =
+    let k = c .before .before .before .before .before .before .before in
+    node-inside (now (k .before .before .before .args .part)) (k .loop .at) _ (c .before .size-of .ensures) (c .if3 .left)
+    (c .before .before .before .before .before .before .loop-test .taken)
 
 -- After the turn that passes a literal.
-list-passed : (t : ℕ) (c : list-check-lts.Then4 (list-claims t) (list-check-at t) list-check.Post list-check-Inv-loop list-check-μ-loop) → let k = c .before .before .before .before .before .before .before .before .before in
-    let s = k .before .before .before in
+list-passed : (t : ℕ) (c : list-check-lts.Then4 (list-claims t) (list-check-at t) list-check.Post list-check-Inv-loop list-check-μ-loop)
+    → let k = c .before .before .before .before .before .before .before .before .before in
+    let a = k .before .before .before .args in
     let l = k .loop in
-    On (now (s .args .image)) (now (s .args .part)) (s .args .page) 1 (s .args .level) (listOf (now (s .args .image)) (now (s .args .part)) (s .args .page) 1 (s .args .level) (state (s .args .left) (now (s .args .marks)))) (now (s .args .widths)) (state (l .cur) (l .marks)) (l .at + c .before .before .before .size-of .result) (l .widths)
+    Past (now (a .image)) (now (a .part)) (a .page) 1 (a .level) (state (a .left) (now (a .marks))) (now (a .widths)) (state (l .cur) (l .marks)) (l .at)
+    (state (l .cur) (l .marks)) (l .at + c .before .before .before .size-of .result) (l .widths) 1
 list-passed t c =
-    turn-literal _ _ _ _ _ _ _ _ _ _ (c .before .before .before .before .before .before .before .before .before .loop .inv .0) (c .before .before .before .before .before .before .before .before .loop-test .taken) (c .before .before .before .before .before .before .before .if1 .left) _
-    (c .before .before .before .size-of .ensures) (c .before .before .if3 .left) (sym (c .before .literal .ensures) ∙ c .if4 .taken) .0
+    let e = c .before .before in
+    let k = e .before .before .before .before .before .before .before in
+    turn-literal _ _ _ _ _ _ _ _ _ _ (k .loop .inv .0) (e .before .before .before .before .before .before .loop-test .taken)
+    (e .before .before .before .before .before .if1 .left)
+    _ (e .before .size-of .ensures) (e .if3 .left) (sym (c .before .literal .ensures) ∙ c .if4 .taken)
 
 -- After the turn with any other node.
-list-gone : (t : ℕ) (c : list-check-lts.After-node-check (list-claims t) (list-check-at t) list-check.Post list-check-Inv-loop list-check-μ-loop) → let k = c .before .before .before .before .before .before .before .before .before .before .before .before .before in
-    let s = k .before .before .before in
+list-gone : (t : ℕ) (c : list-check-lts.After-node-check (list-claims t) (list-check-at t) list-check.Post list-check-Inv-loop list-check-μ-loop)
+    → let e = c .before .before .before .before .before .before in
+    let k = e .before .before .before .before .before .before .before in
+    let a = k .before .before .before .args in
     let l = k .loop in
-    On (now (s .args .image)) (now (s .args .part)) (s .args .page) 1 (s .args .level) (listOf (now (s .args .image)) (now (s .args .part)) (s .args .page) 1 (s .args .level) (state (s .args .left) (now (s .args .marks)))) (now (s .args .widths)) (state (c .node-check .result .left) (c .node-check .last .1 .1 .1 .1 .1 .1 .0)) (l .at + c .before .before .before .before .before .before .before .size-of .result) (c .node-check .last .1 .1 .1 .1 .1 .1 .1 .0)
+    let d = c .node-check in
+    Past (now (a .image)) (now (a .part)) (a .page) 1 (a .level) (state (a .left) (now (a .marks))) (now (a .widths)) (state (l .cur) (l .marks)) (l .at)
+    (state (d .result .left) (d .last .1 .1 .1 .1 .1 .1 .0)) (l .at + e .before .size-of .result) (d .last .1 .1 .1 .1 .1 .1 .1 .0) (d .result .width)
 list-gone t c =
-    turn _ _ _ _ _ _ _ _ _ _ (c .before .before .before .before .before .before .before .before .before .before .before .before .before .loop .inv .0) (c .before .before .before .before .before .before .before .before .before .before .before .before .loop-test .taken) (c .before .before .before .before .before .before .before .before .before .before .before .if1 .left) _
-    (c .before .before .before .before .before .before .before .size-of .ensures) (c .before .before .before .before .before .before .if3 .left) _ _ _ _ (c .node-check .ensures)
+    let e = c .before .before .before .before .before .before in
+    let k = e .before .before .before .before .before .before .before in
+    turn _ _ _ _ _ _ _ _ _ _ (k .loop .inv .0) (e .before .before .before .before .before .before .loop-test .taken)
+    (e .before .before .before .before .before .if1 .left)
+    _ (e .before .size-of .ensures) (e .if3 .left) _ _ _ _ (c .node-check .ensures)
 
 -- ── node_check ──
 
@@ -208,8 +242,8 @@ node-claims t = (
   list-check.Post,
   head-reads.Asked,
   head-reads.Learnt,
-  two-reads.Asked,
-  two-reads.Learnt,
+  name-at-reads.Asked,
+  name-at-reads.Learnt,
   proxy-check-below t,
   proxy-check.Post,
   helper-check-below t,
@@ -238,7 +272,8 @@ pub +helper-check+list-check+node-check+proxy-check-spec : {M : Type 1} → stat
     let k = c .before .before in
     let l = k .loop in
     let z = c .if1 .taken in
-    let e = list-bad _ _ _ _ _ (state (l .cur) (l .marks)) (λ e. omega (arith, length-drop (l .at) (now (k .before .before .before .args .part)), c .before .loop-test .taken)) z
+    let e = list-bad _ _ _ _ _ (state (l .cur) (l .marks))
+    (λ e. omega (arith, length-drop (l .at) (now (k .before .before .before .args .part)), c .before .loop-test .taken)) z
     ∙ ap {B = Decoded} (λ (x : ℕ). record { row = nil; walk = state x (l .marks) }) z in
     (on-end _ _ _ _ _ _ _ _ _ _ (l .inv .0) (state 0 (l .marks)) e, counted-end _ _ _ _ e (l .inv .2)))
     -- sub-rest
@@ -252,11 +287,16 @@ pub +helper-check+list-check+node-check+proxy-check-spec : {M : Type 1} → stat
     -- add-at
     (λ c. let s = c .before .before .before .before .before .before .before .before in omega (arith, helper-childless t c .0 .inside, s .good))
     -- add-n
-    (λ c. let s = c .before .before .before .before .before .before .before .before in omega (arith, count-small _ _ _ _ _ _ _ _ _ (helper-childless t c .1 _ (c .before .before .before .before .before .loop .inv .2)) (s .pre .1 .2) (s .pre .1 .1)))
+    (λ c.
+    let k = c .before .before .before .before .before in
+    let s = k .before .before .before in
+    omega (arith, count-small _ _ _ _ _ _ _ _ _ (helper-childless t c .1 _ (k .loop .inv .2)) (s .pre .1 .2) (s .pre .1 .1)))
     -- loop-less
     (λ c. omega (arith, helper-childless t c .0 .inside, c .before .before .before .before .loop-test .taken))
     -- loop-again
-    (λ c. (helper-childless t c .0, c .before .before .before .before .before .loop .inv .1, helper-childless t c .1 _ (c .before .before .before .before .before .loop .inv .2)))
+    (λ c.
+    let l = c .before .before .before .before .before .loop in
+    (helper-childless t c .0, l .inv .1, helper-childless t c .1 _ (l .inv .2)))
     -- size-of-requires
     (λ c κs. tt)
     -- returns-2
@@ -264,19 +304,30 @@ pub +helper-check+list-check+node-check+proxy-check-spec : {M : Type 1} → stat
     let k = c .before .before .before .before .before .before .before in
     let l = k .loop in
     let part = now (k .before .before .before .args .part) in
-    let e = list-stop _ _ _ _ _ (state (l .cur) (l .marks)) (λ e. omega (arith, length-drop (l .at) part, c .before .before .before .before .before .before .loop-test .taken)) (c .before .before .before .before .before .if1 .left)
-    (sym (c .before .size-of .ensures ∙ ap sizeOf (rest-is (l .at) part)) ∙ c .if3 .taken) in
+    let e = list-stop _ _ _ _ _ (state (l .cur) (l .marks))
+    (λ e. omega (arith, length-drop (l .at) part, c .before .before .before .before .before .before .loop-test .taken))
+    (c .before .before .before .before .before .if1 .left)
+    (sym (c .before .size-of .ensures ∙ ap wholeSize (rest-is (l .at) part)) ∙ c .if3 .taken) in
     (on-end _ _ _ _ _ _ _ _ _ _ (l .inv .0) (state 0 (l .marks)) e, counted-end _ _ _ _ e (l .inv .2)))
     -- literal-requires
     (λ c κs. (omega (arith, sized _ _ (c .before .size-of .ensures) (c .if3 .left)), omega arith))
     -- add-at-2
-    (λ c. let s = c .before .before .before .before .before .before .before .before .before .before .before .before in omega (arith, helper-passed t c .0 .inside, s .good))
+    (λ c.
+    let s = c .before .before .before .before .before .before .before .before .before .before .before .before in
+    omega (arith, helper-passed t c .0 .inside, s .good))
     -- add-n-2
-    (λ c. let s = c .before .before .before .before .before .before .before .before .before .before .before .before in omega (arith, count-small _ _ _ _ _ _ _ _ _ (helper-passed t c .1 _ (c .before .before .before .before .before .before .before .before .before .loop .inv .2)) (s .pre .1 .2) (s .pre .1 .1)))
+    (λ c.
+    let k = c .before .before .before .before .before .before .before .before .before in
+    let s = k .before .before .before in
+    omega (arith, count-small _ _ _ _ _ _ _ _ _ (helper-passed t c .1 _ (k .loop .inv .2)) (s .pre .1 .2) (s .pre .1 .1)))
     -- loop-less-2
-    (λ c. omega (arith, helper-whole t (c .before .before), helper-passed t c .0 .inside, c .before .before .before .before .before .before .before .before .loop-test .taken))
+    (λ c.
+    let h = c .before .before .before .before .before .before .before .before .loop-test .taken in
+    omega (arith, helper-whole t (c .before .before), helper-passed t c .0 .inside))
     -- loop-again-2
-    (λ c. (helper-passed t c .0, c .before .before .before .before .before .before .before .before .before .loop .inv .1, helper-passed t c .1 _ (c .before .before .before .before .before .before .before .before .before .loop .inv .2)))
+    (λ c.
+    let l = c .before .before .before .before .before .before .before .before .before .loop in
+    (helper-passed t c .0, l .inv .1, helper-passed t c .1 _ (l .inv .2)))
     -- slice-aggregate-node-check
     (λ c. helper-whole t (c .before .before .before) .2)
     -- node-check-requires
@@ -286,11 +337,18 @@ pub +helper-check+list-check+node-check+proxy-check-spec : {M : Type 1} → stat
     let w = helper-whole t (c .before .before .before .before .before) in
     (omega (arith, w, k .loop .inv .1, s .pre .0), (omega arith, s .pre .1 .0, omega (arith, k .loop .inv .1, s .pre .1 .1), omega (arith, w, s .pre .1 .2))))
     -- add-n-3
-    (λ c. let s = c .before .before .before .before .before .before .before .before .before .before .before .before .before .before .before .before .before in omega (arith, count-small _ _ _ _ _ _ _ _ _ (helper-more t (c .before)) (s .pre .1 .2) (s .pre .1 .1)))
+    (λ c.
+    let k = c .before .before .before .before .before .before .before .before .before .before .before .before .before .before in
+    let s = k .before .before .before in
+    omega (arith, count-small _ _ _ _ _ _ _ _ _ (helper-gone t (c .before) .1 _ (k .loop .inv .2)) (s .pre .1 .2) (s .pre .1 .1)))
     -- add-at-3
-    (λ c. let s = c .before .before .before .before .before .before .before .before .before .before .before .before .before .before .before .before .before in omega (arith, helper-whole t (c .before .before .before .before .before .before .before), s .good))
+    (λ c.
+    let s = c .before .before .before .before .before .before .before .before .before .before .before .before .before .before .before .before .before in
+    omega (arith, helper-whole t (c .before .before .before .before .before .before .before), s .good))
     -- loop-less-3
-    (λ c. omega (arith, helper-whole t (c .before .before .before .before .before .before .before), c .before .before .before .before .before .before .before .before .before .before .before .before .before .loop-test .taken))
+    (λ c.
+    let h = c .before .before .before .before .before .before .before .before .before .before .before .before .before .loop-test .taken in
+    omega (arith, helper-whole t (c .before .before .before .before .before .before .before)))
     -- loop-again-3
     (λ c.
     let p = c .before .before .before .before .before .before .before in
@@ -298,15 +356,21 @@ pub +helper-check+list-check+node-check+proxy-check-spec : {M : Type 1} → stat
     let l = k .loop in
     let a = k .before .before .before .args in
     let x = take (length (now (a .part)) - l .at) (drop (l .at) (now (a .part))) in (
-      helper-gone t (c .before),
-      omega (arith, ap (λ (v : State). v .left) (c .before .node-check .ensures .0 .walk), less (now (a .image)) (node (take (p .before .size-of .result) x) (a .page) 4 (a .level) (state (l .cur) (l .marks))), l .inv .1),
-      helper-more t (c .before),
+      helper-gone t (c .before) .0,
+      omega (
+        arith,
+        ap (λ (v : State). v .left) (c .before .node-check .ensures .0 .walk),
+        less (now (a .image)) (node (take (p .before .size-of .result) x) (a .page) 4 (a .level) (state (l .cur) (l .marks))),
+        l .inv .1,
+      ),
+      helper-gone t (c .before) .1 _ (l .inv .2),
     ))
     -- returns-3
     (λ c.
     let k = c .before in
     let l = k .loop in
-    let e = list-none _ _ _ _ _ (state (l .cur) (l .marks)) (omega (arith, length-drop (l .at) (now (k .before .before .before .args .part)), c .loop-test .left)) in
+    let e = list-none _ _ _ _ _ (state (l .cur) (l .marks))
+    (omega (arith, length-drop (l .at) (now (k .before .before .before .args .part)), c .loop-test .left)) in
     (on-end _ _ _ _ _ _ _ _ _ _ (l .inv .0) (state (l .cur) (l .marks)) e, counted-end _ _ _ _ e (l .inv .2))))
     (λ t. list-check-lts.spec (list-claims t)
     (list-check-at t)
@@ -320,7 +384,8 @@ pub +helper-check+list-check+node-check+proxy-check-spec : {M : Type 1} → stat
     let k = c .before .before in
     let l = k .loop in
     let z = c .if1 .taken in
-    let e = list-bad _ _ _ _ _ (state (l .cur) (l .marks)) (λ e. omega (arith, length-drop (l .at) (now (k .before .before .before .args .part)), c .before .loop-test .taken)) z
+    let e = list-bad _ _ _ _ _ (state (l .cur) (l .marks))
+    (λ e. omega (arith, length-drop (l .at) (now (k .before .before .before .args .part)), c .before .loop-test .taken)) z
     ∙ ap {B = Decoded} (λ (x : ℕ). record { row = nil; walk = state x (l .marks) }) z in
     on-end _ _ _ _ _ _ _ _ _ _ (l .inv .0) (state 0 (l .marks)) e)
     -- sub-rest
@@ -332,11 +397,11 @@ pub +helper-check+list-check+node-check+proxy-check-spec : {M : Type 1} → stat
     -- aggregate-requires
     (λ c κs. search needs)
     -- add-at
-    (λ c. let s = c .before .before .before .before .before .before .before .before in omega (arith, list-childless t c .inside, s .good))
+    (λ c. let s = c .before .before .before .before .before .before .before .before in omega (arith, list-childless t c .0 .inside, s .good))
     -- loop-less
-    (λ c. omega (arith, list-childless t c .inside, c .before .before .before .before .loop-test .taken))
+    (λ c. omega (arith, list-childless t c .0 .inside, c .before .before .before .before .loop-test .taken))
     -- loop-again
-    (λ c. (list-childless t c, c .before .before .before .before .before .loop .inv .1))
+    (λ c. (list-childless t c .0, c .before .before .before .before .before .loop .inv .1))
     -- size-of-requires
     (λ c κs. tt)
     -- returns-2
@@ -344,17 +409,23 @@ pub +helper-check+list-check+node-check+proxy-check-spec : {M : Type 1} → stat
     let k = c .before .before .before .before .before .before .before in
     let l = k .loop in
     let part = now (k .before .before .before .args .part) in
-    let e = list-stop _ _ _ _ _ (state (l .cur) (l .marks)) (λ e. omega (arith, length-drop (l .at) part, c .before .before .before .before .before .before .loop-test .taken)) (c .before .before .before .before .before .if1 .left)
-    (sym (c .before .size-of .ensures ∙ ap sizeOf (rest-is (l .at) part)) ∙ c .if3 .taken) in
+    let e = list-stop _ _ _ _ _ (state (l .cur) (l .marks))
+    (λ e. omega (arith, length-drop (l .at) part, c .before .before .before .before .before .before .loop-test .taken))
+    (c .before .before .before .before .before .if1 .left)
+    (sym (c .before .size-of .ensures ∙ ap wholeSize (rest-is (l .at) part)) ∙ c .if3 .taken) in
     on-end _ _ _ _ _ _ _ _ _ _ (l .inv .0) (state 0 (l .marks)) e)
     -- literal-requires
     (λ c κs. (omega (arith, sized _ _ (c .before .size-of .ensures) (c .if3 .left)), omega arith))
     -- add-at-2
-    (λ c. let s = c .before .before .before .before .before .before .before .before .before .before .before .before in omega (arith, list-passed t c .inside, s .good))
+    (λ c.
+    let s = c .before .before .before .before .before .before .before .before .before .before .before .before in
+    omega (arith, list-passed t c .0 .inside, s .good))
     -- loop-less-2
-    (λ c. omega (arith, list-whole t (c .before .before), list-passed t c .inside, c .before .before .before .before .before .before .before .before .loop-test .taken))
+    (λ c.
+    let h = c .before .before .before .before .before .before .before .before .loop-test .taken in
+    omega (arith, list-whole t (c .before .before), list-passed t c .0 .inside))
     -- loop-again-2
-    (λ c. (list-passed t c, c .before .before .before .before .before .before .before .before .before .loop .inv .1))
+    (λ c. (list-passed t c .0, c .before .before .before .before .before .before .before .before .before .loop .inv .1))
     -- slice-aggregate-node-check
     (λ c. list-whole t (c .before .before .before) .2)
     -- node-check-requires
@@ -364,9 +435,13 @@ pub +helper-check+list-check+node-check+proxy-check-spec : {M : Type 1} → stat
     let w = list-whole t (c .before .before .before .before .before) in
     (omega (arith, w, k .loop .inv .1, s .pre .0), (omega arith, s .pre .1 .0, omega (arith, k .loop .inv .1, s .pre .1 .1), omega (arith, w, s .pre .1 .2))))
     -- add-at-3
-    (λ c. let s = c .before .before .before .before .before .before .before .before .before .before .before .before .before .before .before .before in omega (arith, list-whole t (c .before .before .before .before .before .before), s .good))
+    (λ c.
+    let s = c .before .before .before .before .before .before .before .before .before .before .before .before .before .before .before .before in
+    omega (arith, list-whole t (c .before .before .before .before .before .before), s .good))
     -- loop-less-3
-    (λ c. omega (arith, list-whole t (c .before .before .before .before .before .before), c .before .before .before .before .before .before .before .before .before .before .before .before .loop-test .taken))
+    (λ c.
+    let h = c .before .before .before .before .before .before .before .before .before .before .before .before .loop-test .taken in
+    omega (arith, list-whole t (c .before .before .before .before .before .before)))
     -- loop-again-3
     (λ c.
     let p = c .before .before .before .before .before .before in
@@ -374,22 +449,28 @@ pub +helper-check+list-check+node-check+proxy-check-spec : {M : Type 1} → stat
     let l = k .loop in
     let a = k .before .before .before .args in
     let x = take (length (now (a .part)) - l .at) (drop (l .at) (now (a .part))) in (
-      list-gone t (c),
-      omega (arith, ap (λ (v : State). v .left) (c .node-check .ensures .0 .walk), less (now (a .image)) (node (take (p .before .size-of .result) x) (a .page) 1 (a .level) (state (l .cur) (l .marks))), l .inv .1),
+      list-gone t c .0,
+      omega (
+        arith,
+        ap (λ (v : State). v .left) (c .node-check .ensures .0 .walk),
+        less (now (a .image)) (node (take (p .before .size-of .result) x) (a .page) 1 (a .level) (state (l .cur) (l .marks))),
+        l .inv .1,
+      ),
     ))
     -- returns-3
     (λ c.
     let k = c .before in
     let l = k .loop in
-    let e = list-none _ _ _ _ _ (state (l .cur) (l .marks)) (omega (arith, length-drop (l .at) (now (k .before .before .before .args .part)), c .loop-test .left)) in
+    let e = list-none _ _ _ _ _ (state (l .cur) (l .marks))
+    (omega (arith, length-drop (l .at) (now (k .before .before .before .args .part)), c .loop-test .left)) in
     on-end _ _ _ _ _ _ _ _ _ _ (l .inv .0) (state (l .cur) (l .marks)) e))
     (λ t. node-check-lts.spec (node-claims t)
     (node-check-at t)
     node-check.Post
+    -- add-below
+    (λ c. search needs)
     -- aggregate-requires
     (λ c κs. search needs)
-    -- add-only
-    (λ c. search needs)
     -- only-requires
     (λ c κs. let f = aggregate-head _ _ _ (sym (c .before .aggregate .ensures) ∙ c .if1 .taken) in (f .0, omega (arith, f .2)))
     -- mul-rest
@@ -403,8 +484,6 @@ pub +helper-check+list-check+node-check+proxy-check-spec : {M : Type 1} → stat
     -- part-rest-end
     (λ c. omega (arith, chained t c .inside))
     -- add-list-check
-    (λ c. omega (arith, chained t (c .before) .low))
-    -- add-list-check-2
     (λ c. omega (arith, chained t (c .before) .low))
     -- list-check-requires
     (λ c κs.
@@ -420,15 +499,19 @@ pub +helper-check+list-check+node-check+proxy-check-spec : {M : Type 1} → stat
     (λ c κs. search needs)
     -- returns-2
     (λ c. came-stop _ _ (node-3-bad _ _ _ _ _ _ _ (c .before .before .head .ensures) (c .before .if2 .taken) (c .if3 .taken)))
-    -- two-requires
+    -- name-at-requires
     (λ c κs. search needs)
     -- proxy-check-requires
-    (λ c κs. let s = c .before .before .before .before .before .before .before .before .before .before in (omega (arith, s .pre .0, c .before .before .before .if3 .left), (s .pre .1 .1, s .pre .1 .2)))
+    (λ c κs.
+    let s = c .before .before .before .before .before .before .before .before .before .before in
+    (omega (arith, s .pre .0, c .before .before .before .if3 .left), (s .pre .1 .1, s .pre .1 .2)))
     -- returns-3
     (λ c.
     let a = c .before .before .before .before .before .before .before .before .before .before .before .args in
-    let q = node-3 _ _ _ _ _ _ _ (c .before .before .before .before .before .before .head .ensures) (c .before .before .before .before .before .if2 .taken) (c .before .before .before .before .if3 .left)
-    ∙ ap (λ (p : ℕ). proxyOf (now (a .image)) p (a .page) (a .level) (state (a .left) (now (a .marks)))) (sym (c .before .before .before .two .ensures .0)) in
+    let k = c .before .before .before .before in
+    let q = node-3 _ _ _ _ _ _ _ (k .before .before .head .ensures) (k .before .if2 .taken) (k .if3 .left)
+    ∙ ap (λ (p : ℕ). proxyOf (now (a .image)) p (a .page) (a .level) (state (a .left) (now (a .marks))))
+    (sym (c .before .before .before .name-at .ensures .0)) in
     (came-at q (c .proxy-check .ensures .0), wide-at q (c .proxy-check .ensures .1)))
     -- sub-helper-check
     (λ c. headed _ _ _ (c .before .before .head .ensures) (c .if4 .taken))
@@ -441,7 +524,8 @@ pub +helper-check+list-check+node-check+proxy-check-spec : {M : Type 1} → stat
     let s = c .before .before .before .before .before .before .before .before .before .before in
     let part = now (s .args .part) in
     let n = ap length (rest-is 6 part) in
-    (omega (arith, s .pre .0, headed _ _ _ (c .before .before .before .before .before .head .ensures) (c .before .before .before .if4 .taken), n, length-drop 6 part), (s .pre .1 .1, s .pre .1 .2, omega (arith, s .pre .1 .3, n, length-drop 6 part))))
+    let h = headed _ _ _ (c .before .before .before .before .before .head .ensures) (c .before .before .before .if4 .taken) in
+    (omega (arith, s .pre .0, h, n, length-drop 6 part), (s .pre .1 .1, s .pre .1 .2, omega (arith, s .pre .1 .3, n, length-drop 6 part))))
     -- returns-4
     (λ c.
     let a = c .before .before .before .before .before .before .before .before .before .before .before .args in
@@ -449,19 +533,22 @@ pub +helper-check+list-check+node-check+proxy-check-spec : {M : Type 1} → stat
     ∙ ap (λ (x : List ℕ). listOf (now (a .image)) x (a .page) 4 (a .level) (state (a .left) (now (a .marks)))) (sym (rest-is 6 (now (a .part)))) in
     (came-at q (c .helper-check .ensures .0), wide-at q (c .helper-check .ensures .1)))
     -- returns-5
-    (λ c. came-stop _ _ (node-deep _ _ _ _ _ _ _ (c .before .before .before .head .ensures) (c .before .before .if2 .left) (c .before .if4 .left) (c .if5 .taken)))
+    (λ c.
+    let k = c .before .before .before in
+    came-stop _ _ (node-deep _ _ _ _ _ _ _ (k .head .ensures) (c .before .before .if2 .left) (c .before .if4 .left) (c .if5 .taken)))
     -- returns-6
     (λ c. came-literal _ _ _ _ (node-2 _ _ _ _ _ _ _ (c .before .before .before .before .head .ensures) (c .if6 .taken) (c .before .if5 .left)))
     -- returns-7
     (λ c.
     let k = c .before .before .before .before in
-    came-stop _ _ (node-none _ _ _ _ _ _ _ (k .head .ensures) (c .before .before .before .if2 .left) (c .before .before .if4 .left) (c .before .if5 .left) (c .if6 .left)
+    came-stop _ _ (node-none _ _ _ _ _ _ _ (k .head .ensures) (c .before .before .before .if2 .left) (c .before .before .if4 .left)
+    (c .before .if5 .left) (c .if6 .left)
     (sym (k .before .before .aggregate .ensures) ∙ k .before .if1 .left))))
     λ t. proxy-check-lts.spec (
       enters-reads.Asked,
       enters-reads.Learnt,
-      two-reads.Asked,
-      two-reads.Learnt,
+      used-at-reads.Asked,
+      used-at-reads.Learnt,
       set-mark-reads.Asked,
       set-mark-reads.Learnt,
       node-check-below t,
@@ -475,12 +562,10 @@ pub +helper-check+list-check+node-check+proxy-check-spec : {M : Type 1} → stat
     (λ c. came-stop _ _ (proxy-no _ _ _ _ _ (fails (c .before .enters .ensures) (c .if1 .taken))))
     -- mul-a
     (λ c. omega (arith, goes _ _ _ _ _ (c .before .enters .ensures) (c .if1 .left) .low))
-    -- add-two
-    (λ c. omega (arith, goes _ _ _ _ _ (c .before .enters .ensures) (c .if1 .left) .low))
-    -- two-requires
+    -- used-at-requires
     (λ c κs. omega (arith, goes _ _ _ _ _ (c .before .enters .ensures) (c .if1 .left) .inside))
     -- add-e
-    (λ c. let k = c .before in omega (arith, goes _ _ _ _ _ (k .before .enters .ensures) (k .if1 .left) .low, c .two .ensures .1))
+    (λ c. let k = c .before in omega (arith, goes _ _ _ _ _ (k .before .enters .ensures) (k .if1 .left) .low, c .used-at .ensures .1))
     -- set-mark-requires
     (λ c κs. let k = c .before .before in goes _ _ _ _ _ (k .before .enters .ensures) (k .if1 .left) .low)
     -- sub-node-check
@@ -492,7 +577,7 @@ pub +helper-check+list-check+node-check+proxy-check-spec : {M : Type 1} → stat
     let k = c .before .before .before in
     let a = k .before .before .before .before .args in
     let f = goes _ _ _ _ _ (k .before .enters .ensures) (k .if1 .left) in
-    omega (arith, c .before .before .two .ensures .0, f .used, f .inside, used-is (now (a .image)) (a .p)))
+    omega (arith, c .before .before .used-at .ensures .0, f .used, f .inside))
     -- sub-node-check-2
     (λ c. let k = c .before .before .before .before in omega (arith, goes _ _ _ _ _ (k .before .enters .ensures) (k .if1 .left) .room))
     -- node-check-requires
@@ -501,26 +586,37 @@ pub +helper-check+list-check+node-check+proxy-check-spec : {M : Type 1} → stat
     let s = k .before .before .before .before in
     let a = s .args in
     let f = goes _ _ _ _ _ (k .before .enters .ensures) (k .if1 .left) in
-    let n = c .before .before .before .before .before .two in
+    let n = c .before .before .before .before .before .used-at in
     let long = length-part (now (a .image)) (pageSize * a .p) (pageSize * a .p + n .result - pageSize * a .p) in (
-      omega (arith, s .pre .0, f .room, f .used, n .ensures .0, used-is (now (a .image)) (a .p), long),
+      omega (arith, s .pre .0, f .room, f .used, n .ensures .0, long),
       (search needs, s .pre .1 .0, omega (arith, s .pre .1 .1), omega (arith, n .ensures .1, long)),
     ))
     -- cast-widths
     (λ c.
     let s = c .before .before .before .before .before .before .before .before .before .before .before .before in
     let a = s .args in
-    let n = c .before .before .before .before .before .before .before .two in
+    let n = c .before .before .before .before .before .before .before .used-at in
     let long = length-part (now (a .image)) (pageSize * a .p) (pageSize * a .p + n .result - pageSize * a .p) in
     let part = take (pageSize * a .p + n .result - pageSize * a .p) (drop (pageSize * a .p) (now (a .image))) in
-    omega (arith, c .before .node-check .ensures .1, node-small (now (a .image)) part (a .p) 0 (a .level) (a .left - 1) (c .before .before .before .before .before .set-mark .last .0) (omega (arith, n .ensures .1, long)) (omega (arith, s .pre .1 .1))))
+    omega (
+      arith,
+      c .before .node-check .ensures .1,
+      node-small (now (a .image)) part (a .p) 0 (a .level) (a .left - 1)
+          (c .before .before .before .before .before .set-mark .last .0) (omega (arith, n .ensures .1, long)) (omega (arith, s .pre .1 .1)),
+    ))
     -- mul-widths
-    (λ c. let k = c .before .before .before .before .before .before .before .before in omega (arith, goes _ _ _ _ _ (k .before .enters .ensures) (k .if1 .left) .low))
+    (λ c.
+    let k = c .before .before .before .before .before .before .before .before in
+    omega (arith, goes _ _ _ _ _ (k .before .enters .ensures) (k .if1 .left) .low))
     -- element-write-widths
-    (λ c. let k = c .before .before .before .before .before .before .before .before in omega (arith, goes _ _ _ _ _ (k .before .enters .ensures) (k .if1 .left) .low))
+    (λ c.
+    let k = c .before .before .before .before .before .before .before .before in
+    omega (arith, goes _ _ _ _ _ (k .before .enters .ensures) (k .if1 .left) .low))
     -- returns-2
     (λ c.
     let k = c .before .before .before .before .before .before .before .before in
     let a = k .before .before .before .before .args in
-    proxy-done _ _ _ _ (state (a .left) (now (a .marks))) (passes (k .before .enters .ensures) (k .if1 .left)) (c .before .before .before .before .before .before .before .two .result) _
-    (c .before .before .before .before .before .before .before .two .ensures .0) (ap (state (a .left - 1)) (c .before .before .before .before .before .set-mark .ensures)) _ _ _ _ _ (c .before .node-check .ensures))
+    proxy-done _ _ _ _ (state (a .left) (now (a .marks))) (passes (k .before .enters .ensures) (k .if1 .left))
+    (c .before .before .before .before .before .before .before .used-at .result) _
+    (c .before .before .before .before .before .before .before .used-at .ensures .0)
+    (ap (state (a .left - 1)) (c .before .before .before .before .before .set-mark .ensures)) _ _ _ _ _ (c .before .node-check .ensures))

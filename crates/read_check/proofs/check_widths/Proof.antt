@@ -5,7 +5,7 @@ use borrow.Author.Needs.{needs}
 use borrow.Author.Tests.{eq-eqb, ne-eqb}
 use Rattle.theory_check.specs.Check.{checkBy}
 use Rattle.theory_check.specs.Bounds.{trailers-most}
-use Rattle.read_check.proofs.Calls.{passes, fails}
+use Rattle.theory_check.specs.Facts.{passes, fails}
 use Rattle.read_check.proofs.check_widths.Statement.{statement}
 use Rattle.read_check.proofs.check_widths.Tie as tie
 
@@ -47,8 +47,9 @@ returns-4 : tie.Need-returns-4
 unfolding checkBy
 returns-4 c =
     let j = c .before .before .before in
-    let k = j .before .before in (
-      simp (passes (k .before .length-ok .ensures) (k .if1 .left), ← j .before .trailers .ensures, ne-eqb _ _ (j .if2 .left), ← c .before .walk-ok .ensures .0, c .if3 .left),
+    let k = j .before .before in
+    let n = j .before .trailers .ensures in (
+      simp (passes (k .before .length-ok .ensures) (k .if1 .left), ← n, ne-eqb _ _ (j .if2 .left), ← c .before .walk-ok .ensures .0, c .if3 .left),
       λ e. absurd (omega arith),
     )
 

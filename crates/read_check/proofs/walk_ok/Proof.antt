@@ -1,6 +1,6 @@
 use mathlib.Core.Bool.{false≢true}
-use native.Mathlib.Omega.{arith}
 use Prim.Native.Nat.{_+_, _-_}
+use native.Mathlib.Omega.{arith}
 use lib.ListN.{length}
 use denote.Ref.{now}
 use borrow.Author.Needs.{needs}
@@ -8,19 +8,20 @@ use borrow.Author.Tests.{ne-eqb}
 use Rattle.model.specs.Limits.{pageSize}
 use Rattle.theory_check.specs.Check.{walkOk}
 use Rattle.theory_check.specs.Steps.{length-part}
-use Rattle.read_check.proofs.Checks.{length-fits, first-used, walked, walked-table}
+use Rattle.base_ranges.specs.Long.{length-says}
+use Rattle.read_check.proofs.Checks.{first-used, walked, walked-table}
 use Rattle.read_check.proofs.walk_ok.Statement.{statement}
 use Rattle.read_check.proofs.walk_ok.Tie as tie
 
 shared-slice-read-if1 : tie.Need-shared-slice-read-if1
-shared-slice-read-if1 c = let s = c .before .before in omega (arith, length-fits (length (now (s .args .image))) (s .pre .0))
+shared-slice-read-if1 c = let s = c .before .before in omega (arith, length-says (length (now (s .args .image))) (s .pre .0))
 
 returns : tie.Need-returns
 unfolding walkOk
 returns c = (simp (ne-eqb _ _ (c .if1 .taken)), λ e. absurd (false≢true e))
 
-two-requires : tie.Need-two-requires
-two-requires c κs = let s = c .before .before .before in omega (arith, length-fits (length (now (s .args .image))) (s .pre .0))
+used-at-requires : tie.Need-used-at-requires
+used-at-requires c κs = let s = c .before .before .before in omega (arith, length-says (length (now (s .args .image))) (s .pre .0))
 
 add-e : tie.Need-add-e
 add-e c = search needs
@@ -35,18 +36,18 @@ part-node-check-end : tie.Need-part-node-check-end
 part-node-check-end c =
     let s = c .before .before .before .before in
     let img = now (s .args .image) in
-    omega (arith, length-fits (length img) (s .pre .0), first-used img (s .pre .1), c .two .ensures .0)
+    omega (arith, length-says (length img) (s .pre .0), first-used img (s .pre .1), c .used-at .ensures .0)
 
 node-check-requires : tie.Need-node-check-requires
 node-check-requires c κs =
     let s = c .before .before .before .before .before .before .before in
-    let n = c .before .before .before .two in
+    let n = c .before .before .before .used-at in
     (omega arith, omega arith, s .pre .2, omega (arith, n .ensures .1, length-part (now (s .args .image)) pageSize (pageSize + n .result - pageSize)))
 
 returns-2 : tie.Need-returns-2
 returns-2 c =
     let h = c .before .node-check .ensures .0 in
-    let u = c .before .before .before .before .before .two .ensures .0 in
+    let u = c .before .before .before .before .before .used-at .ensures .0 in
     (walked _ _ _ u _ _ _ _ h (c .before .before .before .before .before .before .if1 .left), λ e. walked-table _ _ _ u _ _ _ _ h)
 
 pub walk-ok-spec : {M : Type 1} → statement M
@@ -55,7 +56,7 @@ walk-ok-spec =
     (tie.spec
     shared-slice-read-if1
     returns
-    two-requires
+    used-at-requires
     add-e
     sub-node-check
     part-node-check-start

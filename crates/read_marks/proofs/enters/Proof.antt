@@ -1,0 +1,68 @@
+use mathlib.Core.Path.{_≡_}
+use mathlib.Core.Bool.{and-false, true}
+use mathlib.Core.List.{List}
+use Prim.Native.Nat.{ℕ, _+_, _*_, _≤_, _<_}
+use borrow.Author.Tests.{le-leb, lt-leb, leb-true, ltb-true}
+use borrow.Author.Needs.{needs}
+use lib.ListN.{length}
+use lib.Dec.{leb}
+use Rattle.model.specs.Limits.{mostPages, pageSize}
+use Rattle.theory_decoding.specs.Valid.{both as and-both}
+use Rattle.theory_check.specs.Tests.{namesOf}
+use Rattle.theory_check.specs.Walk.{entersOf}
+use Rattle.theory_check.specs.Facts.{passes, fails}
+use Rattle.read_marks.proofs.enters.Statement.{statement}
+use Rattle.read_marks.proofs.enters.Tie as tie
+
+-- what a page that is named shows of itself
+named : (img : List ℕ) (p page : ℕ) → namesOf img p page ≡ true → (p < mostPages) × (pageSize * p + pageSize ≤ length img)
+unfolding namesOf
+named img p page e =
+    let holder = and-both _ _ e in
+    let used = and-both _ _ (holder .0) in
+    let kind = and-both _ _ (used .0) in
+    let inside = and-both _ _ (kind .0) in
+    let low = and-both (leb 2 p) _ (inside .0) in
+    (ltb-true _ _ (low .1), leb-true _ _ (inside .1))
+
+names-requires : tie.Need-names-requires
+names-requires c κs = search needs
+
+returns : tie.Need-returns
+unfolding entersOf
+returns c = simp (fails (c .before .names .ensures) (c .if1 .taken))
+
+root-fits-requires : tie.Need-root-fits-requires
+root-fits-requires c κs = named _ _ _ (passes (c .before .names .ensures) (c .if1 .left))
+
+returns-2 : tie.Need-returns-2
+unfolding entersOf
+returns-2 c = simp (fails (c .before .root-fits .ensures) (c .if2 .taken), and-false)
+
+returns-3 : tie.Need-returns-3
+unfolding entersOf
+returns-3 c = simp (lt-leb _ _ (c .if3 .taken), and-false)
+
+is-marked-requires : tie.Need-is-marked-requires
+is-marked-requires c κs = named _ _ _ (passes (c .before .before .before .before .names .ensures) (c .before .before .before .if1 .left)) .0
+
+returns-4 : tie.Need-returns-4
+unfolding entersOf
+returns-4 c =
+    let p3 = c .before in
+    let p2 = p3 .before in
+    let p1 = p2 .before .before in
+    let named = passes (p1 .before .names .ensures) (p1 .if1 .left) in
+    simp (← c .is-marked .ensures, named, passes (p2 .before .root-fits .ensures) (p2 .if2 .left), le-leb _ _ (p3 .if3 .left))
+
+pub enters-spec : {M : Type 1} → statement M
+enters-spec =
+    tie.close
+    (tie.spec
+    names-requires
+    returns
+    root-fits-requires
+    returns-2
+    returns-3
+    is-marked-requires
+    returns-4)

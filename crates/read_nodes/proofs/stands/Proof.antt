@@ -1,0 +1,50 @@
+use mathlib.Core.Bool.{and-false}
+use borrow.Author.Needs.{needs}
+use borrow.Author.Tests.{le-leb, lt-leb, eq-eqb, ne-eqb}
+use Rattle.read_nodes.specs.Leaf.{standsOf}
+use Rattle.read_nodes.proofs.stands.Statement.{statement}
+use Rattle.read_nodes.proofs.stands.Tie as tie
+
+shared-slice-read-wide : tie.Need-shared-slice-read-wide
+shared-slice-read-wide c = search needs
+
+wide-requires : tie.Need-wide-requires
+wide-requires c κs = search needs
+
+returns : tie.Need-returns
+unfolding standsOf
+returns c = simp (← c .before .wide .ensures .0, ne-eqb _ _ (c .if1 .taken))
+
+shared-slice-read-if2 : tie.Need-shared-slice-read-if2
+shared-slice-read-if2 c = search needs
+
+returns-2 : tie.Need-returns-2
+unfolding standsOf
+returns-2 c = simp (ne-eqb _ _ (c .if2 .taken), and-false)
+
+returns-3 : tie.Need-returns-3
+unfolding standsOf
+returns-3 c = simp (lt-leb _ _ (c .if3 .taken), and-false)
+
+may-stand-requires : tie.Need-may-stand-requires
+may-stand-requires c κs = search needs
+
+returns-4 : tie.Need-returns-4
+unfolding standsOf
+returns-4 c =
+    let p2 = c .before .before in
+    let p1 = p2 .before .before in
+    rw (← p1 .before .wide .ensures .0, eq-eqb _ _ (p1 .if1 .left), eq-eqb _ _ (p2 .if2 .left), le-leb _ _ (c .before .if3 .left)) (c .may-stand .ensures)
+
+pub stands-spec : {M : Type 1} → statement M
+stands-spec =
+    tie.close
+    (tie.spec
+    shared-slice-read-wide
+    wide-requires
+    returns
+    shared-slice-read-if2
+    returns-2
+    returns-3
+    may-stand-requires
+    returns-4)

@@ -1,0 +1,136 @@
+-- Nodes that the walk passes over or goes straight into: what the test by their first bytes says of their head.
+use mathlib.Core.Path.{_≡_, refl, ap, sym, _∙_}
+use mathlib.Core.List.{List}
+use mathlib.Core.Bool.{Bool, true, false}
+use Prim.Native.Nat.{ℕ, _≤_, _<_}
+use native.Mathlib.Omega.{arith}
+use lib.ListN.{length, take, getD}
+use lib.Seq.{length-take-le, getD-take}
+use lib.Dec.{eqb}
+use borrow.Author.Tests.{eq-eqb, le-leb, eqb-true, eqb-false, leb-true, ne-eqb}
+use Rattle.model.specs.Limits.{mostNode, mostLevels}
+use Rattle.model.specs.Row.{mayStand}
+use Rattle.model.specs.Reading.{twoAt, sizeAt}
+use Rattle.theory_decoding.specs.Valid.{both as and-both}
+use Rattle.theory_check.specs.Steps.{passing, size-long}
+use Rattle.theory_check.specs.Tests.{wholeSize, passingKind, shapeOf}
+use Rattle.theory_check.specs.Facts.{no}
+use Rattle.read_nodes.specs.Leaf.{standsOf, aggregateOf, literalOf}
+
+-- what the test shows of the bytes
+record Stands (s : List ℕ) (kind holder level : ℕ) : Type 0 where
+  first : getD s 0 0 ≡ kind
+  second : getD s 1 0 ≡ 0
+  low : level ≤ mostLevels
+  may : mayStand holder kind ≡ true
+
+stands-says : (s : List ℕ) (kind holder level : ℕ) → standsOf s kind holder level ≡ true → Stands s kind holder level
+unfolding standsOf
+stands-says s kind holder level e =
+    let may = and-both _ _ e in
+    let low = and-both _ _ (may .0) in
+    let second = and-both _ _ (low .0) in
+    record { first = eqb-true _ _ (second .0); second = eqb-true _ _ (second .1); low = leb-true _ _ (low .1); may = may .1 }
+
+module _ (s : List ℕ) (holder level : ℕ) where
+  -- the same of the tests for one kind
+  agg-says : (n : ℕ) → aggregateOf s n holder level ≡ true → (6 ≤ length s) × (sizeAt s 0 ≡ n) × Stands s 1 holder level
+  unfolding aggregateOf
+  agg-says n e =
+      let a = and-both _ _ e in
+      let b = and-both _ _ (a .0) in
+      (leb-true _ _ (b .0), eqb-true _ _ (b .1), stands-says s 1 holder level (a .1))
+
+  lit-says : literalOf s holder level ≡ true → (sizeAt s 0 ≤ mostNode) × Stands s 2 holder level
+  unfolding literalOf
+  lit-says e = let a = and-both _ _ e in (leb-true _ _ (a .0), stands-says s 2 holder level (a .1))
+
+  -- the head of the bytes that a node is
+  head-of : (kind : ℕ) → 6 ≤ length s → sizeAt s 0 ≡ length s → kind ≤ 4 → shapeOf s kind ≡ true → Stands s kind holder level → kind ≡ passingKind s holder
+  unfolding passingKind
+  head-of kind long size small shape h =
+      simp (h .first, le-leb _ _ long, le-leb _ _ small, h .may, eq-eqb _ _ (h .second), eq-eqb _ _ size, shape)
+
+  -- an aggregate that is what the test asks passes it
+  agg-is : 6 ≤ length s → sizeAt s 0 ≡ length s → Stands s 1 holder level → aggregateOf s (length s) holder level ≡ true
+  unfolding aggregateOf standsOf
+  agg-is long size h = simp (le-leb _ _ long, eq-eqb _ _ size, eq-eqb _ _ (h .first), eq-eqb _ _ (h .second), le-leb _ _ (h .low), h .may)
+
+  shape-1 : shapeOf s 1 ≡ true
+  unfolding shapeOf
+  shape-1 = refl
+
+  shape-2 : length s ≤ mostNode → shapeOf s 2 ≡ true
+  unfolding shapeOf
+  shape-2 h = le-leb _ _ h
+
+  -- a node of none of the other kinds that is no aggregate that stands has no kind
+  pub no-kind : (kind : ℕ) → kind ≡ passingKind s holder → level ≤ mostLevels → aggregateOf s (length s) holder level ≡ false
+      → (kind ≡ 2 → ⊥) → (kind ≡ 3 → ⊥) → (kind ≡ 4 → ⊥) → kind ≡ 0
+  no-kind kind e low none n2 n3 n4 = go (eqb kind 0) refl
+    where
+      go : (b : Bool) → eqb kind 0 ≡ b → kind ≡ 0
+      go true q = eqb-true kind 0 q
+      go false q =
+          let z = eqb-false kind 0 q in
+          let h = passing s holder kind (sym e) z in
+          let one : kind ≡ 1 = omega (arith, h .small) in
+          let may = ap (mayStand holder) (sym one) ∙ h .may in
+          let stands : Stands s 1 holder level = record { first = h .first ∙ one; second = h .second; low = low; may = may } in
+          no (sym none ∙ agg-is (h .long) (h .size) stands)
+
+-- the first n bytes, where the node has n
+module _ (s : List ℕ) (n : ℕ) (long : 6 ≤ n) where
+  two-in : sizeAt (take n s) 0 ≡ sizeAt s 0
+  unfolding twoAt
+  two-in =
+      let a : 4 < n = omega arith in
+      let b : 5 < n = omega arith in
+      rw (getD-take n s 4 0 a, getD-take n s 5 0 b)
+
+  head-in : (kind holder level : ℕ) → n ≤ length s → sizeAt s 0 ≡ n → kind ≤ 4 → shapeOf (take n s) kind ≡ true → Stands s kind holder level
+      → kind ≡ passingKind (take n s) holder
+  head-in kind holder level inside size small shape h =
+      let l = length-take-le n s inside in
+      let first = getD-take n s 0 0 (omega arith) in
+      let second = getD-take n s 1 0 (omega arith) in
+      head-of (take n s) holder level kind (omega arith) (two-in ∙ size ∙ sym l) small shape
+      (record { first = first ∙ h .first; second = second ∙ h .second; low = h .low; may = h .may })
+
+-- the bytes are an aggregate that stands
+pub aggregate-head : (s : List ℕ) (holder level : ℕ) → aggregateOf s (length s) holder level ≡ true
+    → (6 ≤ length s) × (1 ≡ passingKind s holder) × (level ≤ mostLevels)
+aggregate-head s holder level e =
+    let f = agg-says s holder level (length s) e in
+    (f .0, head-of s holder level 1 (f .0) (f .1) (omega arith) (shape-1 s holder level) (f .2), f .2 .low)
+
+-- a whole node's size is the one in its header
+size-is : (s : List ℕ) (n : ℕ) → 6 ≤ n → n ≤ length s → sizeAt s 0 ≡ n → n ≡ wholeSize s
+unfolding wholeSize
+size-is s n long inside e =
+    let h : 6 ≤ length s = omega arith in
+    simp (e, le-leb _ _ h, le-leb _ _ long, le-leb _ _ inside)
+
+pub aggregate-size : (s : List ℕ) (holder level : ℕ) → aggregateOf s (length s) holder level ≡ true → length s ≡ wholeSize s
+aggregate-size s holder level e = let f = agg-says s holder level (length s) e in size-is s (length s) (f .0) (omega arith) (f .1)
+
+-- and a node that has a size has as many bytes
+pub sized : (s : List ℕ) (n : ℕ) → n ≡ wholeSize s → (n ≡ 0 → ⊥) → (6 ≤ n) × (n ≤ length s) × (sizeAt s 0 ≡ n)
+sized s n e z = rw e (size-long s (ne-eqb _ _ (λ q. z (e ∙ q))))
+
+-- the bytes start with an aggregate that has no child
+pub childless-head : (s : List ℕ) (holder level : ℕ) → aggregateOf s 6 holder level ≡ true
+    → (6 ≡ wholeSize s) × (1 ≡ passingKind (take 6 s) holder) × (level ≤ mostLevels)
+childless-head s holder level e =
+    let f = agg-says s holder level 6 e in
+    let six : 6 ≤ 6 = omega arith in
+    (size-is s 6 six (f .0) (f .1), head-in s 6 six 1 holder level (f .0) (f .1) (omega arith) (shape-1 (take 6 s) holder level) (f .2), f .2 .low)
+
+-- the bytes start with a whole literal
+pub literal-head : (s : List ℕ) (n holder level : ℕ) → n ≡ wholeSize s → (n ≡ 0 → ⊥) → literalOf s holder level ≡ true
+    → (2 ≡ passingKind (take n s) holder) × (level ≤ mostLevels)
+literal-head s n holder level e z h =
+    let f = lit-says s holder level h in
+    let t = sized s n e z in
+    let l = length-take-le n s (t .1) in
+    (head-in s n (t .0) 2 holder level (t .1) (t .2) (omega arith) (shape-2 (take n s) holder level (omega (arith, f .0))) (f .1), f .1 .low)

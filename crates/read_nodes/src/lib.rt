@@ -1,0 +1,146 @@
+// The check's tests of a node's bytes by themselves: its size, its kind, and what the walk can pass over or go straight into.
+use base_layout::label_at;
+use base_layout::size_at;
+use base_node_kinds::may_stand;
+use base_numbers::wide;
+use model::Settings;
+ghost use mathlib.Core.Path.{_≡_};
+ghost use Prim.Native.Nat.{_+_, _≤_, _<_};
+ghost use lib.ListN.{length};
+ghost use Rattle.model.specs.Limits.{mostLevels};
+ghost use Rattle.theory_check.specs.Tests.{wholeSize, twoChildren, shapeOf, passingKind};
+ghost use Rattle.read_nodes.specs.Leaf.{standsOf, aggregateOf, literalOf, Only};
+
+// The size of the node that the part starts with, 0 where no whole node stands there.
+pub fn size_of(part: &[u8]) -> usize
+    ensures { λ r. ⌜ r ≡ wholeSize (now (part .entry)) ⌝ }
+{
+    if part.len() < 6 {
+        return 0;
+    }
+    let n = size_at(part, 0);
+    if n < 6 {
+        return 0;
+    }
+    if part.len() < n {
+        return 0;
+    }
+    n
+}
+
+// Whether a list of nodes starts with a whole node and goes on after it.
+pub fn two_children(rest: &[u8]) -> bool
+    ensures { λ r. ⌜ r ≡ twoChildren (now (rest .entry)) ⌝ }
+{
+    let n = size_of(rest);
+    if n == 0 {
+        return false;
+    }
+    n < rest.len()
+}
+
+// What a node's kind asks of it.
+pub fn shaped(part: &[u8], kind: usize) -> bool
+    requires { ⌜ 6 ≤ length (now part) ⌝ }
+    ensures { λ r. ⌜ r ≡ shapeOf (now (part .entry)) kind ⌝ }
+{
+    if kind == 3 {
+        return label_at(part, 0) == 0;
+    }
+    if kind == 4 {
+        if label_at(part, 0) != 0 {
+            return false;
+        }
+        return two_children(&part[6..]);
+    }
+    if kind == 2 {
+        return part.len() <= Settings::NODE;
+    }
+    true
+}
+
+// The kind of the node that the part is, 0 where it is not well formed by itself or may not stand in the holder.
+pub fn head(part: &[u8], holder: usize) -> usize
+    requires { ⌜ holder < 5 ⌝ }
+    ensures { λ r. ⌜ r ≡ passingKind (now (part .entry)) holder ⌝ }
+{
+    if part.len() < 6 {
+        return 0;
+    }
+    let kind = wide(part[0]);
+    if 4 < kind {
+        return 0;
+    }
+    if !may_stand(holder, kind) {
+        return 0;
+    }
+    if part[1] != 0 {
+        return 0;
+    }
+    if size_at(part, 0) != part.len() {
+        return 0;
+    }
+    if !shaped(part, kind) {
+        return 0;
+    }
+    kind
+}
+
+// Whether the part starts with a node of the kind, by its first two bytes, that may stand in the holder, at a level that may be.
+pub fn stands(part: &[u8], kind: usize, holder: usize, level: usize) -> bool
+    requires { ⌜ (6 ≤ length (now part)) × (holder < 5) × (kind < 5) ⌝ }
+    ensures { λ r. ⌜ r ≡ standsOf (now (part .entry)) kind holder level ⌝ }
+{
+    if wide(part[0]) != kind {
+        return false;
+    }
+    if part[1] != 0 {
+        return false;
+    }
+    if Settings::LEVELS < level {
+        return false;
+    }
+    may_stand(holder, kind)
+}
+
+// The same of an aggregate of n bytes.
+pub fn aggregate(part: &[u8], n: usize, holder: usize, level: usize) -> bool
+    requires { ⌜ holder < 5 ⌝ }
+    ensures { λ r. ⌜ r ≡ aggregateOf (now (part .entry)) n holder level ⌝ }
+{
+    if part.len() < 6 {
+        return false;
+    }
+    if size_at(part, 0) != n {
+        return false;
+    }
+    stands(part, 1, holder, level)
+}
+
+// The same of a literal that is not too long.
+pub fn literal(part: &[u8], holder: usize, level: usize) -> bool
+    requires { ⌜ (6 ≤ length (now part)) × (holder < 5) ⌝ }
+    ensures { λ r. ⌜ r ≡ literalOf (now (part .entry)) holder level ⌝ }
+{
+    if Settings::NODE < size_at(part, 0) {
+        return false;
+    }
+    stands(part, 2, holder, level)
+}
+
+// How many aggregates below the one that the part is are each the only node that the last holds.
+pub fn only(part: &[u8], level: usize) -> usize
+    requires { ⌜ (6 ≤ length (now part)) × (level ≤ mostLevels + 1) ⌝ }
+    ensures { λ r. ⌜ Only (now (part .entry)) level r ⌝ }
+{
+    let mut d = 0;
+    let mut at = 6;
+    while at < part.len() {
+        if !aggregate(&part[at..], part.len() - at, 1, level + d) {
+            return d;
+        }
+        at = at + 6;
+        d = d + 1;
+    }
+    d
+}
