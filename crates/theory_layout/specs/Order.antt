@@ -10,8 +10,8 @@ use lib.ListN.{length, getD, drop}
 use lib.Seq.{getD-drop, getD-take}
 use lib.Dec.{eqb}
 use Rattle.model.specs.Limits.{mostPages, pageSize, capacity}
-use Rattle.model.specs.Row.{Head, Row, nil, agg, lit, rec, store, size, base, Held, records, recordPage, pageAt, count, outside, Config, recordOn}
-use Rattle.model.specs.Reading.{Reads, pageOf, sizeAt, nameAt, stateAt}
+use Rattle.model.specs.Row.{Head, Row, nil, agg, lit, rec, store, size, base, Held, records, recordPage, pageAt, count, outside, Config, recordOn, isAgg}
+use Rattle.model.specs.Reading.{Reads, pageOf, sizeAt, nameAt, stateAt, kindAt}
 use Rattle.model.specs.Tree.{places}
 use Rattle.model.specs.Calls.{times}
 use Rattle.model.specs.declared.Place.{Place}
@@ -20,7 +20,8 @@ use Rattle.theory_rows.specs.Laws.{cond-case}
 use Rattle.theory_rows.specs.Image.{image-page}
 use Rattle.theory_decoding.specs.Reading.{reads-valid}
 use Rattle.theory_places.specs.Pages.{pages-once}
-use Rattle.theory_layout.specs.Here.{nesting, PageIn, Here, agg-view, lit-view, OnPage, rec-view, root-page, root-nesting}
+use Rattle.theory_row_bytes.specs.RowAt.{kindOf, sizeOf}
+use Rattle.theory_layout.specs.Here.{nesting, PageIn, Here, OnPage, view, root-page, root-nesting}
 use Rattle.theory_layout.specs.Items.{Item, node, proxy, items, spots, shows, expand, In, top, sub}
 
 -- ── the items show the nodes ──
@@ -81,21 +82,22 @@ split-mem a l xs ys e = rw e (Memᴰ·append-right xs (List·Memᴰ·head refl))
 -- ── what is read at an item ──
 
 -- The row's first item.
-abbrev pub First : Row → Item → ℕ → Type 0
-First nil i pos = ⊥
-First (agg h cs rest) i pos = i ≡ node pos
-First (lit h c rest) i pos = i ≡ node pos
-First (rec p s r rest) i pos = i ≡ proxy pos p r
+abbrev pub firstItem : (pos : ℕ) → Row → Item
+firstItem pos nil = node pos
+firstItem pos (agg h cs rest) = node pos
+firstItem pos (lit h c rest) = node pos
+firstItem pos (rec p s r rest) = proxy pos p r
 
 -- A row stands at pos, in the record of `page`, whose first item this is.
 pub record Stood (img : List ℕ) (page pos : ℕ) (i : Item) : Type 0 where
   pub row : Row
   pub here : Here img page pos row
-  pub first : First row i pos
+  pub some : 0 < size row
+  pub first : i ≡ firstItem pos row
 
 -- Where the header after the one at pos stands: behind an aggregate's header, and past a literal or a proxy.
 unfoldable pub step : (img : List ℕ) → (pos : ℕ) → ℕ
-step img pos = cond (eqb (getD img pos 0) 1) (pos + 6) (pos + sizeAt img pos)
+step img pos = cond (eqb (kindAt img pos) 1) (pos + 6) (pos + sizeAt img pos)
 
 -- Header after header, these items stand from pos to end.
 abbrev pub Flat : (img : List ℕ) (page pos end : ℕ) → List Item → Type 0
@@ -103,41 +105,47 @@ Flat img page pos end [] = pos ≡ end
 Flat img page pos end (i ∷ is) = Stood img page pos i × Flat img page (step img pos) end is
 
 module _ (img : List ℕ) (page : ℕ) where
-  step-agg : (pos : ℕ) (h : Head) (cs rest : Row) → Here img page pos (agg h cs rest) → step img pos ≡ pos + 6
-  unfolding step
-  step-agg pos h cs rest v = rw (agg-view img page pos h cs rest v .kind)
+  -- how far on that is
+  abbrev onward : Row → ℕ
+  onward row = cond (isAgg row) 6 (sizeOf row)
 
-  step-lit : (pos : ℕ) (h : Head) (c : List ℕ) (rest : Row) → Here img page pos (lit h c rest) → step img pos ≡ pos + (6 + length c)
+  step-is : {pos : ℕ} {row : Row} → Here img page pos row → 0 < size row → step img pos ≡ pos + onward row
   unfolding step
-  step-lit pos h c rest v = let w = lit-view img page pos h c rest v in rw (w .kind, w .long)
+  step-is {pos} {row} v h = rw (view v h .kind-is, view v h .size-is) (go row)
+    where
+      go : (row : Row) → cond (eqb (kindOf row) 1) (pos + 6) (pos + sizeOf row) ≡ pos + onward row
+      go nil = refl
+      go (agg l cs rest) = refl
+      go (lit l c rest) = refl
+      go (rec p s r rest) = refl
 
-  step-rec : (pos p : ℕ) (s : Bool) (r rest : Row) → Here img page pos (rec p s r rest) → step img pos ≡ pos + 8
-  unfolding step
-  step-rec pos p s r rest v = let w = rec-view img page pos p s r rest v in rw (w .kind, w .long)
+  onward-fits : (row : Row) → 6 ≤ sizeOf row → (6 ≤ onward row) × (onward row ≤ sizeOf row)
+  onward-fits row h = cond-case (λ (n : ℕ). (6 ≤ n) × (n ≤ sizeOf row)) (isAgg row) (λ _. (omega arith, h)) (λ _. (h, omega arith))
 
   pub flat-here : (pos : ℕ) (row : Row) → Here img page pos row → (end : ℕ) (ys : List Item) → Flat img page (pos + size row) end ys
       → Flat img page pos end (items pos row ++ ys)
   flat-here pos nil v end ys f = let z : pos + 0 ≡ pos = omega arith in rw z at f
   flat-here pos (agg h cs rest) v end ys f =
-      let w = agg-view img page pos h cs rest v in
+      let some : 0 < size (agg h cs rest) = omega arith in
+      let w = view v some in
       let z : pos + (6 + size cs + size rest) ≡ pos + (6 + size cs) + size rest = omega arith in
       let y : pos + (6 + size cs) ≡ pos + 6 + size cs = omega arith in
       let later = flat-here (pos + (6 + size cs)) rest (w .after) end ys (subst (λ (n : ℕ). Flat img page n end ys) z f) in
       let inner = flat-here (pos + 6) cs (w .children) end (items (pos + (6 + size cs)) rest ++ ys)
       (subst (λ (n : ℕ). Flat img page n end (items (pos + (6 + size cs)) rest ++ ys)) y later) in (
-        record { row = agg h cs rest; here = v; first = refl },
-        rw (step-agg pos h cs rest v, append-assoc (items (pos + 6) cs) (items (pos + (6 + size cs)) rest) ys) inner,
+        record { row = agg h cs rest; here = v; some = some; first = refl },
+        rw (step-is v some, append-assoc (items (pos + 6) cs) (items (pos + (6 + size cs)) rest) ys) inner,
       )
   flat-here pos (lit h c rest) v end ys f =
-      let w = lit-view img page pos h c rest v in
+      let some : 0 < size (lit h c rest) = omega arith in
       let z : pos + (6 + length c + size rest) ≡ pos + (6 + length c) + size rest = omega arith in
-      let later = flat-here (pos + (6 + length c)) rest (w .after) end ys (subst (λ (n : ℕ). Flat img page n end ys) z f) in
-      (record { row = lit h c rest; here = v; first = refl }, rw (step-lit pos h c rest v) later)
+      let later = flat-here (pos + (6 + length c)) rest (view v some .after) end ys (subst (λ (n : ℕ). Flat img page n end ys) z f) in
+      (record { row = lit h c rest; here = v; some = some; first = refl }, rw (step-is v some) later)
   flat-here pos (rec p s r rest) v end ys f =
-      let w = rec-view img page pos p s r rest v in
+      let some : 0 < size (rec p s r rest) = omega arith in
       let z : pos + (8 + size rest) ≡ pos + 8 + size rest = omega arith in
-      let later = flat-here (pos + 8) rest (w .after) end ys (subst (λ (n : ℕ). Flat img page n end ys) z f) in
-      (record { row = rec p s r rest; here = v; first = refl }, rw (step-rec pos p s r rest v) later)
+      let later = flat-here (pos + 8) rest (view v some .after) end ys (subst (λ (n : ℕ). Flat img page n end ys) z f) in
+      (record { row = rec p s r rest; here = v; some = some; first = refl }, rw (step-is v some) later)
 
   pub flat-row : (pos : ℕ) (row : Row) → Here img page pos row → Flat img page pos (pos + size row) (items pos row)
   flat-row pos row v = rw (append-nil (items pos row)) at (flat-here pos row v (pos + size row) [] refl)
@@ -152,76 +160,76 @@ module _ (img : List ℕ) (page : ℕ) where
     pub within : step img pos ≤ pageSize * page + capacity
 
   pub header-of : (pos : ℕ) (i : Item) → Stood img page pos i → Header pos i
-  header-of pos i s = go (s .row) (s .here) (s .first)
+  header-of pos i s =
+      let v = s .here in
+      let w = view v (s .some) in
+      let e = step-is v (s .some) in
+      let o = onward-fits (s .row) (w .more) in
+      record {
+        is-at = ap at (s .first) ∙ first-at pos (s .row);
+        low = v .start;
+        room = omega (arith, v .room, w .total);
+        on = v .on;
+        further = omega arith;
+        within = omega (arith, v .room, w .total);
+      }
     where
-      go : (row : Row) → Here img page pos row → First row i pos → Header pos i
-      go nil v f = absurd f
-      go (agg h cs rest) v f =
-          let e = step-agg pos h cs rest v in
-          record { is-at = ap at f; low = v .start; room = omega (arith, v .room); on = v .on; further = omega arith; within = omega (arith, v .room) }
-      go (lit h c rest) v f =
-          let e = step-lit pos h c rest v in
-          record { is-at = ap at f; low = v .start; room = omega (arith, v .room); on = v .on; further = omega arith; within = omega (arith, v .room) }
-      go (rec p b r rest) v f =
-          let e = step-rec pos p b r rest v in
-          record { is-at = ap at f; low = v .start; room = omega (arith, v .room); on = v .on; further = omega arith; within = omega (arith, v .room) }
+      first-at : (pos : ℕ) (row : Row) → at (firstItem pos row) ≡ pos
+      first-at pos nil = refl
+      first-at pos (agg h cs rest) = refl
+      first-at pos (lit h c rest) = refl
+      first-at pos (rec p s r rest) = refl
 
   -- A node's kind is 1 or 2.
-  pub node-kind : (pos q : ℕ) → Stood img page pos (node q) → (getD img pos 0 ≡ 1) ⊎ (getD img pos 0 ≡ 2)
-  node-kind pos q s = go (s .row) (s .here) (s .first)
+  pub node-kind : (pos q : ℕ) → Stood img page pos (node q) → (kindAt img pos ≡ 1) ⊎ (kindAt img pos ≡ 2)
+  node-kind pos q s = rw (view (s .here) (s .some) .kind-is) (go (s .row) (s .some) (s .first))
     where
-      go : (row : Row) → Here img page pos row → First row (node q) pos → (getD img pos 0 ≡ 1) ⊎ (getD img pos 0 ≡ 2)
-      go nil v f = absurd f
-      go (agg h cs rest) v f = inl (agg-view img page pos h cs rest v .kind)
-      go (lit h c rest) v f = inr (lit-view img page pos h c rest v .kind)
-      go (rec p b r rest) v f = let z : _≡_ {A = ℕ} 0 1 = cc in absurd (omega arith)
+      go : (row : Row) → 0 < size row → node q ≡ firstItem pos row → (kindOf row ≡ 1) ⊎ (kindOf row ≡ 2)
+      go nil h f = absurd (omega arith)
+      go (agg l cs rest) h f = inl refl
+      go (lit l c rest) h f = inr refl
+      go (rec p b r rest) h f = let z : _≡_ {A = ℕ} 0 1 = cc in absurd (omega arith)
 
   -- What is read at a proxy; the record that it stands for is not empty.
   pub record Proxy (pos p : ℕ) (r : Row) : Type 0 where
-    pub kind : getD img pos 0 ≡ 3
+    pub kind : kindAt img pos ≡ 3
     pub name : nameAt img pos ≡ p
     pub next : step img pos ≡ pos + 8
     pub under : OnPage img p page r
     pub some : 1 ≤ size r
 
-  filled : (s : Bool) (r : Row) → Shape s r → 1 ≤ size r
-  filled s r h = go r h
-    where
-      go : {b : Bool} (r : Row) → Shape b r → 1 ≤ size r
-      go nil h = absurd (none h)
-        where
-          none : {b : Bool} → Shape b nil → ⊥
-          none (one e) = false≢true e
-          none (more r k) = omega arith
-      go (agg h cs rest) k = omega arith
-      go (lit h c rest) k = omega arith
-      go (rec p s r rest) k = omega arith
+  filled : {b : Bool} (r : Row) → Shape b r → 1 ≤ size r
+  filled nil (one e) = absurd (false≢true e)
+  filled nil (more r k) = absurd (omega arith)
+  filled (agg h cs rest) k = omega arith
+  filled (lit h c rest) k = omega arith
+  filled (rec p s r rest) k = omega arith
 
   pub proxy-of : (pos q p : ℕ) (r : Row) → Stood img page pos (proxy q p r) → Proxy pos p r
-  proxy-of pos q p r s = go (s .row) (s .here) (s .first)
+  proxy-of pos q p r s = go (s .row) (s .here) (s .some) (s .first)
     where
-      go : (row : Row) → Here img page pos row → First row (proxy q p r) pos → Proxy pos p r
-      go nil v f = absurd f
-      go (agg h cs rest) v f = let z : _≡_ {A = ℕ} 0 1 = cc in absurd (omega arith)
-      go (lit h c rest) v f = let z : _≡_ {A = ℕ} 0 1 = cc in absurd (omega arith)
-      go (rec p₁ b r₁ rest) v f =
-          let w = rec-view img page pos p₁ b r₁ rest v in
+      go : (row : Row) → Here img page pos row → 0 < size row → proxy q p r ≡ firstItem pos row → Proxy pos p r
+      go nil v h f = absurd (omega arith)
+      go (agg l cs rest) v h f = let z : _≡_ {A = ℕ} 0 1 = cc in absurd (omega arith)
+      go (lit l c rest) v h f = let z : _≡_ {A = ℕ} 0 1 = cc in absurd (omega arith)
+      go (rec p₁ b r₁ rest) v h f =
+          let w = view v h in
           let same : p₁ ≡ p = cc in
           let also : r₁ ≡ r = cc in
           record {
-            kind = w .kind;
-            name = w .name ∙ same;
-            next = step-rec pos p₁ b r₁ rest v;
+            kind = w .kind-is;
+            name = w .name-is refl ∙ same;
+            next = step-is v h;
             under = rw (same, also) at (w .under);
-            some = rw also at (filled b r₁ (v .fits .0 .shape));
+            some = rw also at (filled r₁ (v .fits .0 .shape));
           }
 
   -- An item whose kind is 3 is a proxy, and one of another kind is a node.
   pub which : (pos : ℕ) (i : Item) → Stood img page pos i → (i ≡ node pos) ⊎ ((p : ℕ) × (r : Row) × (i ≡ proxy pos p r))
   which pos i s = go (s .row) (s .first)
     where
-      go : (row : Row) → First row i pos → (i ≡ node pos) ⊎ ((p : ℕ) × (r : Row) × (i ≡ proxy pos p r))
-      go nil f = absurd f
+      go : (row : Row) → i ≡ firstItem pos row → (i ≡ node pos) ⊎ ((p : ℕ) × (r : Row) × (i ≡ proxy pos p r))
+      go nil f = inl f
       go (agg h cs rest) f = inl f
       go (lit h c rest) f = inl f
       go (rec p b r rest) f = inr (p, r, f)
@@ -256,7 +264,7 @@ module _ (img : List ℕ) (page : ℕ) where
 -- ── proxies, and the records below a row ──
 
 -- A statement about a row that has an item: where the item is the first, and how it goes on to the rows around.
-item-ind : (i : Item) (P : Row → Type 0) → ((pos : ℕ) (row : Row) → First row i pos → P row)
+item-ind : (i : Item) (P : Row → Type 0) → ((pos : ℕ) (row : Row) → 0 < size row → i ≡ firstItem pos row → P row)
     → ((h : Head) (cs rest : Row) → P cs → P (agg h cs rest))
     → ((h : Head) (cs rest : Row) → P rest → P (agg h cs rest))
     → ((h : Head) (c : List ℕ) (rest : Row) → P rest → P (lit h c rest))
@@ -268,7 +276,7 @@ item-ind i P f u a l r pos (agg h cs rest) m =
   where
     go : (i ≡ node pos) ⊎ List·Memᴰ i (items (pos + 6) cs ++ items (pos + (6 + size cs)) rest)
         → (List·Memᴰ i (items (pos + 6) cs) → P cs) → (List·Memᴰ i (items (pos + (6 + size cs)) rest) → P rest) → P (agg h cs rest)
-    go (inl e) x y = f pos (agg h cs rest) e
+    go (inl e) x y = f pos (agg h cs rest) (omega arith) e
     go (inr j) x y = sides (List·Memᴰ·append-cases (items (pos + 6) cs) j)
       where
         sides : List·Memᴰ i (items (pos + 6) cs) ⊎ List·Memᴰ i (items (pos + (6 + size cs)) rest) → P (agg h cs rest)
@@ -277,20 +285,21 @@ item-ind i P f u a l r pos (agg h cs rest) m =
 item-ind i P f u a l r pos (lit h c rest) m = go (List·Memᴰ·cases-cons m) (item-ind i P f u a l r (pos + (6 + length c)) rest)
   where
     go : (i ≡ node pos) ⊎ List·Memᴰ i (items (pos + (6 + length c)) rest) → (List·Memᴰ i (items (pos + (6 + length c)) rest) → P rest) → P (lit h c rest)
-    go (inl e) y = f pos (lit h c rest) e
+    go (inl e) y = f pos (lit h c rest) (omega arith) e
     go (inr k) y = l h c rest (y k)
 item-ind i P f u a l r pos (rec p s x rest) m = go (List·Memᴰ·cases-cons m) (item-ind i P f u a l r (pos + 8) rest)
   where
     go : (i ≡ proxy pos p x) ⊎ List·Memᴰ i (items (pos + 8) rest) → (List·Memᴰ i (items (pos + 8) rest) → P rest) → P (rec p s x rest)
-    go (inl e) y = f pos (rec p s x rest) e
+    go (inl e) y = f pos (rec p s x rest) (omega arith) e
     go (inr k) y = r p s x rest (y k)
 
 module _ (q p : ℕ) (r : Row) where
-  proxy-first : (P : Row → Type 0) → ((s : Bool) (rest : Row) → P (rec p s r rest)) → (pos : ℕ) (row : Row) → First row (proxy q p r) pos → P row
-  proxy-first P f pos nil e = absurd e
-  proxy-first P f pos (agg h cs rest) e = let z : _≡_ {A = ℕ} 0 1 = cc in absurd (omega arith)
-  proxy-first P f pos (lit h c rest) e = let z : _≡_ {A = ℕ} 0 1 = cc in absurd (omega arith)
-  proxy-first P f pos (rec p₁ s r₁ rest) e =
+  proxy-first : (P : Row → Type 0) → ((s : Bool) (rest : Row) → P (rec p s r rest)) → (pos : ℕ) (row : Row) → 0 < size row
+      → proxy q p r ≡ firstItem pos row → P row
+  proxy-first P f pos nil h e = absurd (omega arith)
+  proxy-first P f pos (agg l cs rest) h e = let z : _≡_ {A = ℕ} 0 1 = cc in absurd (omega arith)
+  proxy-first P f pos (lit l c rest) h e = let z : _≡_ {A = ℕ} 0 1 = cc in absurd (omega arith)
+  proxy-first P f pos (rec p₁ s r₁ rest) h e =
       let same : p₁ ≡ p = cc in
       let also : r₁ ≡ r = cc in
       rw (same, also) (f s rest)
