@@ -14,7 +14,7 @@ use Rattle.model.specs.Reading.{Reads, twoAt, pageOf, sizeAt, nameAt, usedAt, b
 use Rattle.theory_rows.specs.Fits.{Fits, HeadFits}
 use Rattle.theory_rows.specs.Image.{Stored}
 use Rattle.theory_decoding.specs.Valid.{names-own}
-use Rattle.theory_decoding.specs.Steps.{recordCount, few-records, named-inside}
+use Rattle.theory_decoding.specs.Steps.{recordCount, few-records, named-inside, steps}
 use Rattle.theory_decoding.specs.Decode.{two-bytes, in-trailer, used-page, stored-image}
 use Rattle.theory_decoding.specs.Reading.{reads-valid, reads-length}
 use Rattle.theory_places.specs.Order.{lone-root}
@@ -32,6 +32,14 @@ nesting-count nil = omega arith
 nesting-count (agg h cs rest) = omega (arith, nesting-count cs, nesting-count rest)
 nesting-count (lit h c rest) = nesting-count rest
 nesting-count (rec p s r rest) = omega (arith, nesting-count r, nesting-count rest)
+
+-- A node's children and the nodes behind it are nested no deeper, and take fewer steps.
+pub parts-less : (r : Row) → 0 < size r
+    → (nesting (kidsOf r) ≤ nesting r) × (nesting (restOf r) ≤ nesting r) × (steps (kidsOf r) + steps (restOf r) < steps r)
+parts-less nil h = absurd (omega arith)
+parts-less (agg l cs rest) h = (omega arith, omega arith, omega arith)
+parts-less (lit l c rest) h = (omega arith, omega arith, omega arith)
+parts-less (rec p s r rest) h = (omega arith, omega arith, omega arith)
 
 -- A record page of the image.
 pub record PageIn (img : List ℕ) (page : ℕ) : Type 0 where
