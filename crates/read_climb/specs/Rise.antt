@@ -234,7 +234,7 @@ placeAtByte pos = record { page = pos / pageSize; offset = pos - pageSize * (pos
 pub rise-start : (img : List ℕ) (pos page : ℕ) (path : List ℕ) (w : NodeAt img pos) → page ≡ pos / pageSize → length path ≡ longestPath → Climb (w .root) (placeAtByte pos) page pos 0 longestPath mostPages path
 rise-start img pos page path w e n =
     let s = w .spot in
-    let h = order.spot-header img (w .settings) (w .root) (w .reads) pos s in
+    let h = order.node-header img (w .settings) (w .root) (w .reads) pos s in
     let same : s .page ≡ page = omega (arith, h .low, h .room) in
     let r : Climb (w .root) (placeAtByte pos) (s .page) pos 0 longestPath mostPages path = record {
       holder = s .holder;

@@ -180,16 +180,6 @@ module _ (img : List ℕ) (page : ℕ) where
       first-at pos (lit h c rest) = refl
       first-at pos (rec p s r rest) = refl
 
-  -- A node's kind is 1 or 2.
-  pub node-kind : (pos q : ℕ) → Stood img page pos (node q) → (kindAt img pos ≡ 1) ⊎ (kindAt img pos ≡ 2)
-  node-kind pos q s = rw (view (s .here) (s .some) .kind-is) (go (s .row) (s .some) (s .first))
-    where
-      go : (row : Row) → 0 < size row → node q ≡ firstItem pos row → (kindOf row ≡ 1) ⊎ (kindOf row ≡ 2)
-      go nil h f = absurd (omega arith)
-      go (agg l cs rest) h f = inl refl
-      go (lit l c rest) h f = inr refl
-      go (rec p b r rest) h f = let z : _≡_ {A = ℕ} 0 1 = cc in absurd (omega arith)
-
   -- What is read at a proxy; the record that it stands for is not empty.
   pub record Proxy (pos p : ℕ) (r : Row) : Type 0 where
     pub kind : kindAt img pos ≡ 3
@@ -225,14 +215,29 @@ module _ (img : List ℕ) (page : ℕ) where
           }
 
   -- An item whose kind is 3 is a proxy, and one of another kind is a node.
-  pub which : (pos : ℕ) (i : Item) → Stood img page pos i → (i ≡ node pos) ⊎ ((p : ℕ) × (r : Row) × (i ≡ proxy pos p r))
-  which pos i s = go (s .row) (s .first)
+  pub is-proxy : (pos : ℕ) (i : Item) → Stood img page pos i → kindAt img pos ≡ 3 → (p : ℕ) × (r : Row) × (i ≡ proxy pos p r)
+  is-proxy pos i s k = go (s .row) (sym (view (s .here) (s .some) .kind-is) ∙ k) (s .first)
     where
-      go : (row : Row) → i ≡ firstItem pos row → (i ≡ node pos) ⊎ ((p : ℕ) × (r : Row) × (i ≡ proxy pos p r))
-      go nil f = inl f
-      go (agg h cs rest) f = inl f
-      go (lit h c rest) f = inl f
-      go (rec p b r rest) f = inr (p, r, f)
+      go : (row : Row) → kindOf row ≡ 3 → i ≡ firstItem pos row → (p : ℕ) × (r : Row) × (i ≡ proxy pos p r)
+      go nil k f = absurd (omega arith)
+      go (agg h cs rest) k f = absurd (omega arith)
+      go (lit h c rest) k f = absurd (omega arith)
+      go (rec p b r rest) k f = (p, r, f)
+
+  pub no-proxy : (pos q : ℕ) → Stood img page pos (node q) → kindAt img pos ≡ 3 → ⊥
+  no-proxy pos q s k =
+      let (p, r, e) = is-proxy pos (node q) s k in
+      let z : _≡_ {A = ℕ} 0 1 = cc in
+      omega arith
+
+  pub is-node : (pos : ℕ) (i : Item) → Stood img page pos i → (kindAt img pos ≡ 3 → ⊥) → i ≡ node pos
+  is-node pos i s k = go (s .row) (λ e. k (view (s .here) (s .some) .kind-is ∙ e)) (s .first)
+    where
+      go : (row : Row) → (kindOf row ≡ 3 → ⊥) → i ≡ firstItem pos row → i ≡ node pos
+      go nil k f = f
+      go (agg h cs rest) k f = f
+      go (lit h c rest) k f = f
+      go (rec p b r rest) k f = absurd (k refl)
 
   -- ── items one after another ──
 
@@ -443,7 +448,7 @@ page-held (k ∷ hs) q e = go (eqb q (k .page)) refl e (page-held hs q)
     go false t e f = let i = f e in (i .0, List·Memᴰ·tail (i .1), i .2)
 
 -- A node of the store: the record that it is in, and the items around it.
-pub record Spot (root : Row) (pos : ℕ) : Type 0 where
+pub record NodeIn (root : Row) (pos : ℕ) : Type 0 where
   pub page : ℕ
   pub holder : ℕ
   pub row : Row
@@ -456,51 +461,51 @@ pub record Spot (root : Row) (pos : ℕ) : Type 0 where
   pub split : items (pageSize * page + base row) row ≡ left ++ node pos ∷ right
 
 -- Every node of a row that is in a record,
-row-spots : {root : Row} (r : Row) {page holder : ℕ} {row : Row} {before after : List ℕ} {d : ℕ} → In root page holder row before after d
+row-nodes : {root : Row} (r : Row) {page holder : ℕ} {row : Row} {before after : List ℕ} {d : ℕ} → In root page holder row before after d
     → (pos : ℕ) (xs ys : List Item) → items (pageSize * page + base row) row ≡ xs ++ (items pos r ++ ys)
-    → (n : ℕ) → List·Memᴰ n (spots pos r) → Spot root n
-row-spots nil w pos xs ys e n m = absurd (List·Memᴰ·not-nil m)
-row-spots {root} (agg l cs rest) {page = page} w pos xs ys e n m =
+    → (n : ℕ) → List·Memᴰ n (spots pos r) → NodeIn root n
+row-nodes nil w pos xs ys e n m = absurd (List·Memᴰ·not-nil m)
+row-nodes {root} (agg l cs rest) {page = page} w pos xs ys e n m =
     first (List·Memᴰ·cases-cons m)
     (record { page = _; holder = _; row = _; before = _; after = _; depth = _; within = w; left = xs; right = items (pos + 6) cs ++ items (pos + (6 + size cs)) rest ++ ys; split = e })
-    (row-spots cs w (pos + 6) (xs ++ node pos ∷ []) (items (pos + (6 + size cs)) rest ++ ys) (e ∙ simp append-assoc) n)
-    (row-spots rest w (pos + (6 + size cs)) (xs ++ node pos ∷ items (pos + 6) cs) ys (e ∙ simp append-assoc) n)
+    (row-nodes cs w (pos + 6) (xs ++ node pos ∷ []) (items (pos + (6 + size cs)) rest ++ ys) (e ∙ simp append-assoc) n)
+    (row-nodes rest w (pos + (6 + size cs)) (xs ++ node pos ∷ items (pos + 6) cs) ys (e ∙ simp append-assoc) n)
   where
-    first : (n ≡ pos) ⊎ List·Memᴰ n (spots (pos + 6) cs ++ spots (pos + (6 + size cs)) rest) → Spot root pos
-        → (List·Memᴰ n (spots (pos + 6) cs) → Spot root n) → (List·Memᴰ n (spots (pos + (6 + size cs)) rest) → Spot root n) → Spot root n
-    first (inl q) i f g = subst (Spot root) (sym q) i
+    first : (n ≡ pos) ⊎ List·Memᴰ n (spots (pos + 6) cs ++ spots (pos + (6 + size cs)) rest) → NodeIn root pos
+        → (List·Memᴰ n (spots (pos + 6) cs) → NodeIn root n) → (List·Memᴰ n (spots (pos + (6 + size cs)) rest) → NodeIn root n) → NodeIn root n
+    first (inl q) i f g = subst (NodeIn root) (sym q) i
     first (inr j) i f g = sides (List·Memᴰ·append-cases (spots (pos + 6) cs) j)
       where
-        sides : List·Memᴰ n (spots (pos + 6) cs) ⊎ List·Memᴰ n (spots (pos + (6 + size cs)) rest) → Spot root n
+        sides : List·Memᴰ n (spots (pos + 6) cs) ⊎ List·Memᴰ n (spots (pos + (6 + size cs)) rest) → NodeIn root n
         sides (inl k) = f k
         sides (inr k) = g k
-row-spots {root} (lit l c rest) w pos xs ys e n m =
+row-nodes {root} (lit l c rest) w pos xs ys e n m =
     first (List·Memᴰ·cases-cons m)
     (record { page = _; holder = _; row = _; before = _; after = _; depth = _; within = w; left = xs; right = items (pos + (6 + length c)) rest ++ ys; split = e })
-    (row-spots rest w (pos + (6 + length c)) (xs ++ node pos ∷ []) ys (e ∙ simp append-assoc) n)
+    (row-nodes rest w (pos + (6 + length c)) (xs ++ node pos ∷ []) ys (e ∙ simp append-assoc) n)
   where
-    first : (n ≡ pos) ⊎ List·Memᴰ n (spots (pos + (6 + length c)) rest) → Spot root pos → (List·Memᴰ n (spots (pos + (6 + length c)) rest) → Spot root n) → Spot root n
-    first (inl q) i g = subst (Spot root) (sym q) i
+    first : (n ≡ pos) ⊎ List·Memᴰ n (spots (pos + (6 + length c)) rest) → NodeIn root pos → (List·Memᴰ n (spots (pos + (6 + length c)) rest) → NodeIn root n) → NodeIn root n
+    first (inl q) i g = subst (NodeIn root) (sym q) i
     first (inr j) i g = g j
-row-spots {root} (rec p s r rest) w pos xs ys e n m =
+row-nodes {root} (rec p s r rest) w pos xs ys e n m =
     let under = sub w xs (items (pos + 8) rest ++ ys) pos p r e in
     sides (List·Memᴰ·append-cases (spots (pageSize * p + base r) r) m)
-    (row-spots r under (pageSize * p + base r) [] [] (sym (append-nil (items (pageSize * p + base r) r))) n)
-    (row-spots rest w (pos + 8) (xs ++ proxy pos p r ∷ []) ys (e ∙ simp append-assoc) n)
+    (row-nodes r under (pageSize * p + base r) [] [] (sym (append-nil (items (pageSize * p + base r) r))) n)
+    (row-nodes rest w (pos + 8) (xs ++ proxy pos p r ∷ []) ys (e ∙ simp append-assoc) n)
   where
-    sides : List·Memᴰ n (spots (pageSize * p + base r) r) ⊎ List·Memᴰ n (spots (pos + 8) rest) → (List·Memᴰ n (spots (pageSize * p + base r) r) → Spot root n)
-        → (List·Memᴰ n (spots (pos + 8) rest) → Spot root n) → Spot root n
+    sides : List·Memᴰ n (spots (pageSize * p + base r) r) ⊎ List·Memᴰ n (spots (pos + 8) rest) → (List·Memᴰ n (spots (pageSize * p + base r) r) → NodeIn root n)
+        → (List·Memᴰ n (spots (pos + 8) rest) → NodeIn root n) → NodeIn root n
     sides (inl k) f g = f k
     sides (inr k) f g = g k
 
 -- and so each position of the document order is a node item of a record.
-pub spot-of : (root : Row) (n : ℕ) → List·Memᴰ n (spots (pageSize + base root) root) → Spot root n
-spot-of root n m = row-spots root top (pageSize + base root) [] [] (sym (append-nil (items (pageSize + base root) root))) n m
+pub node-in : (root : Row) (n : ℕ) → List·Memᴰ n (spots (pageSize + base root) root) → NodeIn root n
+node-in root n m = row-nodes root top (pageSize + base root) [] [] (sym (append-nil (items (pageSize + base root) root))) n m
 
 -- Where a node is in the document order.
-pub spot-split : {root : Row} {pos : ℕ} (w : Spot root pos)
+pub node-split : {root : Row} {pos : ℕ} (w : NodeIn root pos)
     → spots (pageSize + base root) root ≡ (w .before ++ expand (w .left)) ++ pos ∷ (expand (w .right) ++ w .after)
-spot-split {root} {pos} w =
+node-split {root} {pos} w =
     in-spots (w .within) ∙ rw (spots-split (pageSize * w .page + base (w .row)) (w .row) (w .left) (node pos ∷ w .right) (w .split)) (simp append-assoc)
 
 module _ (img : List ℕ) (st : Config) (root : Row) (r : Reads img st root) where
@@ -548,25 +553,25 @@ module _ (img : List ℕ) (st : Config) (root : Row) (r : Reads img st root) whe
 
   -- ── the items of a page, and the places ──
 
-  spot-stood : (n : ℕ) (w : Spot root n) → Stood img (w .page) n (node n)
-  spot-stood n w = item-at img (w .page) (pageSize * w .page + base (w .row)) (w .row) (in-page (w .within) .here) (w .left) (w .right) (node n) (w .split) .0
+  node-stood : (n : ℕ) (w : NodeIn root n) → Stood img (w .page) n (node n)
+  node-stood n w = item-at img (w .page) (pageSize * w .page + base (w .row)) (w .row) (in-page (w .within) .here) (w .left) (w .right) (node n) (w .split) .0
 
-  pub spot-header : (n : ℕ) (w : Spot root n) → Header img (w .page) n (node n)
-  spot-header n w = header-of img (w .page) n (node n) (spot-stood n w)
+  pub node-header : (n : ℕ) (w : NodeIn root n) → Header img (w .page) n (node n)
+  node-header n w = header-of img (w .page) n (node n) (node-stood n w)
 
   module _ {page holder : ℕ} {row : Row} {before after : List ℕ} {d : ℕ} (w : In root page holder row before after d) where
     -- A node item of a page's record is a node of the document order,
-    unfoldable pub item-spot : (n : ℕ) → List·Memᴰ (node n) (items (pageSize * page + base row) row) → Spot root n
-    item-spot n m =
+    unfoldable pub item-node : (n : ℕ) → List·Memᴰ (node n) (items (pageSize * page + base row) row) → NodeIn root n
+    item-node n m =
         let s = mem-split (node n) (items (pageSize * page + base row) row) m in
         record { page = page; holder = holder; row = row; before = before; after = after; depth = d; within = w; left = s .0; right = s .1; split = s .2 }
 
     -- and a node of the document order on this page is a node item of its record.
-    pub spot-item : (n : ℕ) → pageSize * page ≤ n → n < pageSize * page + pageSize → List·Memᴰ n (spots (pageSize + base root) root)
+    pub node-item : (n : ℕ) → pageSize * page ≤ n → n < pageSize * page + pageSize → List·Memᴰ n (spots (pageSize + base root) root)
         → List·Memᴰ (node n) (items (pageSize * page + base row) row)
-    spot-item n low high m =
-        let s = spot-of root n m in
-        let h = spot-header n s in
+    node-item n low high m =
+        let s = node-in root n m in
+        let h = node-header n s in
         let same : s .page ≡ page = omega (arith, h .low, h .room) in
         let one : s .row ≡ row = same-row (subst (λ (q : ℕ). In root q (s .holder) (s .row) (s .before) (s .after) (s .depth)) same (s .within)) w in
         let i : List·Memᴰ (node n) (items (pageSize * s .page + base (s .row)) (s .row)) = split-mem (node n) (items (pageSize * s .page + base (s .row)) (s .row)) (s .left) (s .right) (s .split) in

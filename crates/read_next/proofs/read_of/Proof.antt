@@ -1,4 +1,4 @@
--- `follow::read_of`: no node stands at the place, or an aggregate, or a literal.
+-- `read_next::read_of`: no node stands at the place, or an aggregate, or a literal.
 use Rattle.read_next.specs.Read.{told-stray, agg-told, lit-told}
 use Rattle.read_next.specs.Follow.{node-head}
 use mathlib.Core.Path.{sym, _∙_}
