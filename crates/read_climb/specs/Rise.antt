@@ -1,12 +1,10 @@
 -- From a record up to the root: the state of a climb, and the path that it ends with.
 use mathlib.Core.Path.{_≡_, refl, sym, ap, subst, _∙_}
-use mathlib.Core.Bool.{cond}
 use mathlib.Core.List.{List, [], _∷_, _++_}
 use mathlib.Core.Option.{some}
 use Prim.Native.Nat.{ℕ, suc, _+_, _*_, _-_, _/_, _≤_}
 use native.Mathlib.Omega.{arith}
-use lib.ListN.{length, getD, drop, length-append, drop-of-length-le}
-use lib.Dec.{eqb}
+use lib.ListN.{length, drop, length-append, drop-of-length-le}
 use Rattle.model.specs.Limits.{mostPages, pageSize, mostBytes, longestPath}
 use Rattle.model.specs.Row.{Row, base, Config}
 use Rattle.model.specs.Tree.{width, placeAt, placeOf}
@@ -20,7 +18,7 @@ use Rattle.theory_places.specs.Order.{lone-root, one-root}
 use Rattle.theory_layout.specs.Here.{OnPage}
 use Rattle.theory_layout.specs.Items.{Item, node, proxy, items, In, top, sub}
 use Rattle.theory_layout.specs.Order as order
-use Rattle.read_find.specs.Rowed.{width-steps}
+use Rattle.read_find.specs.Rowed.{startOn, width-steps}
 use Rattle.read_next.specs.Scan.{HeldBy, NodeAt}
 use Rattle.read_climb.specs.Route.{Has, has-split, number, way, Under, Finds, finds, place-levels, Within, lower}
 use Rattle.read_climb.specs.Search.{Tracing, wayOf, numberOf, Wrote}
@@ -147,7 +145,7 @@ module _ (img : List ℕ) (st : Config) (root : Row) (reads : Reads img st root)
   above holder p = omega (arith, c .shallow, p .fewer)
 
   -- What is asked of the trace of the record's row,
-  pub started : (start : ℕ) → start ≡ pageSize * page + cond (eqb (getD img (pageSize * page) 0) 4) 6 0
+  pub started : (start : ℕ) → start ≡ startOn img page
       → Started img start target carry at (number carry (c .has)) (way carry (c .has))
   started start e =
       let v = reads-valid img st root reads in
@@ -172,7 +170,7 @@ module _ (img : List ℕ) (st : Config) (root : Row) (reads : Reads img st root)
       (record { trace = t; number-is = refl; way-is = refl })
 
   -- and what it leaves: the number and path of x in the record's row.
-  module _ (start : ℕ) (e : start ≡ pageSize * page + cond (eqb (getD img (pageSize * page) 0) 4) 6 0) (index to : ℕ) (new : List ℕ)
+  module _ (start : ℕ) (e : start ≡ startOn img page) (index to : ℕ) (new : List ℕ)
       (t : Wrote (numberOf (started start e .trace)) (wayOf (started start e .trace)) at index to new path) where
     names : List ℕ
     names = way carry (c .has) ++ c .tail

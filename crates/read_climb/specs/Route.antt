@@ -1,5 +1,5 @@
 -- The way from a row to a node or a proxy in its record: its number in the row, and the child numbers from there on.
-use mathlib.Core.Path.{_≡_, sym, subst}
+use mathlib.Core.Path.{_≡_, sym, subst, refl, ap}
 use mathlib.Core.Bool.{Bool}
 use mathlib.Core.List.{List, [], _∷_, _++_, List·Memᴰ, List·Memᴰ·append-cases, List·Memᴰ·cases-cons, List·Memᴰ·not-nil}
 use mathlib.Core.Logic.{⊎-elim}
@@ -9,6 +9,8 @@ use native.Mathlib.Omega.{arith}
 use borrow.Author.Tests.{lt-ltb, le-ltb}
 use lib.ListN.{length}
 use lib.Dec.{ltb}
+use Rattle.theory_layout.specs.Widths.{firstWidth}
+use Rattle.theory_row_bytes.specs.RowAt.{sizeOf, restOf}
 use Rattle.model.specs.Limits.{pageSize}
 use Rattle.model.specs.Row.{Head, Row, nil, agg, lit, rec, size, base, height}
 use Rattle.model.specs.Tree.{width, placeAt}
@@ -110,6 +112,26 @@ module _ {item : Item} where
   spot-low pos (lit h c rest) (lit-past b) = omega (arith, spot-low (pos + (6 + length c)) rest b)
   spot-low pos (rec p s r rest) (rec-here e) = omega arith
   spot-low pos (rec p s r rest) (rec-past b) = omega (arith, spot-low (pos + 8) rest b)
+
+  -- It is past the row's first node, or there.
+  pub has-past : (pos : ℕ) (row : Row) (h : Has item pos row) → pos + sizeOf row ≤ order.at item
+      → (b : Has item (pos + sizeOf row) (restOf row)) × (spot b ≡ spot h) × (firstWidth row + before b ≡ before h)
+  has-past pos (agg h cs rest) (agg-here e) k = absurd (omega (arith, ap order.at e))
+  has-past pos (agg h cs rest) (agg-in b) k = absurd (omega (arith, has-high (pos + 6) cs b))
+  has-past pos (agg h cs rest) (agg-past b) k = (b, refl, omega arith)
+  has-past pos (lit h c rest) (lit-here e) k = absurd (omega (arith, ap order.at e))
+  has-past pos (lit h c rest) (lit-past b) k = (b, refl, omega arith)
+  has-past pos (rec p s r rest) (rec-here e) k = absurd (omega (arith, ap order.at e))
+  has-past pos (rec p s r rest) (rec-past b) k = (b, refl, refl)
+
+  pub has-first : (pos : ℕ) (row : Row) (h : Has item pos row) → order.at item < pos + sizeOf row → (spot h ≡ pos) × (before h ≡ 0)
+  has-first pos (agg h cs rest) (agg-here e) k = (refl, refl)
+  has-first pos (agg h cs rest) (agg-in b) k = (refl, refl)
+  has-first pos (agg h cs rest) (agg-past b) k = absurd (omega (arith, has-low (pos + (6 + size cs)) rest b))
+  has-first pos (lit h c rest) (lit-here e) k = (refl, refl)
+  has-first pos (lit h c rest) (lit-past b) k = absurd (omega (arith, has-low (pos + (6 + length c)) rest b))
+  has-first pos (rec p s r rest) (rec-here e) k = (refl, refl)
+  has-first pos (rec p s r rest) (rec-past b) k = absurd (omega (arith, has-low (pos + 8) rest b))
 
 -- ── what it finds ──
 

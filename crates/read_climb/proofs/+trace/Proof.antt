@@ -1,4 +1,4 @@
--- `ascend::trace`: a level of the way. The measure is the distance to the target.
+-- `read_climb::trace`: a level of the way. The measure is the distance to the target.
 use Prim.Native.Nat.{ℕ, _<_, _-_}
 use native.Mathlib.Omega.{arith}
 use Rattle.read_climb.specs.Search.{few-before, wrote-here, lower, trace-below, room-below, wrote-below}

@@ -24,11 +24,11 @@ width-requires c κs =
     let s = c .before .before .before in
     (inner-to (s .args .image .now) (s .args .pos) _ (ap (λ (n : ℕ). s .args .pos + n) (c .size-at .ensures .0)) (s .pre .2), s .pre .3)
 
-cast-t7 : tie.Need-cast-t7
-cast-t7 c = search needs
-
 cast-t8 : tie.Need-cast-t8
-cast-t8 c = let s = c .before .before .before .before in let few = inner-few (s .args .image .now) (s .args .pos) (s .pre .2) in let same = c .width .ensures (inner-to (s .args .image .now) (s .args .pos) _ (ap (λ (n : ℕ). s .args .pos + n) (c .before .size-at .ensures .0)) (s .pre .2)) in omega arith
+cast-t8 c = search needs
+
+cast-t9 : tie.Need-cast-t9
+cast-t9 c = let s = c .before .before .before .before in let few = inner-few (s .args .image .now) (s .args .pos) (s .pre .2) in let same = c .width .ensures (inner-to (s .args .image .now) (s .args .pos) _ (ap (λ (n : ℕ). s .args .pos + n) (c .before .size-at .ensures .0)) (s .pre .2)) in omega arith
 
 returns : tie.Need-returns
 returns c = λ w. let s = c .before .before .before .before in agg-is (s .args .image .now) (s .args .pos) _ _ (w .row) (c .before .before .label-at .ensures .0) (c .width .ensures (inner-to (s .args .image .now) (s .args .pos) _ (ap (λ (n : ℕ). s .args .pos + n) (c .before .size-at .ensures .0)) w))
@@ -42,6 +42,6 @@ read-agg-spec =
     add-end
     add-width
     width-requires
-    cast-t7
     cast-t8
+    cast-t9
     returns)

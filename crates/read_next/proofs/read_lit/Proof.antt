@@ -15,8 +15,8 @@ sub-len c = search needs
 content-at-requires : tie.Need-content-at-requires
 content-at-requires c κs = search needs
 
-cast-t6 : tie.Need-cast-t6
-cast-t6 c = search needs
+cast-t7 : tie.Need-cast-t7
+cast-t7 c = search needs
 
 returns : tie.Need-returns
 returns c = lit-is (c .before .before .before .before .args .image .now) (c .before .before .before .before .args .pos) _ _ _ (c .before .before .label-at .ensures .0) (c .before .size-at .ensures .0) (c .content-at .ensures)
@@ -29,5 +29,5 @@ read-lit-spec =
     size-at-requires
     sub-len
     content-at-requires
-    cast-t6
+    cast-t7
     returns)
