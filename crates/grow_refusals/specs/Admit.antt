@@ -166,7 +166,7 @@ module _ (img path : List ℕ) (child kind : ℕ) (content : List ℕ) where
         parent-read st root reads e = let u = parent-found st root reads in (u .node, subst (ReadAt img (u .node)) (sym e) (u .read))
 
         -- and the number that it gives.
-        pub by-parent : {parent : ℕ} (number : ℕ) → parent ≡ foundAt img path → ((n : Node) → ReadAt img n parent → number ≡ parentNumber n child) → Number number
+        pub by-parent : {parent : ℕ} (number : ℕ) → parent ≡ foundAt img path → ((n : Node) → ReadAt img n parent → number ≡ parentNumber (n .kind) (n .children) child) → Number number
         by-parent number e t = λ st root reads label.
             let u = parent-found st root reads in
             t (u .node) (subst (ReadAt img (u .node)) (sym e) (u .read)) ∙ sym (rw (u .names)) ∙ formed st root label

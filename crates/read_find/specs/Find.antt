@@ -23,7 +23,7 @@ use Rattle.theory_calls.specs.Open.{opens, passing}
 use Rattle.theory_layout.specs.Here.{nesting, Here, view, root-here, root-nesting}
 use Rattle.read_find.specs.declared.NthNode.{NthNode}
 use Rattle.read_find.specs.Nth.{nthOf, nth-none, nth-inside, nth-after, place-past}
-use Rattle.read_find.specs.Rowed.{Rowed}
+use Rattle.read_find.specs.Rowed.{Rowed, children-of}
 use Rattle.read_find.specs.Entries.{fourAt, never, whole, broken, NextEntry, next-entry}
 
 -- The place of byte pos of the image, and the answer that names it.
@@ -122,7 +122,7 @@ module _ (img bytes : List ℕ) (page pos off i len k : ℕ) (path : List ℕ) (
   into (agg l cs rest) h n d f y =
       let v = view h (omega arith) in
       record {
-        kids = record { page = page; row = cs; here = v .children; ends = omega (arith, v .size-is); deep = omega arith; few = omega arith };
+        kids = children-of h refl d f len long;
         found = λ r e g. record {
           path = path;
           spelled = spelled;

@@ -11,7 +11,7 @@ use Rattle.model.specs.Row.{Row, nil, agg, lit, rec, size, base}
 use Rattle.model.specs.Tree.{width}
 use Rattle.model.specs.Reading.{sizeAt, nameAt, usedAt, kindAt}
 use Rattle.theory_decoding.specs.Steps.{steps}
-use Rattle.theory_row_bytes.specs.RowAt.{kindOf, sizeOf, restOf, size-first}
+use Rattle.theory_row_bytes.specs.RowAt.{kindOf, sizeOf, kidsOf, restOf, size-first, agg-first}
 use Rattle.theory_layout.specs.Here.{nesting, parts-less, PageIn, Here, view}
 use Rattle.theory_layout.specs.Widths.{Widths, width-first, plain-width}
 use Rattle.read_find.specs.declared.NthNode.{NthNode}
@@ -55,6 +55,15 @@ past-first {img} {i} w len z h =
       deep = omega (arith, w .deep);
       few = omega (arith, w .few);
     }
+
+-- The children of the first node, an aggregate.
+abbrev pub children-of : {img : List ℕ} {page pos : ℕ} {row : Row} → Here img page pos row → kindOf row ≡ 1 → {depth : ℕ} → nesting row ≤ depth → steps row ≤ mostBytes
+    → (len : ℕ) → len ≡ sizeAt img pos → Rowed img (pos + 6) (pos + len) depth
+children-of {page = page} {row = row} v k d f len e =
+    let a = agg-first row k in
+    let l = parts-less row (a .0) in
+    let w = view v (a .0) in
+    record { page = page; row = kidsOf row; here = w .children; ends = omega (arith, w .size-is); deep = omega arith; few = omega arith }
 
 -- Where a record's row starts and ends, as it is read on its page.
 abbrev pub startOn : (img : List ℕ) → (page : ℕ) → ℕ

@@ -19,12 +19,12 @@ use Rattle.theory_decoding.specs.Reading.{reads-valid, unique}
 use Rattle.theory_places.specs.From.{from-split}
 use Rattle.theory_calls.specs.Open.{opens}
 use Rattle.theory_calls.specs.Navigate.{read-stray}
-use Rattle.theory_row_bytes.specs.RowAt.{kindOf, headOf, sizeOf, bodyOf, kidsOf}
-use Rattle.theory_layout.specs.Here.{parts-less, View, view}
+use Rattle.theory_row_bytes.specs.RowAt.{kindOf, headOf, bodyOf, kidsOf}
+use Rattle.theory_layout.specs.Here.{View, view}
 use Rattle.theory_layout.specs.Items.{expand}
 use Rattle.theory_layout.specs.Order.{NodeIn, node-split}
 use Rattle.theory_layout.specs.Nodes.{All, ReadAt, Both, nodes-split}
-use Rattle.read_find.specs.Rowed.{Rowed, width-steps}
+use Rattle.read_find.specs.Rowed.{Rowed, children-of, width-steps}
 use Rattle.read_next.specs.Scan.{NodeAt, NodeOf, Located, store-of}
 use Rattle.read_next.specs.Follow.{its-place}
 
@@ -104,23 +104,15 @@ module _ (img : List ℕ) (x : Place) (pos : ℕ) (i : NodeOf img (x .page) (x .
   pub agg-told : kindAt img pos ≡ 1 → AggTold img x pos
   unfolding v r
   agg-told k =
-      let g = is-agg (r .row) (sym (v .kind-is) ∙ k) in
-      let l = parts-less (r .row) (r .some) in
+      let e : kindOf (r .row) ≡ 1 = sym (v .kind-is) ∙ k in
       record {
-        inner = record {
-          page = r .page;
-          row = kidsOf (r .row);
-          here = v .children;
-          ends = omega (arith, v .size-is, g .1);
-          deep = omega (arith, r .deep);
-          few = omega (arith, r .few);
-        };
-        is = sym (t .is ∙ rw (r .kind-is, r .head-is, r .content-is, r .children-is, ← v .kind-is, ← v .head-is, k, g .0));
+        inner = children-of (r .here) e (r .deep) (r .few) _ refl;
+        is = sym (t .is ∙ rw (r .kind-is, r .head-is, r .content-is, r .children-is, ← v .kind-is, ← v .head-is, k, is-agg (r .row) e));
       }
     where
-      is-agg : (row : Row) → kindOf row ≡ 1 → (isAgg row ≡ true) × (sizeOf row ≡ 6 + size (kidsOf row))
+      is-agg : (row : Row) → kindOf row ≡ 1 → isAgg row ≡ true
       is-agg nil e = absurd (omega arith)
-      is-agg (agg h cs rest) e = (refl, refl)
+      is-agg (agg h cs rest) e = refl
       is-agg (lit h c rest) e = absurd (omega arith)
       is-agg (rec p s x rest) e = absurd (omega arith)
 

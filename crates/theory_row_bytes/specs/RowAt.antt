@@ -116,6 +116,13 @@ size-first (agg h cs rest) = refl
 size-first (lit h c rest) = refl
 size-first (rec p s r rest) = refl
 
+-- An aggregate is its header and its children.
+pub agg-first : (r : Row) → kindOf r ≡ 1 → (0 < size r) × (sizeOf r ≡ 6 + size (kidsOf r))
+agg-first nil e = absurd (omega arith)
+agg-first (agg h cs rest) e = (omega arith, refl)
+agg-first (lit h c rest) e = absurd (omega arith)
+agg-first (rec p s r rest) e = absurd (omega arith)
+
 -- ── a row ──
 
 -- The row stands in these bytes at this position.
