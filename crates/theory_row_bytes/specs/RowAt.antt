@@ -132,6 +132,7 @@ pub record RowAt (l : List ℕ) (pos : ℕ) (row : Row) : Type 0 where
 
 -- What is read at its first node, whatever its kind.
 pub record FirstNode (l : List ℕ) (pos : ℕ) (r : Row) : Type 0 where
+  pub header-is : take 6 (drop pos l) ≡ header (kindOf r) (headOf r) (sizeOf r)
   pub kind-is : kindAt l pos ≡ kindOf r
   pub head-is : HeadFits (headOf r) → headAt l pos ≡ headOf r
   pub size-is : sizeAt l pos ≡ sizeOf r
@@ -177,6 +178,7 @@ first-node l pos r some small s =
     let v : HeaderAt l pos (kindOf r) (headOf r) (sizeOf r) = record { post = bodyOf r ++ after; is = e } in
     let long = long-first r some in
     record {
+      header-is = ap (take 6) e;
       kind-is = header-kind v;
       head-is = header-head v;
       size-is = header-size v (omega (arith, size-first r));
@@ -195,8 +197,8 @@ pub row-bytes : (l : List ℕ) (pos : ℕ) (a : Row) → RowAt l pos a → take 
 row-bytes l pos a s = ap (take (size a)) (s .is) ∙ take-at (bytes a) (s .post) (size a) (length-bytes a)
 
 -- A row in two parts.
-pub row-parts : (l : List ℕ) (pos : ℕ) (a b : Row) → RowAt l pos (a ⊹ b) → RowAt l pos a × RowAt l (pos + size a) b
-row-parts l pos a b s =
+pub row-split : (l : List ℕ) (pos : ℕ) (a b : Row) → RowAt l pos (a ⊹ b) → RowAt l pos a × RowAt l (pos + size a) b
+row-split l pos a b s =
     let e : drop pos l ≡ bytes a ++ (bytes b ++ s .post) = s .is ∙ simp (bytes-⊹, append-assoc) in
     (record { post = bytes b ++ s .post; is = e }, record { post = s .post; is = past l pos (size a) (bytes a) (bytes b ++ s .post) (length-bytes a) e })
 
