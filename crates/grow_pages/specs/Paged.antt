@@ -8,7 +8,7 @@ use borrow.Author.Tests.{eqb-true, eqb-false, eq-eqb, leb-true, leb-false}
 use lib.Dec.{eqb, leb}
 use lib.ListN.{length, take, drop, replicate, length-append, length-take, length-drop, length-replicate, take-append-drop}
 use lib.Seq.{take-at, drop-at, take-append-le, drop-append-le, drop-drop, length-take-le}
-use Rattle.model.specs.Limits.{pageSize}
+use Rattle.model.specs.Limits.{pageSize, capacity}
 use Rattle.model.specs.Row.{Row, nil, agg, lit, rec, two}
 use Rattle.model.specs.Reading.{pageOf}
 use Rattle.base_numbers.specs.Over.{over, over-is, length-over, over-left, over-right, over-all}
@@ -112,5 +112,5 @@ length-links n q (agg l cs rest) img b h =
     length-links n q rest (links q cs img) (b .1) (omega arith) ∙ e
 length-links n q (lit l c rest) img b h = length-links n q rest img b h
 length-links n q (rec p s r rest) img b h =
-    let e : length (over (pageSize * p + 4084) (two q) img) ≡ length img = length-over (pageSize * p + 4084) (two q) img (omega (arith, b .0)) in
-    length-links n q rest (over (pageSize * p + 4084) (two q) img) (b .1) (omega arith) ∙ e
+    let e : length (over (pageSize * p + (capacity + 4)) (two q) img) ≡ length img = length-over (pageSize * p + (capacity + 4)) (two q) img (omega (arith, b .0)) in
+    length-links n q rest (over (pageSize * p + (capacity + 4)) (two q) img) (b .1) (omega arith) ∙ e

@@ -42,9 +42,9 @@ pub record-written : (p s h : ℕ) (c l a b d e f g : List ℕ) → pageSize * p
     → a ≡ over (pageSize * p) c l
     → b ≡ over (pageSize * p + length c) (replicate (capacity - length c) 0) a
     → d ≡ over (pageSize * p + capacity) (two (1 + 256 * s)) b
-    → e ≡ over (pageSize * p + 4082) (two (length c)) d
-    → f ≡ over (pageSize * p + 4084) (two h) e
-    → g ≡ over (pageSize * p + 4086) (replicate 10 0) f
+    → e ≡ over (pageSize * p + capacity + 2) (two (length c)) d
+    → f ≡ over (pageSize * p + capacity + 4) (two h) e
+    → g ≡ over (pageSize * p + capacity + 6) (replicate 10 0) f
     → g ≡ setPage p (pageBytesOf c s h) l
 unfolding setPage pageBytesOf
 record-written p s h c l a b d e f g room k t qa qb qd qe qf qg =
