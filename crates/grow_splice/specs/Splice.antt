@@ -6,6 +6,7 @@ use Prim.Native.Nat.{ℕ, _+_, _-_, _<_, _≤_}
 use native.Mathlib.Omega.{arith}
 use lib.ListN.{length, take, drop, length-append, length-take, length-drop}
 use lib.Seq.{take-at, drop-at, length-take-le, take-all}
+use Rattle.theory_row_bytes.specs.RowAt.{RecordIs}
 use Rattle.model.specs.Row.{Head, Row, nil, agg, lit, rec, _⊹_, size, nodeCount, lone, base, header, bytes, recordSize, recordBytes, count, noHead}
 use Rattle.base_numbers.specs.Over.{over, over-then, over-front, over-again, take-over}
 use Rattle.theory_rows.specs.Laws.{length-bytes, size-⊹, bytes-⊹}
@@ -87,7 +88,7 @@ pub record Place (l : List ℕ) (pos par gone : ℕ) (new : List ℕ) : Type 0 w
   pub old : Row
   pub tail : Row
   pub put : Row
-  pub is : l ≡ recordBytes (fill spot (old ⊹ tail))
+  pub is : RecordIs l (fill spot (old ⊹ tail))
   pub goes : size old ≡ gone
   pub comes : new ≡ bytes put
   pub offset : pos ≡ at (base (fill spot (old ⊹ tail))) spot
@@ -194,13 +195,13 @@ part-end l pos = take-all (length l - pos) (drop pos l) (simp length-drop (omega
 -- ── the two uses ──
 
 -- A row put in, in front of `tail`.
-abbrev pub put-in : (s : Spot) (put tail : Row) (l : List ℕ) (pos par : ℕ) (new : List ℕ) → l ≡ recordBytes (fill s tail) → pos ≡ at (base (fill s tail)) s
+abbrev pub put-in : (s : Spot) (put tail : Row) (l : List ℕ) (pos par : ℕ) (new : List ℕ) → RecordIs l (fill s tail) → pos ≡ at (base (fill s tail)) s
     → par ≡ parent 0 (base (fill s tail)) s → new ≡ bytes put → KeepsRoot s tail (put ⊹ tail) → Place l pos par 0 new
 put-in s put tail l pos par new e a p n k = record { spot = s; old = nil; tail = tail; put = put; is = e; goes = refl; comes = n; offset = a; holder = p; root = k }
 
 -- A row in the place of a proxy.
 abbrev pub put-for : (s : Spot) (page : ℕ) (settled : Bool) (row put tail : Row) (l : List ℕ) (pos par : ℕ) (new : List ℕ)
-    → let r = fill s (rec page settled row tail) in l ≡ recordBytes r → pos ≡ at (base r) s → par ≡ parent 0 (base r) s → new ≡ bytes put
+    → let r = fill s (rec page settled row tail) in RecordIs l r → pos ≡ at (base r) s → par ≡ parent 0 (base r) s → new ≡ bytes put
     → KeepsRoot s (rec page settled row tail) (put ⊹ tail) → Place l pos par 8 new
 put-for s q t r put tail l pos par new e a p n k = record {
   spot = s;

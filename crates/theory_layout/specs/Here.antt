@@ -1,11 +1,10 @@
 -- A row that stands in an image: what is read at its first node, and that its parts stand too.
-use mathlib.Core.Path.{_≡_, sym, ap, subst, _∙_}
+use mathlib.Core.Path.{_≡_, subst, _∙_}
 use mathlib.Core.Bool.{true, cond}
 use mathlib.Core.List.{List}
 use Prim.Native.Nat.{ℕ, suc, _+_, _*_, _-_, _≤_, _<_, max}
 use native.Mathlib.Omega.{arith}
 use lib.ListN.{length, getD, take, drop}
-use lib.Seq.{getD-drop, getD-take}
 use lib.Dec.{eqb}
 use Rattle.model.specs.Limits.{mostPages, pageSize, capacity}
 use Rattle.model.specs.Row.{Row, nil, agg, lit, rec, store, size, base, recordSize, Held, recordPage}
@@ -19,6 +18,7 @@ use Rattle.theory_decoding.specs.Decode.{two-bytes, in-trailer, used-page, stor
 use Rattle.theory_decoding.specs.Reading.{reads-valid, reads-length}
 use Rattle.theory_places.specs.Order.{lone-root}
 use Rattle.theory_row_bytes.specs.RowAt.{RowAt, first-node, kindOf, headOf, sizeOf, bodyOf, nameOf, kidsOf, restOf, record-row, record-first, page-record}
+use Rattle.theory_row_bytes.specs.RowAt.{byte-on, number-on}
 
 -- How far records are nested below a row.
 abbrev pub nesting : Row → ℕ
@@ -71,14 +71,10 @@ pub record OnPage (img : List ℕ) (page holder : ℕ) (row : Row) : Type 0 wher
 module _ (img : List ℕ) (h : Held) (p : PageIn img (h .page)) (e : pageOf img (h .page) ≡ recordPage h) (f : recordSize (h .row) ≤ capacity)
     (b : h .holder < mostPages) where
   pub page-byte : (i : ℕ) → i < pageSize → getD img (pageSize * h .page + i) 0 ≡ getD (recordPage h) i 0
-  page-byte i k =
-      sym (getD-drop (pageSize * h .page) img i 0) ∙ sym (getD-take pageSize (drop (pageSize * h .page) img) i 0 k) ∙ ap (λ (z : List ℕ). getD z i 0) e
+  page-byte = byte-on img (h .page) e
 
   pub page-number : (i : ℕ) → i < 4095 → twoAt img (pageSize * h .page + i) ≡ twoAt (recordPage h) i
-  unfolding twoAt
-  page-number i k =
-      let z : pageSize * h .page + i + 1 ≡ pageSize * h .page + (i + 1) = omega arith in
-      rw (z, page-byte i (omega arith), page-byte (i + 1) (omega arith))
+  page-number = number-on img (h .page) e
 
   pub page-view : Fits (h .row) → Stored (pageOf img) (h .page) (h .row) → ((q : ℕ) → 1 ≤ count q (h .row) → PageIn img q)
       → OnPage img (h .page) (h .holder) (h .row)

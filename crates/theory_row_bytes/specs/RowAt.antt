@@ -6,7 +6,7 @@ use mathlib.Core.List.{List, [], _∷_, _++_, append-assoc, append-nil}
 use Prim.Native.Nat.{ℕ, _+_, _*_, _-_, _/_, _%_, _<_, _≤_}
 use native.Mathlib.Omega.{arith}
 use lib.ListN.{length, getD, take, drop, replicate, length-append, length-drop, take-append-drop}
-use lib.Seq.{getD-drop, drop-drop, take-at, drop-at}
+use lib.Seq.{getD-drop, getD-take, drop-drop, take-at, drop-at}
 use lib.Dec.{eqb}
 use Rattle.model.specs.Limits.{pageSize, capacity}
 use Rattle.model.specs.Row.{Head, Row, nil, agg, lit, rec, _⊹_, size, lone, base, two, header, bytes, recordBytes, recordSize, noHead, trailer, Held, recordPage}
@@ -14,6 +14,7 @@ use Rattle.model.specs.Reading.{twoAt, kindAt, headAt, sizeAt, nameAt, pageOf}
 use Rattle.base_numbers.specs.Over.{over, over-right}
 use Rattle.theory_rows.specs.Fits.{HeadFits}
 use Rattle.theory_rows.specs.Laws.{length-bytes, bytes-⊹}
+use Rattle.theory_rows.specs.Image.{length-record}
 use Rattle.theory_decoding.specs.Decode.{two-bytes}
 
 -- The first bytes at pos are passed.
@@ -157,6 +158,12 @@ long-first (agg hd cs rest) h = omega (arith, length-bytes cs)
 long-first (lit hd c rest) h = refl
 long-first (rec p s r rest) h = refl
 
+-- A node alone.
+pub one-bytes : (a : Row) → 0 < size a → restOf a ≡ nil → bytes a ≡ header (kindOf a) (headOf a) (size a) ++ bodyOf a
+one-bytes a h e =
+    let z : sizeOf a ≡ size a = omega (arith, size-first a, ap size e) in
+    bytes-first a h ∙ rw (z, e, append-nil)
+
 name-first : {l : List ℕ} {pos : ℕ} (r : Row) (v : HeaderAt l pos (kindOf r) (headOf r) (sizeOf r)) (more : List ℕ) → v .post ≡ bodyOf r ++ more
     → kindOf r ≡ 3 → nameOf r < 65536 → nameAt l pos ≡ nameOf r
 name-first nil v more q k f = absurd (omega arith)
@@ -232,6 +239,9 @@ module _ {l : List ℕ} {pos : ℕ} {row : Row} (s : RecordAt l pos row) where
       go true e = past l pos 0 [] (bytes row ++ s .post) refl e
       go false e = past l pos 6 (header 4 noHead (6 + size row)) (bytes row ++ s .post) refl e
 
+  pub record-bytes : take (recordSize row) (drop pos l) ≡ recordBytes row
+  record-bytes = ap (take (recordSize row)) (s .is) ∙ take-at (recordBytes row) (s .post) (recordSize row) (length-record row)
+
   -- A helper is known by its kind.
   pub record-first : cond (eqb (kindAt l pos) 4) 6 0 ≡ base row
   record-first = go row (lone row) refl (s .is)
@@ -243,6 +253,19 @@ module _ {l : List ℕ} {pos : ℕ} {row : Row} (s : RecordAt l pos row) where
       go (lit h c rest) true q e = rw (header-kind {k = 2} {h = h} {n = 6 + length c} (record { post = (c ++ bytes rest) ++ s .post; is = e }))
       go (rec p t x rest) true q e = absurd (false≢true q)
       go r false q e = rw (header-kind {k = 4} {h = noHead} {n = 6 + size r} (record { post = bytes r ++ s .post; is = e }))
+
+-- ── a page ──
+
+module _ (img : List ℕ) (p : ℕ) {s : List ℕ} (e : pageOf img p ≡ s) where
+  pub byte-on : (i : ℕ) → i < pageSize → getD img (pageSize * p + i) 0 ≡ getD s i 0
+  byte-on i k =
+      sym (getD-drop (pageSize * p) img i 0) ∙ sym (getD-take pageSize (drop (pageSize * p) img) i 0 k) ∙ ap (λ (z : List ℕ). getD z i 0) e
+
+  pub number-on : (i : ℕ) → i < 4095 → twoAt img (pageSize * p + i) ≡ twoAt s i
+  unfolding twoAt
+  number-on i k =
+      let z : pageSize * p + i + 1 ≡ pageSize * p + (i + 1) = omega arith in
+      rw (z, byte-on i (omega arith), byte-on (i + 1) (omega arith))
 
 -- The record of a page stands where its page starts.
 pub page-record : (img : List ℕ) (h : Held) → pageOf img (h .page) ≡ recordPage h → RecordAt img (pageSize * h .page) (h .row)
