@@ -26,7 +26,7 @@ use Rattle.theory_insert_point.specs.Chain.{Spot, here, inside, fill, before, p
 use Rattle.theory_insert_point.specs.Taking.{Taking, taking, taking-whole}
 use Rattle.theory_insert_point.specs.Beside.{offsetIn, Beside, behindNode, behindProxy, taking-first, taking-beside, offset-past}
 use Rattle.theory_insert_point.specs.Bytes.{here-fill, chain-page, taking-here}
-use Rattle.theory_insert_point.specs.Parts.{Part, part-fill, part-whole}
+use Rattle.theory_insert_point.specs.Parts.{Part, part-fill, part-whole, nesting-part, steps-part}
 use Rattle.grow_splice.specs.Spot.{isInside}
 use Rattle.grow_locate.specs.Parent.{parentIn, Parent, parent-of, parent-wide, taking-parent}
 use Rattle.grow_locate.specs.Aim.{Aimed, receiverOf}
@@ -125,24 +125,6 @@ module _ (img : List ℕ) (st : Config) (root : Row) (reads : Reads img st root)
   goes-room = omega (arith, taking-here img st root reads path k t e .room)
 
 -- ── the parent ──
-
-nesting-part : Part nesting
-nesting-part = record {
-  children = λ h cs rest. omega arith;
-  after-agg = λ h cs rest. omega arith;
-  after-lit = λ h c rest. omega arith;
-  under = λ p b r rest. omega arith;
-  after-rec = λ p b r rest. omega arith;
-}
-
-steps-part : Part steps
-steps-part = record {
-  children = λ h cs rest. omega arith;
-  after-agg = λ h cs rest. omega arith;
-  after-lit = λ h c rest. omega arith;
-  under = λ p b r rest. omega arith;
-  after-rec = λ p b r rest. omega arith;
-}
 
 -- The left sibling of child k of the aggregate at `parent`, if there is one, stands at the byte `left`.
 abbrev pub LeftAt : (img : List ℕ) → (parent k left : ℕ) → Type 0

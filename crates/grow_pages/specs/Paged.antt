@@ -4,7 +4,7 @@ use mathlib.Core.Bool.{Bool, true, false, cond}
 use mathlib.Core.List.{List, _++_, append-assoc}
 use Prim.Native.Nat.{ℕ, _+_, _-_, _*_, _≤_}
 use native.Mathlib.Omega.{arith}
-use borrow.Author.Tests.{eqb-true, eqb-false, eq-eqb, leb-true, leb-false}
+use borrow.Author.Tests.{eqb-true, eqb-false, leb-true, leb-false}
 use lib.Dec.{eqb, leb}
 use lib.ListN.{length, take, drop, replicate, length-append, length-take, length-drop, length-replicate, take-append-drop}
 use lib.Seq.{take-at, drop-at, take-append-le, drop-append-le, drop-drop, length-take-le}
@@ -88,16 +88,6 @@ module _ (p : ℕ) (s img : List ℕ) (long : length s ≡ pageSize) (room : pag
       ap (λ (i : ℕ). pageOf (over i s img) q) z
       ∙ page-over p 0 s img (omega arith) room q
       ∙ ap (λ (v : List ℕ). cond (eqb q p) v (pageOf img q)) (over-all s (pageOf img p) (long ∙ sym (length-page p img room)))
-
-  pub set-same : pageOf (setPage p s img) p ≡ s
-  set-same = page-set p ∙ rw (eq-eqb p p refl)
-
-  pub set-other : (q : ℕ) → (q ≡ p → ⊥) → pageOf (setPage p s img) q ≡ pageOf img q
-  set-other q e = page-set q ∙ go (eqb q p) refl
-    where
-      go : (b : Bool) → eqb q p ≡ b → cond b s (pageOf img q) ≡ pageOf img q
-      go true f = absurd (e (eqb-true q p f))
-      go false f = refl
 
 -- A page is cleared.
 pub page-cleared : (p : ℕ) (img : List ℕ) → pageSize * p + pageSize ≤ length img → (q : ℕ) → pageOf (setPage p (replicate pageSize 0) img) q ≡ cond (eqb q p) (replicate pageSize 0) (pageOf img q)

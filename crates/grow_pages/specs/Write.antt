@@ -90,9 +90,9 @@ module _ (st : Config) (u : List ℕ) (left q : ℕ) where
       go zero h = absurd (omega arith)
       go (suc k′) h = rw (f, ← s, sub-one) (sym (simp (ne-eqb _ _ e)))
 
-  pub free-none : left ≤ 0 → 0 ≡ freeFrom st left (usedBy u) q
+  pub free-spent : left ≤ 0 → 0 ≡ freeFrom st left (usedBy u) q
   unfolding freeFrom
-  free-none h = go left h
+  free-spent h = go left h
     where
       go : (k : ℕ) → k ≤ 0 → 0 ≡ freeFrom st k (usedBy u) q
       go zero h = refl

@@ -59,9 +59,6 @@ pub size-around : (s : Spot) (x : Row) → size (fill s x) ≡ around s + size x
 size-around (here left) x = size-⊹ left x
 size-around (inside left h rest s) x = omega (arith, size-⊹ left (agg h (fill s x) rest), size-around s x)
 
-pub size-fill : (s : Spot) (x : Row) → size (fill s x) ≡ size (fill s nil) + size x
-size-fill s x = omega (arith, size-around s x, size-around s nil)
-
 pub bytes-fill : (s : Spot) (x : Row) → bytes (fill s x) ≡ before s (size x) ++ (bytes x ++ beyond s)
 bytes-fill (here left) x = bytes-⊹ left x ∙ ap (λ (z : List ℕ). bytes left ++ z) (sym (append-nil (bytes x)))
 bytes-fill (inside left h rest s) x = simp (bytes-⊹ left (agg h (fill s x) rest), size-around s x, bytes-fill s x, append-assoc)

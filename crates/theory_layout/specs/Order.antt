@@ -20,6 +20,7 @@ use Rattle.theory_rows.specs.Laws.{cond-case}
 use Rattle.theory_rows.specs.Image.{image-page}
 use Rattle.theory_decoding.specs.Reading.{reads-valid}
 use Rattle.theory_places.specs.Pages.{pages-once}
+use Rattle.theory_places.specs.Member.{mem-split}
 use Rattle.theory_row_bytes.specs.RowAt.{kindOf, sizeOf}
 use Rattle.theory_layout.specs.Here.{nesting, PageIn, Here, OnPage, view, root-page, root-nesting}
 use Rattle.theory_layout.specs.Items.{Item, node, proxy, items, spots, shows, expand, In, top, sub}
@@ -69,12 +70,6 @@ in-spots {root} (sub {page = page} {row = row} {before = before} {after = after}
 abbrev pub at : Item → ℕ
 at (node q) = q
 at (proxy q p r) = q
-
-pub mem-split : {A : Type 0} (a : A) (l : List A) → List·Memᴰ a l → (xs ys : List A) × (l ≡ xs ++ a ∷ ys)
-mem-split a (b ∷ l) (List·Memᴰ·head e) = ([], l, ap (λ x. x ∷ l) (sym e))
-mem-split a (b ∷ l) (List·Memᴰ·tail i) =
-    let s = mem-split a l i in
-    (b ∷ s .0, s .1, ap (_∷_ b) (s .2))
 
 pub split-mem : {A : Type 0} (a : A) (l xs ys : List A) → l ≡ xs ++ a ∷ ys → List·Memᴰ a l
 split-mem a l xs ys e = rw e (Memᴰ·append-right xs (List·Memᴰ·head refl))

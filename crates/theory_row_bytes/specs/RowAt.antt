@@ -2,7 +2,7 @@
 -- How a header is laid out concerns nobody above this file.
 use mathlib.Core.Path.{_≡_, refl, sym, ap, _∙_}
 use mathlib.Core.Bool.{Bool, true, false, cond, false≢true}
-use mathlib.Core.List.{List, [], _∷_, _++_, append-assoc, append-nil}
+use mathlib.Core.List.{List, [], _++_, append-assoc, append-nil}
 use Prim.Native.Nat.{ℕ, _+_, _*_, _-_, _/_, _%_, _<_, _≤_}
 use native.Mathlib.Omega.{arith}
 use lib.ListN.{length, getD, take, drop, replicate, length-append, length-drop, take-append-drop}
@@ -226,9 +226,6 @@ RecordIs l row = l ≡ recordBytes row
 pub record RecordAt (l : List ℕ) (pos : ℕ) (row : Row) : Type 0 where
   pub post : List ℕ
   pub is : drop pos l ≡ recordBytes row ++ post
-
-pub whole-record : {l : List ℕ} (row : Row) → RecordIs l row → RecordAt l 0 row
-whole-record row e = record { post = []; is = e ∙ sym (append-nil (recordBytes row)) }
 
 module _ {l : List ℕ} {pos : ℕ} {row : Row} (s : RecordAt l pos row) where
   -- Its row stands past the helper's header, if there is a helper.

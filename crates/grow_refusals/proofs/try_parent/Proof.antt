@@ -1,19 +1,10 @@
 -- `grow_refusals::try_parent`: the kind's byte, and the search for the left sibling.
-use mathlib.Core.Path.{_≡_, refl}
-use mathlib.Core.Bool.{Bool, true, false, not, false≢true, true≢false}
 use native.Mathlib.Omega.{arith}
 use borrow.Author.Needs.{needs}
+use borrow.Author.Tests.{not-true, not-false}
 use Rattle.grow_refusals.specs.Parent.{read-room, is-literal, is-first, searched, is-past, is-within, left-is}
 use Rattle.grow_refusals.proofs.try_parent.Statement.{statement}
 use Rattle.grow_refusals.proofs.try_parent.Tie as tie
-
-was-false : (b : Bool) → not b ≡ true → b ≡ false
-was-false true e = absurd (false≢true e)
-was-false false e = refl
-
-was-true : (b : Bool) → not b ≡ false → b ≡ true
-was-true true e = refl
-was-true false e = absurd (true≢false e)
 
 shared-slice-read-if1 : tie.Need-shared-slice-read-if1
 shared-slice-read-if1 c = omega (arith, read-room (c .before .before .pre .0 .1))
@@ -45,7 +36,7 @@ returns-3 : tie.Need-returns-3
 returns-3 c =
     let t = c .before .before .before in
     let z = t .before .before .if1 .left in (
-      λ n r. is-past r z _ (t .size-at .ensures .0) _ (t .before .if2 .left) _ (c .before .before .nth .ensures (searched r z _ (t .size-at .ensures .0))) (was-false _ (c .if3 .taken)),
+      λ n r. is-past r z _ (t .size-at .ensures .0) _ (t .before .if2 .left) _ (c .before .before .nth .ensures (searched r z _ (t .size-at .ensures .0))) (not-true _ (c .if3 .taken)),
       λ z. absurd (omega arith),
     )
 
@@ -53,7 +44,7 @@ returns-4 : tie.Need-returns-4
 returns-4 c =
     let t = c .before .before .before in
     let z = t .before .before .if1 .left in (
-      λ n r. is-within r z _ (t .size-at .ensures .0) _ (t .before .if2 .left) _ (c .before .before .nth .ensures (searched r z _ (t .size-at .ensures .0))) (was-true _ (c .if3 .left)),
+      λ n r. is-within r z _ (t .size-at .ensures .0) _ (t .before .if2 .left) _ (c .before .before .nth .ensures (searched r z _ (t .size-at .ensures .0))) (not-false _ (c .if3 .left)),
       λ _. left-is _ _ _ _ _ (t .size-at .ensures .0) (c .before .before .nth .ensures),
     )
 
