@@ -80,7 +80,8 @@ module _ (img : List ℕ) (st : Config) (root : Row) (reads : Reads img st root)
   whole-around : (s : Spot) (one : Row) → t .spot ≡ past s one → whole (t .chain) (fill s (one ⊹ t .rest)) ≡ root
   whole-around s one z = ap (whole (t .chain)) (sym (around s one z)) ∙ taking-whole root path k t e
 
-  before-here : (s : Spot) (one : Row) → t .spot ≡ past s one → Here img (lastPage (t .chain)) (pageSize * lastPage (t .chain) + base (fill s (one ⊹ t .rest)) + before s) (one ⊹ t .rest)
+  before-here : (s : Spot) (one : Row) → t .spot ≡ past s one
+      → Here img (lastPage (t .chain)) (pageSize * lastPage (t .chain) + base (fill s (one ⊹ t .rest)) + before s) (one ⊹ t .rest)
   before-here s one z =
       here-fill img (lastPage (t .chain)) (pageSize * lastPage (t .chain) + base (fill s (one ⊹ t .rest))) s (one ⊹ t .rest)
       (chain-page img st root reads (t .chain) (fill s (one ⊹ t .rest)) (whole-around s one z) .here)
@@ -147,7 +148,8 @@ module _ (img : List ℕ) (parent k : ℕ) (w : Aimed img parent k) where
       let n : ℕ = pageSize * lastPage (found .chain) + base (fill (found .spot) row) in
       let z : n + before (found .spot) ≡ parent = omega (arith, w .at, found .page, found .offset) in
       subst (λ (n : ℕ). Here img (lastPage (found .chain)) n row) z
-      (here-fill img (lastPage (found .chain)) n (found .spot) row (chain-page img (w .st) (w .root) (w .reads) (found .chain) (fill (found .spot) row) (found .is) .here))
+      (here-fill img (lastPage (found .chain)) n (found .spot) row
+      (chain-page img (w .st) (w .root) (w .reads) (found .chain) (fill (found .spot) row) (found .is) .here))
 
   part-of : (f : Row → ℕ) → Part f → f row ≤ f (w .root)
   part-of f q =
@@ -174,7 +176,8 @@ module _ (img : List ℕ) (parent k : ℕ) (w : Aimed img parent k) where
   module _ (i : ℕ) (z : k ≡ suc i) where
     left : Leads img (nthOf (parent + 6) (found .children) i .at) [] (placeAt (lastPage (found .chain)) (w .y .offset + 6) i [] (found .children))
     left =
-        reach img (lastPage (found .chain)) (parent + 6) (w .y .offset + 6) i [] (found .children) (view parent-here (omega arith) .children) (omega (arith, w .at, found .page)) (omega (arith, deep)) (omega (arith, few))
+        reach img (lastPage (found .chain)) (parent + 6) (w .y .offset + 6) i [] (found .children) (view parent-here (omega arith) .children)
+        (omega (arith, w .at, found .page)) (omega (arith, deep)) (omega (arith, few))
         (nth-found (parent + 6) (found .children) i (parent-wide (w .st) (w .root) v k (λ j. placeOf (w .root) (w .path ++ j ∷ [])) (w .t) (w .y) found i z))
 
     abbrev left-place : Place
@@ -192,7 +195,8 @@ module _ (img : List ℕ) (parent k : ℕ) (w : Aimed img parent k) where
     unfolding kids
     sibling at l =
         let e : k - 1 ≡ i = omega arith in
-        subst (λ (x : ℕ). Behind img x (goesAt (w .t))) (sym (l (kids (sizeAt img parent) refl) (λ y. omega arith) ∙ ap (λ (i : ℕ). nthOf (parent + 6) (found .children) i .at) e)) left-behind
+        subst (λ (x : ℕ). Behind img x (goesAt (w .t)))
+        (sym (l (kids (sizeAt img parent) refl) (λ y. omega arith) ∙ ap (λ (i : ℕ). nthOf (parent + 6) (found .children) i .at) e)) left-behind
 
   -- The first child goes behind the header.
   pub goes-first : k ≡ 0 → parent + 6 ≡ goesAt (w .t)

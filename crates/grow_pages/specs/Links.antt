@@ -97,7 +97,9 @@ module _ (l : List ℕ) (n q pos : ℕ) (img goal : List ℕ) (few : n ≤ mostP
         more = omega (arith, v .size-is);
         within = omega (arith, v .size-is);
         into = λ k. absurd (omega (arith, v .kind-is));
-        proxy = λ k. (v .size-is, (rw name (b .0), record { row = rest; stands = v .rest; ends = omega arith; small = omega arith; below = b .1; same = rw name e }));
+        proxy =
+            λ k.
+            (v .size-is, (rw name (b .0), record { row = rest; stands = v .rest; ends = omega arith; small = omega arith; below = b .1; same = rw name e }));
         past = λ k m. absurd (m (v .kind-is));
       }
 

@@ -37,12 +37,15 @@ after-over at m xs l h k =
     let n : length (take at l ++ xs) ≡ a = simp (length-append, length-take) (omega arith) in
     let w : drop a (over at xs l) ≡ drop a l =
     ap (drop a) (over-is at xs l ∙ sym (append-assoc (take at l) xs (drop a l))) ∙ drop-at (take at l ++ xs) (drop a l) a n in
-    ap (λ (i : ℕ). drop i (over at xs l)) (sym e) ∙ sym (drop-drop (m - a) a (over at xs l)) ∙ ap (drop (m - a)) w ∙ drop-drop (m - a) a l ∙ ap (λ (i : ℕ). drop i l) e
+    ap (λ (i : ℕ). drop i (over at xs l)) (sym e) ∙ sym (drop-drop (m - a) a (over at xs l)) ∙ ap (drop (m - a)) w ∙ drop-drop (m - a) a l
+    ∙ ap (λ (i : ℕ). drop i l) e
 
 -- ── a write within a page ──
 
 pub length-page : (p : ℕ) (img : List ℕ) → pageSize * p + pageSize ≤ length img → length (pageOf img p) ≡ pageSize
-length-page p img h = let e : length (drop (pageSize * p) img) ≡ length img - pageSize * p = length-drop (pageSize * p) img in length-take-le pageSize (drop (pageSize * p) img) (omega arith)
+length-page p img h =
+    let e : length (drop (pageSize * p) img) ≡ length img - pageSize * p = length-drop (pageSize * p) img in
+    length-take-le pageSize (drop (pageSize * p) img) (omega arith)
 
 module _ (p k : ℕ) (xs img : List ℕ) (h : k + length xs ≤ pageSize) (room : pageSize * p + pageSize ≤ length img) where
   pub page-same : pageOf (over (pageSize * p + k) xs img) p ≡ over k xs (pageOf img p)
@@ -90,7 +93,8 @@ module _ (p : ℕ) (s img : List ℕ) (long : length s ≡ pageSize) (room : pag
       ∙ ap (λ (v : List ℕ). cond (eqb q p) v (pageOf img q)) (over-all s (pageOf img p) (long ∙ sym (length-page p img room)))
 
 -- A page is cleared.
-pub page-cleared : (p : ℕ) (img : List ℕ) → pageSize * p + pageSize ≤ length img → (q : ℕ) → pageOf (setPage p (replicate pageSize 0) img) q ≡ cond (eqb q p) (replicate pageSize 0) (pageOf img q)
+pub page-cleared : (p : ℕ) (img : List ℕ) → pageSize * p + pageSize ≤ length img → (q : ℕ)
+    → pageOf (setPage p (replicate pageSize 0) img) q ≡ cond (eqb q p) (replicate pageSize 0) (pageOf img q)
 page-cleared p img room q = page-set p (replicate pageSize 0) img (length-replicate {A = ℕ} pageSize 0) room q
 
 -- ── back links ──
@@ -102,5 +106,6 @@ length-links n q (agg l cs rest) img b h =
     length-links n q rest (links q cs img) (b .1) (omega arith) ∙ e
 length-links n q (lit l c rest) img b h = length-links n q rest img b h
 length-links n q (rec p s r rest) img b h =
-    let e : length (over (pageSize * p + (capacity + 4)) (two q) img) ≡ length img = length-over (pageSize * p + (capacity + 4)) (two q) img (omega (arith, b .0)) in
+    let e : length (over (pageSize * p + (capacity + 4)) (two q) img) ≡ length img =
+    length-over (pageSize * p + (capacity + 4)) (two q) img (omega (arith, b .0)) in
     length-links n q rest (over (pageSize * p + (capacity + 4)) (two q) img) (b .1) (omega arith) ∙ e

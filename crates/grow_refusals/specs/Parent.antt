@@ -65,7 +65,8 @@ module _ {img : List ℕ} {kind : ℕ} {head : Head} {content : List ℕ} {child
           within : (b : Bool) → ltb (k - 1) (width (kidsOf (r .row))) ≡ b → k ≤ width (kidsOf (r .row))
           within true g = omega (arith, ltb-true (k - 1) (width (kidsOf (r .row))) g)
           within false g =
-              absurd (true≢false (sym f ∙ ap (λ (x : NthNode). x .found) (q ∙ nth-left (parent + 6) (kidsOf (r .row)) (k - 1) (ltb-false (k - 1) (width (kidsOf (r .row))) g))))
+              absurd (true≢false
+              (sym f ∙ ap (λ (x : NthNode). x .found) (q ∙ nth-left (parent + 6) (kidsOf (r .row)) (k - 1) (ltb-false (k - 1) (width (kidsOf (r .row))) g))))
 
 -- The search's result is where the left sibling stands.
 pub left-is : (img : List ℕ) (parent k len : ℕ) (x : NthNode) → len ≡ sizeAt img parent

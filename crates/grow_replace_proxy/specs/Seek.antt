@@ -99,7 +99,8 @@ module _ (l : List ℕ) (page pos goal : ℕ) (b : Bool) (old rest : Row) where
       let x = rec page b old rest in
       let d = push-first x (agg h cs nil) t v (omega arith) in
       let z : pos + size (agg h cs nil) ≡ pos + 6 + size cs = omega arith in
-      let c : (q : ℕ) → count q (fill (push (agg h cs nil) t) x) ≡ count q (fill (push cs t) x) = λ q. omega (arith, count-push q (agg h cs nil) t x, count-push q cs t x) in
+      let c : (q : ℕ) → count q (fill (push (agg h cs nil) t) x) ≡ count q (fill (push cs t) x) =
+      λ q. omega (arith, count-push q (agg h cs nil) t x, count-push q cs t x) in
       record {
         within = room (push (agg h cs nil) t) v;
         into = λ k. record {
@@ -118,7 +119,8 @@ module _ (l : List ℕ) (page pos goal : ℕ) (b : Bool) (old rest : Row) where
       }
 
   -- past a node
-  seek-past : (a : Row) (t : Spot) → Left l pos (push a t) (rec page b old rest) → goal ≡ at pos (push a t) → count page (fill (push a t) (rec page b old rest)) ≤ 1
+  seek-past : (a : Row) (t : Spot) → Left l pos (push a t) (rec page b old rest) → goal ≡ at pos (push a t)
+      → count page (fill (push a t) (rec page b old rest)) ≤ 1
       → ((q : ℕ) → 1 ≤ count q (fill (push a t) (rec page b old rest)) → q < 65536) → Seek l page (pos + size a) goal
   seek-past a t v g o n =
       let x = rec page b old rest in

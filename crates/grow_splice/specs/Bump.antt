@@ -28,7 +28,8 @@ pub record Mid (cur goal : List ℕ) (pos par n : ℕ) : Type 0 where
 
 pub mid-end : (cur goal : List ℕ) (pos par n : ℕ) → Mid cur goal pos par n → par < pos → cur ≡ goal
 mid-end cur goal pos par n m h =
-    m .now ∙ ap (λ (z : List ℕ). m .pre ++ z) (before-plain (m .spot) (m .outer) pos (m .filled) (m .filled + n) (m .low) (omega (arith, m .at))) ∙ sym (m .then)
+    m .now ∙ ap (λ (z : List ℕ). m .pre ++ z) (before-plain (m .spot) (m .outer) pos (m .filled) (m .filled + n) (m .low) (omega (arith, m .at)))
+    ∙ sym (m .then)
 
 -- what stands at pos
 pub record Look (cur goal : List ℕ) (pos par n : ℕ) : Type 0 where
@@ -154,7 +155,8 @@ module _ (l : List ℕ) (par n : ℕ) (w : Cut l par n) where
         pre = header (w .kind) (w .head) (6 + (around (w .spot) + (w .filled + n)));
         outer = 0;
         now = ap (λ (k : ℕ). over 4 (two k) l) z ∙ ap (over 4 (two (6 + (around (w .spot) + (w .filled + n))))) (w .is)
-            ∙ header-resized [] (before (w .spot) (w .filled)) 0 (w .kind) (w .head) (6 + (around (w .spot) + w .filled)) (6 + (around (w .spot) + (w .filled + n))) refl;
+            ∙ header-resized [] (before (w .spot) (w .filled)) 0 (w .kind) (w .head) (6 + (around (w .spot) + w .filled))
+            (6 + (around (w .spot) + (w .filled + n))) refl;
         then = refl;
         len = refl;
         low = omega arith;
@@ -163,7 +165,8 @@ module _ (l : List ℕ) (par n : ℕ) (w : Cut l par n) where
       }
 
 -- the walk's two steps, as the code takes them
-pub mid-enter : (cur goal next : List ℕ) (pos par n r : ℕ) → Mid cur goal pos par n → pos ≤ par → r ≡ sizeAt cur pos → par < pos + r → next ≡ over (pos + 4) (two (r + n)) cur → Mid next goal (pos + 6) par n
+pub mid-enter : (cur goal next : List ℕ) (pos par n r : ℕ) → Mid cur goal pos par n → pos ≤ par → r ≡ sizeAt cur pos → par < pos + r
+    → next ≡ over (pos + 4) (two (r + n)) cur → Mid next goal (pos + 6) par n
 mid-enter cur goal next pos par n r m h e k q =
     let v = look cur goal pos par n m h in
     let z : r ≡ v .sz = e ∙ v .is in

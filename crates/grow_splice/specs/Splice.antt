@@ -107,7 +107,8 @@ apart : (k : ℕ) (n : Head) (s : Spot) (x y : Row)
     → header k n (6 + size (fill s (x ⊹ y))) ++ bytes (fill s (x ⊹ y)) ≡ fore k n s (size (x ⊹ y)) ++ (bytes x ++ (bytes y ++ beyond s))
 apart k n s x y =
     (λ i. header k n (6 + size-around s (x ⊹ y) i) ++ bytes-fill s (x ⊹ y) i)
-    ∙ ap (λ (z : List ℕ). header k n (6 + (around s + size (x ⊹ y))) ++ (before s (size (x ⊹ y)) ++ z)) (ap (λ (z : List ℕ). z ++ beyond s) (bytes-⊹ x y) ∙ append-assoc (bytes x) (bytes y) (beyond s))
+    ∙ ap (λ (z : List ℕ). header k n (6 + (around s + size (x ⊹ y))) ++ (before s (size (x ⊹ y)) ++ z))
+    (ap (λ (z : List ℕ). z ++ beyond s) (bytes-⊹ x y) ∙ append-assoc (bytes x) (bytes y) (beyond s))
 
 module _ (l : List ℕ) (pos par gone : ℕ) (new : List ℕ) (w : Place l pos par gone new) where
   seen : Whole (w .spot) (w .old ⊹ w .tail) (w .put ⊹ w .tail)
@@ -163,8 +164,10 @@ module _ (l : List ℕ) (pos par gone : ℕ) (new : List ℕ) (w : Place l pos p
   }
 
   -- the four writes of a splice
-  pub steps : (o a g b d : List ℕ) (n : ℕ) (e : take pos a ≡ take pos l) (h : length l + (n - gone) < 65536) → n ≡ length new → gone ≤ n → length l + n ≤ length o + gone
-      → a ≡ over 0 (take pos l) o → g ≡ grown (take pos a) par (n - gone) (cut (take pos a) (n - gone) e h) → length g ≡ pos → b ≡ over pos new (g ++ drop pos a)
+  pub steps : (o a g b d : List ℕ) (n : ℕ) (e : take pos a ≡ take pos l) (h : length l + (n - gone) < 65536) → n ≡ length new → gone ≤ n
+      → length l + n ≤ length o + gone
+      → a ≡ over 0 (take pos l) o → g ≡ grown (take pos a) par (n - gone) (cut (take pos a) (n - gone) e h) → length g ≡ pos
+      → b ≡ over pos new (g ++ drop pos a)
       → d ≡ over (pos + n) (drop (pos + gone) l) b → d ≡ over 0 (recordBytes (spliced l pos par gone new w)) o
   unfolding cut back-bytes
   steps o a g b d n e h k low room pa pg len pb pd =
@@ -179,7 +182,8 @@ module _ (l : List ℕ) (pos par gone : ℕ) (new : List ℕ) (w : Place l pos p
       let z : m + (n - gone) ≡ size (w .put ⊹ w .tail) = omega (arith, larger (omega arith)) in
       let x : (g ++ new) ++ drop (pos + gone) l ≡ (fore (seen .kind) (seen .head) t (m + (n - gone)) ++ bytes (w .put)) ++ (bytes (w .tail) ++ beyond t) =
       λ j. (pg j ++ w .comes j) ++ back j in
-      let y : (fore (seen .kind) (seen .head) t (m + (n - gone)) ++ bytes (w .put)) ++ (bytes (w .tail) ++ beyond t) ≡ recordBytes (spliced l pos par gone new w) =
+      let y : (fore (seen .kind) (seen .head) t (m + (n - gone)) ++ bytes (w .put)) ++ (bytes (w .tail) ++ beyond t) ≡ recordBytes
+      (spliced l pos par gone new w) =
       ap (λ (v : ℕ). (fore (seen .kind) (seen .head) t v ++ bytes (w .put)) ++ (bytes (w .tail) ++ beyond t)) z
       ∙ append-assoc (fore (seen .kind) (seen .head) t (size (w .put ⊹ w .tail))) (bytes (w .put)) (bytes (w .tail) ++ beyond t)
       ∙ sym (seen .is ∙ apart (seen .kind) (seen .head) t (w .put) (w .tail)) in
@@ -197,7 +201,8 @@ part-end l pos = take-all (length l - pos) (drop pos l) (simp length-drop (omega
 -- A row put in, in front of `tail`.
 abbrev pub put-in : (s : Spot) (put tail : Row) (l : List ℕ) (pos par : ℕ) (new : List ℕ) → RecordIs l (fill s tail) → pos ≡ at (base (fill s tail)) s
     → par ≡ parent 0 (base (fill s tail)) s → new ≡ bytes put → KeepsRoot s tail (put ⊹ tail) → Place l pos par 0 new
-put-in s put tail l pos par new e a p n k = record { spot = s; old = nil; tail = tail; put = put; is = e; goes = refl; comes = n; offset = a; holder = p; root = k }
+put-in s put tail l pos par new e a p n k =
+    record { spot = s; old = nil; tail = tail; put = put; is = e; goes = refl; comes = n; offset = a; holder = p; root = k }
 
 -- A row in the place of a proxy.
 abbrev pub put-for : (s : Spot) (page : ℕ) (settled : Bool) (row put tail : Row) (l : List ℕ) (pos par : ℕ) (new : List ℕ)

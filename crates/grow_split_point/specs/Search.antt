@@ -41,7 +41,8 @@ not-or true b = refl
 not-or false b = refl
 
 -- By the table an aggregate may stand only in an aggregate, of the nodes that a row can hold.
-into-read : (st : Config) (tol : ℕ) (r : Row) → 0 < size r → st .tolerance ≡ tol → goesInto st r ≡ mayStand (kindOf r) 1 && (ltb 6 (sizeOf r) && leb tol (sizeOf r))
+into-read : (st : Config) (tol : ℕ) (r : Row) → 0 < size r → st .tolerance ≡ tol
+    → goesInto st r ≡ mayStand (kindOf r) 1 && (ltb 6 (sizeOf r) && leb tol (sizeOf r))
 unfolding mayStand standing
 into-read st tol nil k e = absurd (omega arith)
 into-read st tol (agg h cs rest) k e =
@@ -54,7 +55,8 @@ pub not-next : (a b d : ℕ) → ((a < b) × (leb a d ≡ false)) ⊎ (b ≤ a) 
 not-next a b d (inl (h, e)) = rw (lt-ltb a b h, e)
 not-next a b d (inr h) = rw (le-ltb a b h)
 
-pub not-into : (a r : Bool) (b d : ℕ) → r ≡ a → ((r ≡ true) × (ltb 6 b ≡ true) × (leb d b ≡ false)) ⊎ (((r ≡ true) × (ltb 6 b ≡ false)) ⊎ (r ≡ false)) → a && (ltb 6 b && leb d b) ≡ false
+pub not-into : (a r : Bool) (b d : ℕ) → r ≡ a → ((r ≡ true) × (ltb 6 b ≡ true) × (leb d b ≡ false)) ⊎ (((r ≡ true) × (ltb 6 b ≡ false)) ⊎ (r ≡ false))
+    → a && (ltb 6 b && leb d b) ≡ false
 not-into a r b d q (inl (e, k, m)) = rw (← q, e, k, m)
 not-into a r b d q (inr (inl (e, k))) = rw (← q, e, k)
 not-into a r b d q (inr (inr e)) = rw (← q, e)
@@ -70,7 +72,8 @@ abbrev pub withTolerance : ℕ → Config
 withTolerance t = record { pages = 0; target = 0; tolerance = t; form = 0; matrix = [] }
 
 -- by the row's first node
-start-by : (st : Config) (p pos : ℕ) (r : Row) → 0 < size r → startOf st p pos r ≡ cond (goes p (pos + sizeOf r) (restOf r)) (startOf st p (pos + sizeOf r) (restOf r))
+start-by : (st : Config) (p pos : ℕ) (r : Row) → 0 < size r
+    → startOf st p pos r ≡ cond (goes p (pos + sizeOf r) (restOf r)) (startOf st p (pos + sizeOf r) (restOf r))
     (cond (goesInto st r) (startOf st p (pos + 6) (kidsOf r)) pos)
 unfolding startOf
 start-by st p pos nil h = absurd (omega arith)
@@ -122,7 +125,8 @@ size-by : (b : Bool) (one P : Row) (n : ℕ) → size (one ⊹ P) ≡ n + size P
 size-by true one P n e = e
 size-by false one P n e = refl
 
-passed-by : (p pos : ℕ) (r : Row) → 0 < size r → size (passed p pos r) ≡ cond (goes p (pos + sizeOf r) (restOf r)) (sizeOf r + size (passed p (pos + sizeOf r) (restOf r))) 0
+passed-by : (p pos : ℕ) (r : Row) → 0 < size r
+    → size (passed p pos r) ≡ cond (goes p (pos + sizeOf r) (restOf r)) (sizeOf r + size (passed p (pos + sizeOf r) (restOf r))) 0
 unfolding passed
 passed-by p pos nil h = absurd (omega arith)
 passed-by p pos (agg h cs rest) k = size-by (goes p (pos + (6 + size cs)) rest) (agg h cs nil) (passed p (pos + (6 + size cs)) rest) (6 + size cs) refl

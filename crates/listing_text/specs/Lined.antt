@@ -30,7 +30,8 @@ rowText l (rec p s r rest) = rowText l r ++ rowText l rest
 lines-append : (l : ℕ) (a b : List Node) → linesOf l (a ++ b) ≡ linesOf l a ++ linesOf l b
 unfolding linesOf
 lines-append l [] b = refl
-lines-append l (n ∷ a) b = rw (lines-append l a b) (sym (append-assoc (lineOf (l + length (n .path)) (letterOf (n .kind)) (n .head .label) (n .content)) (linesOf l a) (linesOf l b)))
+lines-append l (n ∷ a) b =
+    rw (lines-append l a b) (sym (append-assoc (lineOf (l + length (n .path)) (letterOf (n .kind)) (n .head .label) (n .content)) (linesOf l a) (linesOf l b)))
 
 -- A node's level does not depend on its number in its row, and is one more from the row above.
 lines-further : (l k : ℕ) (a : List Node) → linesOf l (map (further k) a) ≡ linesOf l a
@@ -46,7 +47,8 @@ lines-below l (n ∷ a) =
     rw (e, lines-below l a)
 
 -- The lines of a branch: its own, those of its children, those of the nodes after it.
-lines-branch : (l : ℕ) (h : Head) (cs rest : Tree) → linesOf l (nodes (branch h cs rest)) ≡ lineOf l 65 (h .label) [] ++ linesOf (l + 1) (nodes cs) ++ linesOf l (nodes rest)
+lines-branch : (l : ℕ) (h : Head) (cs rest : Tree)
+    → linesOf l (nodes (branch h cs rest)) ≡ lineOf l 65 (h .label) [] ++ linesOf (l + 1) (nodes cs) ++ linesOf l (nodes rest)
 unfolding linesOf
 lines-branch l h cs rest =
     let e : l + 0 ≡ l = omega arith in
@@ -191,7 +193,8 @@ module _ {img : List ℕ} {i next end level depth : ℕ} (a : At img i next end 
       none =
           let n = node-fits a in
           let at : RowAt img next nil = record { post = drop next img; is = refl } in
-          record { at = at; on = h .on; start = omega (arith, h .start); room = omega (arith, h .room); fits = tt; stored = tt; names = λ q y. absurd (omega arith) }
+          record
+          { at = at; on = h .on; start = omega (arith, h .start); room = omega (arith, h .room); fits = tt; stored = tt; names = λ q y. absurd (omega arith) }
   lines-by (rec p s r rest) h e d =
       let v = view h (omega arith) in
       let u = v .under in
@@ -201,7 +204,8 @@ module _ {img : List ℕ} {i next end level depth : ℕ} (a : At img i next end 
       rw (v .kind-is) record {
         below = omega arith;
         names = λ _. (subst (PageIn img) (sym name) (u .here .on), omega (arith, a .long, v .size-is));
-        inside = record { page = p; row = r; here = subst (λ (n : ℕ). Here img p n r) (sym x) (u .here); ends = omega (arith, x, y); deep = omega arith; low = omega (arith, low) };
+        inside =
+            record { page = p; row = r; here = rw x (u .here); ends = omega (arith, x, y); deep = omega arith; low = omega (arith, low) };
         after = behind (rec p s r rest) h e d;
         text = refl;
       }
@@ -218,7 +222,8 @@ pub record Fitting (img : List ℕ) (pos end level depth at : ℕ) (out : List �
   pub room : Room (rowText level (lined .row)) at out
 
 -- They are written.
-pub record Texted {img : List ℕ} {pos end level depth at : ℕ} {out : List ℕ} (w : Fitting img pos end level depth at out) (after : List ℕ) (n : ℕ) : Type 0 where
+pub record Texted {img : List ℕ} {pos end level depth at : ℕ} {out : List ℕ} (w : Fitting img pos end level depth at out) (after : List ℕ)
+    (n : ℕ) : Type 0 where
   pub wrote : Wrote (rowText level (w .lined .row)) at out after n
 
 -- Of the whole text t, what stands before node i is written, and the row from i on is left.
@@ -234,7 +239,8 @@ pub underway-start : {img : List ℕ} {pos end level depth at : ℕ} {out : List
 underway-start {img} {pos} {end} {level} {depth} {at} {out} w =
     record { done = []; rest = w .lined; wrote = nothing at out (omega (arith, w .room .fits)); whole = refl; room = w .room }
 
-abbrev pub at-node : {img : List ℕ} {i end level depth : ℕ} (len : ℕ) → Lined img i end level depth → i < end → len ≡ sizeAt img i → At img i (i + len) end level depth
+abbrev pub at-node : {img : List ℕ} {i end level depth : ℕ} (len : ℕ) → Lined img i end level depth → i < end → len ≡ sizeAt img i
+    → At img i (i + len) end level depth
 at-node {img} {i} len w h e = record { lined = w; some = h; long = ap (λ (n : ℕ). i + n) e }
 
 pub lines-at : {img : List ℕ} {i next end level depth : ℕ} → (a : At img i next end level depth) → (x : Extent) → x ≡ insideOf img i next level
@@ -251,9 +257,11 @@ module _ {img : List ℕ} {i next end level depth at n : ℕ} {before now t own 
   own-room = record { fits = omega (arith, total, g .room .fits, g .wrote .ends, g .wrote .same) }
 
   pub inside-fitting : {m : ℕ} {mid : List ℕ} → Wrote own n now mid m → Fitting img (x .start) (x .stop) (x .level) (depth - 1) m mid
-  inside-fitting w = record { lined = s .inside; room = record { fits = omega (arith, total, g .room .fits, g .wrote .ends, g .wrote .same, w .ends, w .same) } }
+  inside-fitting w =
+      record { lined = s .inside; room = record { fits = omega (arith, total, g .room .fits, g .wrote .ends, g .wrote .same, w .ends, w .same) } }
 
-  pub underway-on : {m k : ℕ} {mid after : List ℕ} → (w : Wrote own n now mid m) → Texted (inside-fitting w) after k → Underway img next end level depth at k before after t
+  pub underway-on : {m k : ℕ} {mid after : List ℕ} → (w : Wrote own n now mid m) → Texted (inside-fitting w) after k
+      → Underway img next end level depth at k before after t
   unfolding inside-fitting
   underway-on w v = record {
     done = g .done ++ own ++ rowText (x .level) (s .inside .row);
@@ -263,7 +271,8 @@ module _ {img : List ℕ} {i next end level depth at n : ℕ} {before now t own 
     room = g .room;
   }
 
-pub underway-end : {img : List ℕ} {i end level depth at n : ℕ} {before now t : List ℕ} → Underway img i end level depth at n before now t → end ≤ i → Wrote t at before now n
+pub underway-end : {img : List ℕ} {i end level depth at n : ℕ} {before now t : List ℕ} → Underway img i end level depth at n before now t → end ≤ i
+    → Wrote t at before now n
 unfolding rowText
 underway-end {img} {i} {end} {level} {depth} {at} {n} {before} {now} {t} g h = go (g .rest .row) (g .rest .ends) (g .whole)
   where

@@ -1,8 +1,8 @@
 // The text that the listing program prints for an input, written to a lent buffer.
-use base_numbers::copy_in;
 use base_layout::label_at;
 use base_layout::name_at;
 use base_layout::size_at;
+use base_numbers::copy_in;
 use base_numbers::wide;
 use model::Settings;
 use read_find::row_end;

@@ -34,7 +34,8 @@ pub has-item : (item : Item) (pos : ℕ) (row : Row) → List·Memᴰ item (item
 has-item item pos nil m = absurd (List·Memᴰ·not-nil m)
 has-item item pos (agg h cs rest) m =
     ⊎-elim agg-here
-    (λ n. ⊎-elim (λ a. agg-in (has-item item (pos + 6) cs a)) (λ b. agg-past (has-item item (pos + (6 + size cs)) rest b)) (List·Memᴰ·append-cases (items (pos + 6) cs) n))
+    (λ n. ⊎-elim (λ a. agg-in (has-item item (pos + 6) cs a)) (λ b. agg-past (has-item item (pos + (6 + size cs)) rest b))
+    (List·Memᴰ·append-cases (items (pos + 6) cs) n))
     (List·Memᴰ·cases-cons m)
 has-item item pos (lit h c rest) m = ⊎-elim lit-here (λ n. lit-past (has-item item (pos + (6 + length c)) rest n)) (List·Memᴰ·cases-cons m)
 has-item item pos (rec p s r rest) m = ⊎-elim rec-here (λ n. rec-past (has-item item (pos + 8) rest n)) (List·Memᴰ·cases-cons m)
@@ -146,13 +147,15 @@ pub record Finds (page at : ℕ) (row : Row) (i : ℕ) (path : List ℕ) (x : Pl
   pub place : placeAt page at i path row ≡ some x
 
 module _ (page carry : ℕ) (tail : List ℕ) (x : Place) where
-  here : (at pos : ℕ) → pos ≡ pageSize * page + at → Under page (node pos) carry tail x → (carry ≡ 0) × (tail ≡ []) × (some (record { page = page; offset = at }) ≡ some x)
+  here : (at pos : ℕ) → pos ≡ pageSize * page + at → Under page (node pos) carry tail x
+      → (carry ≡ 0) × (tail ≡ []) × (some (record { page = page; offset = at }) ≡ some x)
   here at pos p u =
       let o : at ≡ x .offset = omega (arith, u .3) in
       (u .0, u .1, λ i. some (record { page = sym (u .2) i; offset = o i }))
 
   -- The number and way of an item lead to what the item leads to.
-  pub finds : (item : Item) (pos : ℕ) (row : Row) (h : Has item pos row) (at : ℕ) → pos ≡ pageSize * page + at → Under page item carry tail x → Finds page at row (number carry h) (way carry h ++ tail) x
+  pub finds : (item : Item) (pos : ℕ) (row : Row) (h : Has item pos row) (at : ℕ) → pos ≡ pageSize * page + at → Under page item carry tail x
+      → Finds page at row (number carry h) (way carry h ++ tail) x
   unfolding placeAt
   finds item pos (agg l cs rest) (agg-here e) at p u =
       let k = here at pos p (subst (λ (z : Item). Under page z carry tail x) e u) in

@@ -129,13 +129,15 @@ pub record Searching (img : List ℕ) (target i n at passed : ℕ) : Type 0 wher
   pub same : spot (now .has) ≡ at
   pub counts : n + before (now .has) ≡ passed
 
-pub go-on : (img : List ℕ) (target i n at passed len k : ℕ) → (g : Searching img target i n at passed) → len ≡ sizeAt img i → i + len ≤ target → k ≡ firstWidth (g .now .row)
+pub go-on : (img : List ℕ) (target i n at passed len k : ℕ) → (g : Searching img target i n at passed) → len ≡ sizeAt img i → i + len ≤ target
+    → k ≡ firstWidth (g .now .row)
     → Searching img target (i + len) (n + k) at passed
 go-on img target i n at passed len k g long on e =
     let t = turn img i len target long (g .now) on in
     record { now = t .after; same = t .same ∙ g .same; counts = omega (arith, t .counts, g .counts) }
 
-pub go-end : (img : List ℕ) (target i n at passed len : ℕ) → (g : Searching img target i n at passed) → len ≡ sizeAt img i → target < i + len → (i ≡ at) × (n ≡ passed)
+pub go-end : (img : List ℕ) (target i n at passed len : ℕ) → (g : Searching img target i n at passed) → len ≡ sizeAt img i → target < i + len
+    → (i ≡ at) × (n ≡ passed)
 go-end img target i n at passed len g long off =
     let s = stop img i len target long (g .now) off in
     (sym (s .0) ∙ g .same, omega (arith, s .1, g .counts))
@@ -225,7 +227,8 @@ drop-over at xs l h = ap (drop at) (over-is at xs l) ∙ drop-at (take at l) (xs
 
 module _ (img : List ℕ) (pos target carry at : ℕ) (w : Tracing img pos target carry at) (c : ℕ) (found : c ≡ spot (w .search .has)) where
   -- The item is at its node's start,
-  pub wrote-here : (passed : ℕ) (path : List ℕ) → passed ≡ before (w .search .has) → c ≡ target → length path ≡ longestPath → Wrote (numberOf w) (wayOf w) at (passed + carry) at path path
+  pub wrote-here : (passed : ℕ) (path : List ℕ) → passed ≡ before (w .search .has) → c ≡ target → length path ≡ longestPath
+      → Wrote (numberOf w) (wayOf w) at (passed + carry) at path path
   wrote-here passed path e k n =
       let s = w .search in
       let r = at-row img target carry (s .item) (s .starts) pos (s .row) (s .has) (sym found ∙ k) in

@@ -81,7 +81,8 @@ reach img page pos off k path (rec p s r rest) h e d f y =
         subst (λ (x : NthNode). Leads img (x .at) path (placeAt p (base r) k path r)) (sym g) (within (ap (λ (x : NthNode). x .found) (sym g) ∙ y))
     go false b within beyond =
         let g = nth-after pos p s r rest k (ltb-false k (width r) b) in
-        subst (λ (x : NthNode). Leads img (x .at) path (placeAt page (off + 8) (k - width r) path rest)) (sym g) (beyond (ap (λ (x : NthNode). x .found) (sym g) ∙ y))
+        subst (λ (x : NthNode). Leads img (x .at) path (placeAt page (off + 8) (k - width r) path rest)) (sym g)
+        (beyond (ap (λ (x : NthNode). x .found) (sym g) ∙ y))
 
 -- ── the whole path ──
 
@@ -129,7 +130,8 @@ module _ (img bytes : List ℕ) (page pos off i len k : ℕ) (path : List ℕ) (
           leads =
               subst (λ (x : NthNode). Leads img (x .at) path t) (sym e)
               (subst (Leads img (nthOf (pos + 6) cs k .at) path) y
-              (reach img page (pos + 6) (off + 6) k path cs (v .children) (omega arith) (omega arith) (omega arith) (ap (λ (x : NthNode). x .found) (sym e) ∙ g)));
+              (reach img page (pos + 6) (off + 6) k path cs (v .children) (omega arith) (omega arith) (omega arith)
+              (ap (λ (x : NthNode). x .found) (sym e) ∙ g)));
         };
         missing = λ r e g. sym y ∙ place-past page (off + 6) k path cs (nth-none (pos + 6) cs k (ap (λ (x : NthNode). x .found) (sym e) ∙ g));
       }
@@ -186,7 +188,8 @@ unnamed root (some p) e = go (named (shown root) p) refl
     go none f = refl
     go (some n) f = never (sym e ∙ named-place root p n f .1)
 
-is-named : (root : Row) (o : Option (List ℕ)) (x : Place) → placeIf root o ≡ some x → (isNone (namedIf (shown root) o) ≡ false) × (placeOf root (orEmpty o) ≡ some x)
+is-named : (root : Row) (o : Option (List ℕ)) (x : Place) → placeIf root o ≡ some x
+    → (isNone (namedIf (shown root) o) ≡ false) × (placeOf root (orEmpty o) ≡ some x)
 is-named root none x e = never e
 is-named root (some p) x e = go (named (shown root) p) refl
   where

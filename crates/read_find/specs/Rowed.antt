@@ -57,7 +57,8 @@ past-first {img} {i} w len z h =
     }
 
 -- The children of the first node, an aggregate.
-abbrev pub children-of : {img : List ℕ} {page pos : ℕ} {row : Row} → Here img page pos row → kindOf row ≡ 1 → {depth : ℕ} → nesting row ≤ depth → steps row ≤ mostBytes
+abbrev pub children-of : {img : List ℕ} {page pos : ℕ} {row : Row} → Here img page pos row → kindOf row ≡ 1 → {depth : ℕ} → nesting row ≤ depth
+    → steps row ≤ mostBytes
     → (len : ℕ) → len ≡ sizeAt img pos → Rowed img (pos + 6) (pos + len) depth
 children-of {page = page} {row = row} v k d f len e =
     let a = agg-first row k in
@@ -126,7 +127,8 @@ module _ (img : List ℕ) (i end depth p : ℕ) (some : i < end) (kind : kindAt 
         on = subst (PageIn img) (sym same) (u .here .on);
         below = omega arith;
         long = v .size-is;
-        inside = record { page = q; row = r; here = subst (λ (n : ℕ). Here img q n r) (sym a) (u .here); ends = omega arith; deep = omega arith; few = omega arith };
+        inside =
+            record { page = q; row = r; here = subst (λ (n : ℕ). Here img q n r) (sym a) (u .here); ends = omega arith; deep = omega arith; few = omega arith };
         after = record { page = page; row = rest; here = v .after; ends = omega arith; deep = omega arith; few = omega arith };
         wide = refl;
         told = λ c t. ap (λ (n : ℕ). getD c n 0) same ∙ t .told q page r (h .on .low) u;
@@ -156,7 +158,8 @@ counted img i end depth n t s h = go (s .rest .row) (s .rest .ends) (s .sum)
     go (lit l c rest) e u = absurd (omega arith)
     go (rec p b r rest) e u = absurd (omega arith)
 
-pub count-node : (img : List ℕ) (i end depth n t len : ℕ) → (s : Counted img i end depth n t) → Passed img i end depth len (s .rest .row) → Counted img (i + len) end depth (n + 1) t
+pub count-node : (img : List ℕ) (i end depth n t len : ℕ) → (s : Counted img i end depth n t) → Passed img i end depth len (s .rest .row)
+    → Counted img (i + len) end depth (n + 1) t
 count-node img i end depth n t len s a = record { rest = a .after; sum = omega (arith, s .sum, a .wide) }
 
 -- A proxy, by the table's number of its record's nodes.

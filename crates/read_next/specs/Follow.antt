@@ -14,13 +14,15 @@ use Rattle.model.specs.Answers.{nextRefused}
 use Rattle.model.specs.Calls.{checkOf, nextOf, kindOf}
 use Rattle.model.specs.declared.Place.{Place}
 use Rattle.model.specs.declared.Kind.{Kind}
+use Rattle.model.specs.declared.NextAnswer.{NextAnswer}
 use Rattle.model.specs.declared.Next.the-variants as next-is
 use Rattle.theory_calls.specs.Navigate.{next-stray, next-follows, next-last}
 use Rattle.theory_layout.specs.Here.{PageIn}
 use Rattle.theory_layout.specs.Items.{Item, node, proxy, items, spots, expand, In, top, sub}
-use Rattle.theory_layout.specs.Order.{at, Stood, step, Flat, proxy-of, is-proxy, is-node, flat-end, item-at, in-page, in-deep, last-page, expand-items, node-header, node-split, node-in, split-mem}
+use Rattle.theory_layout.specs.Order.{at, Stood, step, Flat, proxy-of, is-proxy, is-node, flat-end, item-at, in-page, in-deep, last-page, expand-items}
+use Rattle.theory_layout.specs.Order.{node-header, node-split, node-in, split-mem}
 use Rattle.theory_layout.specs.Nodes.{All, read-kind, PlacedAt, Both, nodes-split, place-at}
-use Rattle.read_next.specs.Scan.{OnRecord, view, known, all, close, flat-all, HeaderRoom, head-of, HeldBy, NodeAt, NodeOf, Located, store-of}
+use Rattle.read_next.specs.Scan.{OnRecord, view, known, all, close, flat-all, HeaderRoom, head-of, HeldBy, NodeAt, NodeOf, Located, store-of, record-of}
 
 -- ── where the nodes after a node begin ──
 
@@ -79,7 +81,8 @@ pub node-head : {img : List ℕ} {pos : ℕ} (a : NodeAt img pos) → HeaderRoom
 node-head {img} {pos} a =
     let s = a .spot in
     head-of img (s .page) pos (node pos)
-    (item-at img (s .page) (pageSize * s .page + base (s .row)) (s .row) (in-page img (a .settings) (a .root) (a .reads) (s .within) .here) (s .left) (s .right) (node pos) (s .split) .0)
+    (item-at img (s .page) (pageSize * s .page + base (s .row)) (s .row) (in-page img (a .settings) (a .root) (a .reads) (s .within) .here) (s .left) (s .right)
+    (node pos) (s .split) .0)
 
 pub upward-start : {img : List ℕ} {pos : ℕ} (a : NodeAt img pos) (page n : ℕ) → page ≡ pos / pageSize → n ≡ step img pos → Upward img pos page n mostPages
 upward-start {img} {pos} a page n p e =
@@ -89,8 +92,10 @@ upward-start {img} {pos} a page n p e =
     let r = a .reads in
     let h = node-header img st root r pos s in
     let same : s .page ≡ page = omega (arith, h .low, h .room) in
-    let on : OnRecord img (s .page) = record { settings = st; root = root; reads = r; holder = s .holder; row = s .row; before = s .before; after = s .after; depth = s .depth; within = s .within } in
-    let f = item-at img (s .page) (pageSize * s .page + base (s .row)) (s .row) (in-page img st root r (s .within) .here) (s .left) (s .right) (node pos) (s .split) .1 in
+    let on : OnRecord img (s .page) = record-of r s in
+    let f =
+    item-at img (s .page) (pageSize * s .page + base (s .row)) (s .row) (in-page img st root r (s .within) .here) (s .left) (s .right) (node pos)
+    (s .split) .1 in
     let g : ItemsFrom img pos (s .page) n = record {
       on = on;
       left = s .left ++ node pos ∷ [];
@@ -110,9 +115,11 @@ module _ {img : List ℕ} {pos page n left : ℕ} (c : Upward img pos page n lef
       on : OnRecord img page
       on = c .from .on
 
-      go : (right : List Item) → all on ≡ c .from .left ++ right → Flat img page n (close on) right → spots (pageSize + base (on .root)) (on .root) ≡ c .from .seen ++ pos ∷ (expand right ++ on .after) → Ahead img pos n
+      go : (right : List Item) → all on ≡ c .from .left ++ right → Flat img page n (close on) right
+          → spots (pageSize + base (on .root)) (on .root) ≡ c .from .seen ++ pos ∷ (expand right ++ on .after) → Ahead img pos n
       go [] q g o = absurd (f (g ∙ sym (known on .end)))
-      go (i ∷ right) q g o = record { page = page; on = on; first = i; left = c .from .left; right = right; split = q; flat = g; seen = c .from .seen; order = o }
+      go (i ∷ right) q g o =
+          record { page = page; on = on; first = i; left = c .from .left; right = right; split = q; flat = g; seen = c .from .seen; order = o }
 
   none-right : n ≡ endOn img page → c .from .right ≡ []
   none-right e =
@@ -142,10 +149,12 @@ upward-above {img} {pos} {page} {n} {left} c e f =
     (c .from .order ∙ ap (λ (l : List Item). c .from .seen ++ pos ∷ (expand l ++ on .after)) (none-right c e)) f
   where
     go : (st : Config) (root : Row) (r : Reads img st root) {q holder : ℕ} {row : Row} {before after : List ℕ} {d : ℕ} → In root q holder row before after d
-        → backAt img (pageSize * q) ≡ holder → d ≤ left → (seen : List ℕ) → spots (pageSize + base root) root ≡ seen ++ pos ∷ after → (q ≡ 1 → ⊥) → Above img pos q n left
+        → backAt img (pageSize * q) ≡ holder → d ≤ left → (seen : List ℕ) → spots (pageSize + base root) root ≡ seen ++ pos ∷ after → (q ≡ 1 → ⊥)
+        → Above img pos q n left
     go st root r top b k seen o f = absurd (f refl)
     go st root r (sub {page = page} {holder = over} {row = row} {before = before} {after = after} {depth = d} w xs ys at p x e) b k seen o f =
-        let on : OnRecord img page = record { settings = st; root = root; reads = r; holder = over; row = row; before = before; after = after; depth = d; within = w } in
+        let on : OnRecord img page =
+        record { settings = st; root = root; reads = r; holder = over; row = row; before = before; after = after; depth = d; within = w } in
         let i = item-at img page (pageSize * page + base row) row (view on .here) xs ys (proxy at p x) e in
         let y = proxy-of img page at at p x (i .0) in
         let h = head-of img page at (proxy at p x) (i .0) in
@@ -170,7 +179,8 @@ upward-above {img} {pos} {page} {n} {left} c e f =
         }
 
 -- The same, as the code finds it: h is the page in the back link, and p where the proxy is found.
-module _ {img : List ℕ} {pos page n left : ℕ} (c : Upward img pos page n left) (e : n ≡ endOn img page) (f : page ≡ 1 → ⊥) (h : ℕ) (b : h ≡ backAt img (pageSize * page)) where
+module _ {img : List ℕ} {pos page n left : ℕ} (c : Upward img pos page n left) (e : n ≡ endOn img page) (f : page ≡ 1 → ⊥) (h : ℕ)
+    (b : h ≡ backAt img (pageSize * page)) where
   above : Above img pos page n left
   above = upward-above c e f
 
@@ -270,10 +280,14 @@ enter-under {img} {pos} {n} {left} c k = go (is-proxy img (a .page) n (a .first)
               left = [];
               right = f .1;
               split = f .2;
-              flat = subst (λ (k : ℕ). Flat img p k (close new) (f .0 ∷ f .1)) (sym (e ∙ known new .start)) (subst (Flat img p (pageSize * p + base r) (close new)) (f .2) (flat-all new));
+              flat =
+                  subst (λ (k : ℕ). Flat img p k (close new) (f .0 ∷ f .1)) (sym (e ∙ known new .start))
+                  (subst (Flat img p (pageSize * p + base r) (close new)) (f .2) (flat-all new));
               seen = a .seen;
               order = a .order ∙ ap (λ (i : Item). a .seen ++ pos ∷ (expand (i ∷ a .right) ++ on .after)) (q .2)
-                  ∙ ap (λ (k : List ℕ). a .seen ++ pos ∷ k) (append-assoc (spots (pageSize * p + base r) r) (expand (a .right)) (on .after) ∙ ap (λ (k : List ℕ). k ++ (expand (a .right) ++ on .after)) shown-all);
+                  ∙ ap (λ (k : List ℕ). a .seen ++ pos ∷ k)
+                  (append-assoc (spots (pageSize * p + base r) r) (expand (a .right)) (on .after)
+                  ∙ ap (λ (k : List ℕ). k ++ (expand (a .right) ++ on .after)) shown-all);
             };
             deep = omega (arith, c .deep);
           };
@@ -301,6 +315,10 @@ module _ {img : List ℕ} {pos n left : ℕ} (c : Enter img pos n left) (k : kin
 
 -- ── the answers ──
 
+-- The answer that names the node at byte n.
+abbrev pub nextAt : (n : ℕ) → Kind → NextAnswer
+nextAt n k = record { number = 0; next = next-is.Node (record { place = record { page = n / pageSize; offset = n % pageSize }; kind = k }) }
+
 -- The next node, or 0 at the end.
 pub record Nexted (img : List ℕ) (pos r : ℕ) : Type 0 where
   pub stop : r ≡ 0 → Last img pos
@@ -319,19 +337,20 @@ module _ (img : List ℕ) (x : Place) (pos : ℕ) (a : NodeOf img (x .page) (x .
       let s = nodes-split img (l .settings) (l .root) (l .reads) (l .seen) (pos ∷ []) (l .order) in
       go (s .0) (s .1) (s .2) (s .3)
     where
-      go : (xs ys : List Node) → nodes (shown (l .root)) ≡ xs ++ ys → All (Both img (l .root)) ys (pos ∷ []) → nextOf img x ≡ record { number = 0; next = next-is.End }
+      go : (xs ys : List Node) → nodes (shown (l .root)) ≡ xs ++ ys → All (Both img (l .root)) ys (pos ∷ [])
+          → nextOf img x ≡ record { number = 0; next = next-is.End }
       go xs [] e b = absurd b
       go xs (n ∷ []) e b = next-last img (l .settings) (l .root) (l .reads) xs n x e (its-place (l .settings) (l .root) (l .reads) n (b .0 .1))
       go xs (n ∷ m ∷ ys) e b = absurd (b .1)
 
   pub answer-node : (n : ℕ) → Follows img pos n
-      → nextOf img x ≡ record { number = 0; next = next-is.Node (record { place = record { page = n / pageSize; offset = n % pageSize }; kind = kindOf (kindAt img n) }) }
+      → nextOf img x ≡ nextAt n (kindOf (kindAt img n))
   answer-node n l =
       let s = nodes-split img (l .settings) (l .root) (l .reads) (l .seen) (pos ∷ n ∷ l .later) (l .order) in
       go (s .0) (s .1) (s .2) (s .3)
     where
       go : (xs ys : List Node) → nodes (shown (l .root)) ≡ xs ++ ys → All (Both img (l .root)) ys (pos ∷ n ∷ l .later)
-          → nextOf img x ≡ record { number = 0; next = next-is.Node (record { place = record { page = n / pageSize; offset = n % pageSize }; kind = kindOf (kindAt img n) }) }
+          → nextOf img x ≡ nextAt n (kindOf (kindAt img n))
       go xs [] e b = absurd b
       go xs (k ∷ []) e b = absurd (b .1)
       go xs (k ∷ m ∷ ys) e b =
@@ -347,11 +366,13 @@ answer-stray img x r z l e =
 -- A node that follows is in the image.
 pub follows-inside : {img : List ℕ} {pos n : ℕ} → Follows img pos n → n < length img
 follows-inside {img} {pos} {n} l =
-    let m = split-mem n (spots (pageSize + base (l .root)) (l .root)) (l .seen ++ pos ∷ []) (l .later) (l .order ∙ sym (append-assoc (l .seen) (pos ∷ []) (n ∷ l .later))) in
+    let m =
+    split-mem n (spots (pageSize + base (l .root)) (l .root)) (l .seen ++ pos ∷ []) (l .later)
+    (l .order ∙ sym (append-assoc (l .seen) (pos ∷ []) (n ∷ l .later))) in
     let h = node-header img (l .settings) (l .root) (l .reads) n (node-in (l .root) n m) in
     omega (arith, h .room, h .on .inside)
 
 -- The answer with the kind that is read.
 pub answer-kind : (img : List ℕ) (x : Place) (pos n : ℕ) (k : Kind) → NodeOf img (x .page) (x .offset) pos → Follows img pos n → k ≡ kindOf (kindAt img n)
-    → record { number = 0; next = next-is.Node (record { place = record { page = n / pageSize; offset = n % pageSize }; kind = k }) } ≡ nextOf img x
+    → nextAt n k ≡ nextOf img x
 answer-kind img x pos n k a f e = rw e (sym (answer-node img x pos a n f))

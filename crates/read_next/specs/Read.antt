@@ -77,7 +77,9 @@ abbrev pub aggRead : (img : List ℕ) (pos : ℕ) → Row → ReadNode
 aggRead img pos row = record { number = 0; kind = 1; label = headAt img pos .label; children = width row; start = 0; len = 0 }
 
 abbrev pub litRead : (img : List ℕ) (pos : ℕ) → ReadNode
-litRead img pos = record { number = 0; kind = 2; label = headAt img pos .label; children = 0; start = cond (eqb (sizeAt img pos - 6) 0) 0 (pos + 6); len = sizeAt img pos - 6 }
+litRead img pos =
+    let n = sizeAt img pos - 6 in
+    record { number = 0; kind = 2; label = headAt img pos .label; children = 0; start = cond (eqb n 0) 0 (pos + 6); len = n }
 
 -- The row of an aggregate's children.
 abbrev pub Inner : (img : List ℕ) (pos : ℕ) → Type 0

@@ -21,7 +21,8 @@ use Rattle.theory_calls.specs.Open.{passing}
 use Rattle.theory_calls.specs.Navigate.{NoNode}
 use Rattle.theory_layout.specs.Here.{PageIn, OnPage}
 use Rattle.theory_layout.specs.Items.{Item, node, proxy, items, In}
-use Rattle.theory_layout.specs.Order.{at, Stood, step, Flat, flat-row, header-of, proxy-of, is-proxy, no-proxy, is-node, flat-le, flat-low, item-at, named, named-++, named-items, in-page, in-once, page-in, NodeIn, node-in, node-header, item-node, node-item}
+use Rattle.theory_layout.specs.Order.{at, Stood, step, Flat, flat-row, header-of, proxy-of, is-proxy, no-proxy, is-node, flat-le, flat-low, item-at, named}
+use Rattle.theory_layout.specs.Order.{named-++, named-items, in-page, in-once, page-in, NodeIn, node-in, node-header, item-node, node-item}
 use Rattle.theory_layout.specs.Nodes.{node-spot}
 
 -- ── a record of the image ──
@@ -63,6 +64,20 @@ module _ {img : List ℕ} {page : ℕ} (w : OnRecord img page) where
 
   pub flat-all : Flat img page (pageSize * page + base (w .row)) close all
   flat-all = flat-row img page (pageSize * page + base (w .row)) (w .row) (view .here)
+
+-- The record of a node of the store.
+abbrev pub record-of : {img : List ℕ} {st : Config} {root : Row} {pos : ℕ} → Reads img st root → (s : NodeIn root pos) → OnRecord img (s .page)
+record-of {st = st} {root = root} r s = record {
+  settings = st;
+  root = root;
+  reads = r;
+  holder = s .holder;
+  row = s .row;
+  before = s .before;
+  after = s .after;
+  depth = s .depth;
+  within = s .within;
+}
 
 -- What is read where a header stands.
 pub record HeaderRoom (img : List ℕ) (page pos : ℕ) : Type 0 where
@@ -212,9 +227,7 @@ module _ (img : List ℕ) (page offset : ℕ) where
         omega (arith, h .low, h .room, node-spot img st root r n m x p .1 .fits)
 
     its-record : OnRecord img page
-    its-record =
-        subst (OnRecord img) its-page
-        (record { settings = st; root = root; reads = r; holder = the-spot .holder; row = the-spot .row; before = the-spot .before; after = the-spot .after; depth = the-spot .depth; within = the-spot .within })
+    its-record = subst (OnRecord img) its-page (record-of r the-spot)
 
     its-state : stateAt img (pageSize * page) ≡ 1
     its-state = view its-record .state
@@ -229,7 +242,8 @@ module _ (img : List ℕ) (page offset : ℕ) where
     its-end =
         let s = the-spot in
         let v = in-page img st root r (s .within) in
-        let i = item-at img (s .page) (pageSize * s .page + base (s .row)) (s .row) (v .here) (s .left) (s .right) (node (pageSize * page + offset)) (s .split) in
+        let i =
+        item-at img (s .page) (pageSize * s .page + base (s .row)) (s .row) (v .here) (s .left) (s .right) (node (pageSize * page + offset)) (s .split) in
         let h = header-of img (s .page) (pageSize * page + offset) (node (pageSize * page + offset)) (i .0) in
         let e = flat-le img (s .page) (s .right) (step img (pageSize * page + offset)) (pageSize * s .page + base (s .row) + size (s .row)) (i .1) in
         let u : usedAt img (pageSize * page) ≡ recordSize (s .row) = subst (λ (q : ℕ). usedAt img (pageSize * q) ≡ recordSize (s .row)) its-page (v .used) in
@@ -249,7 +263,8 @@ module _ (img : List ℕ) (page offset : ℕ) where
   pub its-page-in : checkOf img ≡ 0 → 1 ≤ page → page < length img / pageSize → stateAt img (pageSize * page) ≡ 1 → OnRecord img page
   its-page-in z low high e = let s = store-of img z in record-in (s .settings) (s .root) (s .reads) low high e
 
-  pub located : (r : ℕ) → checkOf img ≡ 0 → 1 ≤ page → page < length img / pageSize → stateAt img (pageSize * page) ≡ 1 → Standing img page (pageSize * page + offset) r → Located img page offset r
+  pub located : (r : ℕ) → checkOf img ≡ 0 → 1 ≤ page → page < length img / pageSize → stateAt img (pageSize * page) ≡ 1
+      → Standing img page (pageSize * page + offset) r → Located img page offset r
   unfolding record-in item-node its-page-in
   located r z low high e s = record {
     stray = λ q st root reads n m p.
@@ -258,7 +273,8 @@ module _ (img : List ℕ) (page offset : ℕ) where
     found = λ q.
         let w = its-page-in z low high e in
         let i = s .found q in
-        let here : NodeIn (w .root) (pageSize * page + offset) = item-node img (w .settings) (w .root) (w .reads) (w .within) (pageSize * page + offset) (i .1 w) in
+        let here : NodeIn (w .root) (pageSize * page + offset) =
+        item-node img (w .settings) (w .root) (w .reads) (w .within) (pageSize * page + offset) (i .1 w) in
         record {
           is = i .0;
           short = omega (arith, node-header img (w .settings) (w .root) (w .reads) (pageSize * page + offset) here .room);
@@ -310,8 +326,12 @@ module _ {img : List ℕ} {holder page : ℕ} where
         left = w .left;
         right = w .right;
         row = w .row;
-        flat = subst (λ (n : ℕ). Flat img holder n (close a) (w .left ++ proxy (w .pos) page (w .row) ∷ w .right)) z (subst (Flat img holder (pageSize * holder + base (a .row)) (close a)) (w .split) (flat-all a));
-        once = rw (← w .split) (omega (arith, named-items page (pageSize * holder + base (a .row)) (a .row), in-once img (a .settings) (a .root) (a .reads) (a .within) page));
+        flat =
+            subst (λ (n : ℕ). Flat img holder n (close a) (w .left ++ proxy (w .pos) page (w .row) ∷ w .right)) z
+            (subst (Flat img holder (pageSize * holder + base (a .row)) (close a)) (w .split) (flat-all a));
+        once =
+            rw (← w .split)
+            (omega (arith, named-items page (pageSize * holder + base (a .row)) (a .row), in-once img (a .settings) (a .root) (a .reads) (a .within) page));
       }
 
   module _ {target pos : ℕ} (s : Sought img holder page target pos) where
@@ -326,7 +346,8 @@ module _ {img : List ℕ} {holder page : ℕ} where
     pub sought-hit : names img pos page ≡ true → pos ≡ target
     sought-hit t = go (s .left) (s .flat) (s .once)
       where
-        go : (left : List Item) → Flat img holder pos (s .end) (left ++ proxy target page (s .row) ∷ s .right) → named page (left ++ proxy target page (s .row) ∷ s .right) ≤ 1 → pos ≡ target
+        go : (left : List Item) → Flat img holder pos (s .end) (left ++ proxy target page (s .row) ∷ s .right)
+            → named page (left ++ proxy target page (s .row) ∷ s .right) ≤ 1 → pos ≡ target
         go [] f o = sym (header-of img holder pos (proxy target page (s .row)) (f .0) .is-at)
         go (i ∷ left) f o =
             let k = names-true img pos page t in
@@ -343,7 +364,8 @@ module _ {img : List ℕ} {holder page : ℕ} where
     pub sought-next : (n : ℕ) → n ≡ step img pos → names img pos page ≡ false → Sought img holder page target n
     sought-next n e t = subst (Sought img holder page target) (sym e) (go (s .left) (s .flat) (s .once))
       where
-        go : (left : List Item) → Flat img holder pos (s .end) (left ++ proxy target page (s .row) ∷ s .right) → named page (left ++ proxy target page (s .row) ∷ s .right) ≤ 1 → Sought img holder page target (step img pos)
+        go : (left : List Item) → Flat img holder pos (s .end) (left ++ proxy target page (s .row) ∷ s .right)
+            → named page (left ++ proxy target page (s .row) ∷ s .right) ≤ 1 → Sought img holder page target (step img pos)
         go [] f o =
             let p = proxy-of img holder pos target page (s .row) (f .0) in
             absurd (true≢false (sym (true-names img pos page (p .kind) (p .name)) ∙ t))

@@ -80,4 +80,5 @@ module _ (img : List ℕ) where
         → Here img (lastPage (t .chain)) (pageSize * lastPage (t .chain) + base (fill (t .spot) (t .rest)) + before (t .spot)) (t .rest)
     taking-here path k t e =
         let row = fill (t .spot) (t .rest) in
-        here-fill (lastPage (t .chain)) (pageSize * lastPage (t .chain) + base row) (t .spot) (t .rest) (chain-page (t .chain) row (taking-whole root path k t e) .here)
+        here-fill (lastPage (t .chain)) (pageSize * lastPage (t .chain) + base row) (t .spot) (t .rest)
+        (chain-page (t .chain) row (taking-whole root path k t e) .here)

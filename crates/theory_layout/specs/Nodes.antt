@@ -104,7 +104,8 @@ module _ (img : List ℕ) where
         read-first page pos (agg h cs rest) v some (λ k. omega arith) d f (breadth-shown cs),
         all-++ R (map below us) (map (further 1) vs) (spots (pos + 6) cs) (spots (pos + (6 + size cs)) rest)
             (all-map R below (λ n s r. r) us (spots (pos + 6) cs) (read-all page (pos + 6) cs (w .children) (omega arith) (omega arith)))
-            (all-map R (further 1) (λ n s r. r) vs (spots (pos + (6 + size cs)) rest) (read-all page (pos + (6 + size cs)) rest (w .after) (omega arith) (omega arith))),
+            (all-map R (further 1) (λ n s r. r) vs (spots (pos + (6 + size cs)) rest)
+            (read-all page (pos + (6 + size cs)) rest (w .after) (omega arith) (omega arith))),
       )
   read-all page pos (lit h c rest) v d f =
       let some : 0 < size (lit h c rest) = omega arith in
@@ -138,7 +139,8 @@ pub record PlacedAt (root : Row) (n : Node) (pos : ℕ) : Type 0 where
 abbrev pub Both : List ℕ → Row → Node → ℕ → Type 0
 Both img root n s = ReadAt img n s × PlacedAt root n s
 
-placed-all : (root : Row) (ns : List Node) (ps : List Place) (ss : List ℕ) → map (λ (n : Node). placeOf root (n .path)) ns ≡ map some ps → ss ≡ map addr ps → All (PlacedAt root) ns ss
+placed-all : (root : Row) (ns : List Node) (ps : List Place) (ss : List ℕ) → map (λ (n : Node). placeOf root (n .path)) ns ≡ map some ps → ss ≡ map addr ps
+    → All (PlacedAt root) ns ss
 placed-all root [] [] [] e f = tt
 placed-all root [] [] (s ∷ ss) e f = absurd (nil≢cons (sym f))
 placed-all root [] (p ∷ ps) ss e f = absurd (nil≢cons e)
@@ -162,11 +164,13 @@ module _ (img : List ℕ) (st : Config) (root : Row) (r : Reads img st root) whe
       let z : pageSize + base root ≡ pageSize = omega (arith, root-base) in
       let v = reads-valid img st root r in
       rw z
-      (all-both (ReadAt img) (PlacedAt root) (nodes (shown root)) (spots pageSize root) (read-all img 1 pageSize root (root-here img st root r) (root-nesting img st root r) (omega (arith, few-steps st root v, v .ranges .many)))
-      (placed-all root (nodes (shown root)) (places 1 0 root) (spots pageSize root) (place-root root (lone-root st root (reads-valid img st root r))) (spots-places 1 0 root)))
+      (all-both (ReadAt img) (PlacedAt root) (nodes (shown root)) (spots pageSize root)
+      (read-all img 1 pageSize root (root-here img st root r) (root-nesting img st root r) (omega (arith, few-steps st root v, v .ranges .many)))
+      (placed-all root (nodes (shown root)) (places 1 0 root) (spots pageSize root) (place-root root (lone-root st root v)) (spots-places 1 0 root)))
 
   -- A position splits the nodes as it splits the positions.
-  pub nodes-split : (before after : List ℕ) → spots (pageSize + base root) root ≡ before ++ after → (xs ys : List Node) × (nodes (shown root) ≡ xs ++ ys) × All (Both img root) ys after
+  pub nodes-split : (before after : List ℕ) → spots (pageSize + base root) root ≡ before ++ after
+      → (xs ys : List Node) × (nodes (shown root) ≡ xs ++ ys) × All (Both img root) ys after
   nodes-split before after e = all-split (Both img root) (nodes (shown root)) before after (subst (All (Both img root) (nodes (shown root))) e nodes-all)
 
   -- What is read at a node's place.
@@ -176,11 +180,13 @@ module _ (img : List ℕ) (st : Config) (root : Row) (r : Reads img st root) whe
       subst (ReadAt img n) (sym (b .2 .1 .is) ∙ ap addr (Option·some-injective _ _ (sym (b .2 .1 .has) ∙ e))) (b .2 .0)
 
   -- A node's place is one of the positions, and on its page.
-  pub node-spot : (n : Node) → Mem n (nodes (shown root)) → (x : Place) → placeOf root (n .path) ≡ some x → List·Memᴰ (addr x) (spots (pageSize + base root) root) × Inside st x
+  pub node-spot : (n : Node) → Mem n (nodes (shown root)) → (x : Place) → placeOf root (n .path) ≡ some x
+      → List·Memᴰ (addr x) (spots (pageSize + base root) root) × Inside st x
   node-spot n m x e =
       let b = mem-all (Both img root) (nodes (shown root)) (spots (pageSize + base root) root) nodes-all n m in
       let same : b .2 .1 .place ≡ x = Option·some-injective _ _ (sym (b .2 .1 .has) ∙ e) in
-      (subst (λ (s : ℕ). List·Memᴰ s (spots (pageSize + base root) root)) (sym (b .2 .1 .is) ∙ ap addr same) (b .1), place-inside st root (reads-valid img st root r) (n .path) x e)
+      let at = subst (λ (s : ℕ). List·Memᴰ s (spots (pageSize + base root) root)) (sym (b .2 .1 .is) ∙ ap addr same) (b .1) in
+      (at, place-inside st root (reads-valid img st root r) (n .path) x e)
 
   -- The place of a node at a position is that position's.
   pub place-at : (n : Node) (s : ℕ) → PlacedAt root n s → placeOf root (n .path) ≡ some (record { page = s / pageSize; offset = s % pageSize })

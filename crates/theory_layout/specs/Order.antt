@@ -1,7 +1,8 @@
 -- The items of a record against the image's bytes and the document order.
 use mathlib.Core.Path.{_≡_, refl, sym, ap, ap₂, subst, _∙_}
 use mathlib.Core.Bool.{Bool, true, false, cond, false≢true}
-use mathlib.Core.List.{List, [], _∷_, _++_, map, map-append, append-assoc, append-nil, List·Memᴰ, List·Memᴰ·head, List·Memᴰ·tail, List·Memᴰ·append-cases, List·Memᴰ·cases-cons, List·Memᴰ·not-nil, Memᴰ·append-left, Memᴰ·append-right}
+use mathlib.Core.List.{List, [], _∷_, _++_, map, map-append, append-assoc, append-nil, List·Memᴰ, List·Memᴰ·head, List·Memᴰ·tail, List·Memᴰ·append-cases}
+use mathlib.Core.List.{List·Memᴰ·cases-cons, List·Memᴰ·not-nil, Memᴰ·append-left, Memᴰ·append-right}
 use mathlib.Core.Logic.{_⊎_, inl, inr}
 use Prim.Native.Nat.{ℕ, suc, _+_, _*_, _≤_, _<_}
 use native.Mathlib.Omega.{arith}
@@ -34,7 +35,8 @@ expand-++ (i ∷ a) b = rw (expand-++ a b) (sym (append-assoc (shows i) (expand 
 pub expand-items : (pos : ℕ) (row : Row) → expand (items pos row) ≡ spots pos row
 expand-items pos nil = refl
 expand-items pos (agg h cs rest) =
-    ap (_∷_ pos) (expand-++ (items (pos + 6) cs) (items (pos + (6 + size cs)) rest) ∙ ap₂ _++_ (expand-items (pos + 6) cs) (expand-items (pos + (6 + size cs)) rest))
+    ap (_∷_ pos)
+    (expand-++ (items (pos + 6) cs) (items (pos + (6 + size cs)) rest) ∙ ap₂ _++_ (expand-items (pos + 6) cs) (expand-items (pos + (6 + size cs)) rest))
 expand-items pos (lit h c rest) = ap (_∷_ pos) (expand-items (pos + (6 + length c)) rest)
 expand-items pos (rec p s r rest) = ap (λ (l : List ℕ). spots (pageSize * p + base r) r ++ l) (expand-items (pos + 8) rest)
 
@@ -329,7 +331,8 @@ module _ (q p : ℕ) (r : Row) where
       (λ h cs rest i. (i .0, Memᴰ·append-left (records page rest) (i .1), λ k m. Memᴰ·append-left (records page rest) (i .2 k m)))
       (λ h cs rest i. (i .0, Memᴰ·append-right (records page cs) (i .1), λ k m. Memᴰ·append-right (records page cs) (i .2 k m)))
       (λ h c rest i. i)
-      (λ p₁ s r₁ rest i. (i .0, List·Memᴰ·tail (Memᴰ·append-right (records p₁ r₁) (i .1)), λ k m. List·Memᴰ·tail (Memᴰ·append-right (records p₁ r₁) (i .2 k m))))
+      (λ p₁ s r₁ rest i.
+      (i .0, List·Memᴰ·tail (Memᴰ·append-right (records p₁ r₁) (i .1)), λ k m. List·Memᴰ·tail (Memᴰ·append-right (records p₁ r₁) (i .2 k m))))
 
 -- How often proxies among some items name a page.
 abbrev pub named : ℕ → List Item → ℕ
@@ -354,12 +357,13 @@ named-items q pos (rec p s r rest) = omega (arith, named-items q (pos + 8) rest)
 in-depth : {root : Row} {page holder : ℕ} {row : Row} {before after : List ℕ} {d : ℕ} → In root page holder row before after d → d + nesting row ≤ nesting root
 in-depth top = omega arith
 in-depth (sub {page = page} {row = row} w xs ys pos p r e) =
-    omega (arith, in-depth w, nesting-item pos p r (pageSize * page + base row) row (split-mem (proxy pos p r) (items (pageSize * page + base row) row) xs ys e))
+    omega (arith, in-depth w, nesting-item pos p r (pageSize * page + base row) row (split-mem _ _ xs ys e))
 
-pub in-count : {root : Row} {page holder : ℕ} {row : Row} {before after : List ℕ} {d : ℕ} → In root page holder row before after d → (n : ℕ) → count n row ≤ count n root
+pub in-count : {root : Row} {page holder : ℕ} {row : Row} {before after : List ℕ} {d : ℕ} → In root page holder row before after d → (n : ℕ)
+    → count n row ≤ count n root
 in-count top n = omega arith
 in-count (sub {page = page} {row = row} w xs ys pos p r e) n =
-    omega (arith, in-count w n, count-item pos p r n (pageSize * page + base row) row (split-mem (proxy pos p r) (items (pageSize * page + base row) row) xs ys e))
+    omega (arith, in-count w n, count-item pos p r n (pageSize * page + base row) row (split-mem _ _ xs ys e))
 
 in-listed : {root : Row} {page holder : ℕ} {row : Row} {before after : List ℕ} {d : ℕ} → In root page holder row before after d
     → (s : Bool) × List·Memᴰ (recordOn page s holder row) (records 0 (store root))
@@ -455,6 +459,11 @@ pub record NodeIn (root : Row) (pos : ℕ) : Type 0 where
   pub right : List Item
   pub split : items (pageSize * page + base row) row ≡ left ++ node pos ∷ right
 
+abbrev pub node-within : {root : Row} {page holder : ℕ} {row : Row} {before after : List ℕ} {d : ℕ} → In root page holder row before after d
+    → (pos : ℕ) (left right : List Item) → items (pageSize * page + base row) row ≡ left ++ node pos ∷ right → NodeIn root pos
+node-within w pos left right e =
+    record { page = _; holder = _; row = _; before = _; after = _; depth = _; within = w; left = left; right = right; split = e }
+
 -- Every node of a row that is in a record,
 row-nodes : {root : Row} (r : Row) {page holder : ℕ} {row : Row} {before after : List ℕ} {d : ℕ} → In root page holder row before after d
     → (pos : ℕ) (xs ys : List Item) → items (pageSize * page + base row) row ≡ xs ++ (items pos r ++ ys)
@@ -462,7 +471,7 @@ row-nodes : {root : Row} (r : Row) {page holder : ℕ} {row : Row} {before after
 row-nodes nil w pos xs ys e n m = absurd (List·Memᴰ·not-nil m)
 row-nodes {root} (agg l cs rest) {page = page} w pos xs ys e n m =
     first (List·Memᴰ·cases-cons m)
-    (record { page = _; holder = _; row = _; before = _; after = _; depth = _; within = w; left = xs; right = items (pos + 6) cs ++ items (pos + (6 + size cs)) rest ++ ys; split = e })
+    (node-within w pos xs (items (pos + 6) cs ++ items (pos + (6 + size cs)) rest ++ ys) e)
     (row-nodes cs w (pos + 6) (xs ++ node pos ∷ []) (items (pos + (6 + size cs)) rest ++ ys) (e ∙ simp append-assoc) n)
     (row-nodes rest w (pos + (6 + size cs)) (xs ++ node pos ∷ items (pos + 6) cs) ys (e ∙ simp append-assoc) n)
   where
@@ -476,10 +485,11 @@ row-nodes {root} (agg l cs rest) {page = page} w pos xs ys e n m =
         sides (inr k) = g k
 row-nodes {root} (lit l c rest) w pos xs ys e n m =
     first (List·Memᴰ·cases-cons m)
-    (record { page = _; holder = _; row = _; before = _; after = _; depth = _; within = w; left = xs; right = items (pos + (6 + length c)) rest ++ ys; split = e })
+    (node-within w pos xs (items (pos + (6 + length c)) rest ++ ys) e)
     (row-nodes rest w (pos + (6 + length c)) (xs ++ node pos ∷ []) ys (e ∙ simp append-assoc) n)
   where
-    first : (n ≡ pos) ⊎ List·Memᴰ n (spots (pos + (6 + length c)) rest) → NodeIn root pos → (List·Memᴰ n (spots (pos + (6 + length c)) rest) → NodeIn root n) → NodeIn root n
+    first : (n ≡ pos) ⊎ List·Memᴰ n (spots (pos + (6 + length c)) rest) → NodeIn root pos → (List·Memᴰ n (spots (pos + (6 + length c)) rest) → NodeIn root n)
+        → NodeIn root n
     first (inl q) i g = subst (NodeIn root) (sym q) i
     first (inr j) i g = g j
 row-nodes {root} (rec p s r rest) w pos xs ys e n m =
@@ -514,7 +524,9 @@ module _ (img : List ℕ) (st : Config) (root : Row) (r : Reads img st root) whe
 
   -- No proxy names page 1, and none names a page twice.
   pub in-once : {page holder : ℕ} {row : Row} {before after : List ℕ} {d : ℕ} → In root page holder row before after d → (n : ℕ) → count n row ≤ 1
-  in-once w n = omega (arith, in-count w n, reads-valid img st root r .placed n, cond-case (λ k. k ≤ 1) (outside (st .pages) n) {x = 0} {y = 1} (λ _. omega arith) (λ _. omega arith))
+  in-once w n =
+      let one = cond-case (λ k. k ≤ 1) (outside (st .pages) n) {x = 0} {y = 1} (λ _. omega arith) (λ _. omega arith) in
+      omega (arith, in-count w n, reads-valid img st root r .placed n)
 
   pub in-other : {page holder : ℕ} {row : Row} {before after : List ℕ} {d : ℕ} → In root page holder row before after d → count 1 row ≡ 0
   in-other w = omega (arith, in-count w 1, reads-valid img st root r .placed 1)
@@ -523,7 +535,8 @@ module _ (img : List ℕ) (st : Config) (root : Row) (r : Reads img st root) whe
   pub last-page : {page holder : ℕ} {row : Row} {before after : List ℕ} {d : ℕ} → In root page holder row before after d → page ≡ 1 → after ≡ []
   last-page top q = refl
   last-page (sub {page = page} {row = row} w xs ys pos p x e) q =
-      absurd (omega (arith, in-other w, rw (eq-eqb 1 p (sym q)) at (count-item pos p x 1 (pageSize * page + base row) row (split-mem (proxy pos p x) (items (pageSize * page + base row) row) xs ys e))))
+      let named = rw (eq-eqb 1 p (sym q)) at (count-item pos p x 1 (pageSize * page + base row) row (split-mem _ _ xs ys e)) in
+      absurd (omega (arith, in-other w))
 
   -- One record on a page.
   pub same-row : {page holder holder₁ : ℕ} {row row₁ : Row} {before before₁ after after₁ : List ℕ} {d d₁ : ℕ} → In root page holder row before after d
@@ -539,7 +552,8 @@ module _ (img : List ℕ) (st : Config) (root : Row) (r : Reads img st root) whe
   page-in q high low e =
       let v = reads-valid img st root r in
       let hs = records 0 (store root) in
-      let page : stateAt (pageOf img q) 0 ≡ 1 = getD-take pageSize (drop (pageSize * q) img) capacity 0 (omega arith) ∙ getD-drop (pageSize * q) img capacity 0 ∙ e in
+      let page : stateAt (pageOf img q) 0 ≡ 1 =
+      getD-take pageSize (drop (pageSize * q) img) capacity 0 (omega arith) ∙ getD-drop (pageSize * q) img capacity 0 ∙ e in
       let same : pageOf img q ≡ pageAt hs q = ap (λ (l : List ℕ). pageOf l q) (r .same) ∙ image-page st root v q low high in
       let (h, m, p) = page-held hs q (sym (ap (λ (l : List ℕ). stateAt l 0) same) ∙ page) in
       let s = root-records root h m in
@@ -559,7 +573,7 @@ module _ (img : List ℕ) (st : Config) (root : Row) (r : Reads img st root) whe
     unfoldable pub item-node : (n : ℕ) → List·Memᴰ (node n) (items (pageSize * page + base row) row) → NodeIn root n
     item-node n m =
         let s = mem-split (node n) (items (pageSize * page + base row) row) m in
-        record { page = page; holder = holder; row = row; before = before; after = after; depth = d; within = w; left = s .0; right = s .1; split = s .2 }
+        node-within w n (s .0) (s .1) (s .2)
 
     -- and a node of the document order on this page is a node item of its record.
     pub node-item : (n : ℕ) → pageSize * page ≤ n → n < pageSize * page + pageSize → List·Memᴰ n (spots (pageSize + base root) root)
@@ -569,5 +583,6 @@ module _ (img : List ℕ) (st : Config) (root : Row) (r : Reads img st root) whe
         let h = node-header n s in
         let same : s .page ≡ page = omega (arith, h .low, h .room) in
         let one : s .row ≡ row = same-row (subst (λ (q : ℕ). In root q (s .holder) (s .row) (s .before) (s .after) (s .depth)) same (s .within)) w in
-        let i : List·Memᴰ (node n) (items (pageSize * s .page + base (s .row)) (s .row)) = split-mem (node n) (items (pageSize * s .page + base (s .row)) (s .row)) (s .left) (s .right) (s .split) in
+        let i : List·Memᴰ (node n) (items (pageSize * s .page + base (s .row)) (s .row)) =
+        split-mem (node n) (items (pageSize * s .page + base (s .row)) (s .row)) (s .left) (s .right) (s .split) in
         rw (same, one) at i

@@ -79,12 +79,12 @@ same-width : (img : List ℕ) (page page₁ pos : ℕ) (a b : Row) → Here img 
 same-width img page page₁ pos nil b x y e = none-width b e
 same-width img page page₁ pos (agg h cs rest) b x y e =
     let k = one-kind x y e (omega arith) in
-    omega (arith, width-first b, plain-width b (omega arith) (λ z. omega arith),
-      same-width img page page₁ (pos + (6 + size cs)) rest (restOf b) (view x (omega arith) .after) (after-both x y e (omega arith)) (sizes-after x y e (omega arith)))
+    let later = same-width img page page₁ _ rest (restOf b) (view x (omega arith) .after) (after-both x y e (omega arith)) (sizes-after x y e (omega arith)) in
+    omega (arith, width-first b, plain-width b (omega arith) (λ z. omega arith))
 same-width img page page₁ pos (lit h c rest) b x y e =
     let k = one-kind x y e (omega arith) in
-    omega (arith, width-first b, plain-width b (omega arith) (λ z. omega arith),
-      same-width img page page₁ (pos + (6 + length c)) rest (restOf b) (view x (omega arith) .after) (after-both x y e (omega arith)) (sizes-after x y e (omega arith)))
+    let later = same-width img page page₁ _ rest (restOf b) (view x (omega arith) .after) (after-both x y e (omega arith)) (sizes-after x y e (omega arith)) in
+    omega (arith, width-first b, plain-width b (omega arith) (λ z. omega arith))
 same-width img page page₁ pos (rec p s r rest) nil x y e = absurd (omega arith)
 same-width img page page₁ pos (rec p s r rest) (agg h cs rest₁) x y e = absurd (omega (arith, one-kind x y e (omega arith)))
 same-width img page page₁ pos (rec p s r rest) (lit h c rest₁) x y e = absurd (omega (arith, one-kind x y e (omega arith)))
@@ -116,7 +116,8 @@ told-at : (img c : List ℕ) (page pos : ℕ) (row : Row) → Here img page pos 
 told-at img c page pos nil x t q k = absurd (omega arith)
 told-at img c page pos (agg h cs rest) x t q k =
     let v = view x (omega arith) in
-    either (count q cs) (count q rest) k (told-at img c page (pos + 6) cs (v .children) (t .0) q) (told-at img c page (pos + (6 + size cs)) rest (v .after) (t .1) q)
+    either (count q cs) (count q rest) k (told-at img c page (pos + 6) cs (v .children) (t .0) q)
+    (told-at img c page (pos + (6 + size cs)) rest (v .after) (t .1) q)
 told-at img c page pos (lit h b rest) x t q k = told-at img c page (pos + (6 + length b)) rest (view x (omega arith) .after) t q k
 told-at img c page pos (rec p s r rest) x t q k =
     let v = view x (omega arith) in
@@ -127,7 +128,8 @@ told-at img c page pos (rec p s r rest) x t q k =
     Entry : Type 0
     Entry = (holder : ℕ) × (r : Row) × OnPage img q holder r × (getD c q 0 ≡ width r)
 
-    go : OnPage img p page r → (b : Bool) → eqb q p ≡ b → 1 ≤ cond b 1 0 + count q r + count q rest → (1 ≤ count q r → Entry) → (1 ≤ count q rest → Entry) → Entry
+    go : OnPage img p page r → (b : Bool) → eqb q p ≡ b → 1 ≤ cond b 1 0 + count q r + count q rest → (1 ≤ count q r → Entry) → (1 ≤ count q rest → Entry)
+        → Entry
     go u true e k inner after =
         let z : q ≡ p = eqb-true q p e in
         (page, r, subst (λ (n : ℕ). OnPage img n page r) (sym z) u, ap (λ (n : ℕ). getD c n 0) z ∙ t .0)

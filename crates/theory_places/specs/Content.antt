@@ -62,14 +62,16 @@ module _ (img : List ℕ) where
       (row-at page (at + 6) j path cs (pos + 6) (omega arith) (read (agg l cs rest) pos (omega arith) z s .kids) (omega arith) (f .1) (m .0))
   row-at page at (suc i) path (agg l cs rest) pos p s z f m =
       at-map (further 1) (λ _. refl) (λ _. refl) (nodeAt i path (shown rest)) (placeAt page (at + 6 + size cs) i path rest)
-      (row-at page (at + 6 + size cs) i path rest (pos + (6 + size cs)) (omega arith) (read (agg l cs rest) pos (omega arith) z s .rest) (omega arith) (f .2) (m .1))
+      (row-at page (at + 6 + size cs) i path rest (pos + (6 + size cs)) (omega arith) (read (agg l cs rest) pos (omega arith) z s .rest) (omega arith) (f .2)
+      (m .1))
   row-at page at zero [] (lit l c rest) pos p s z f m = λ k.
       let v = read (lit l c rest) pos (omega arith) z s in
       subst (λ (x : ℕ). ContentAt img x c) p (record { same = v .body-is; inside = omega (arith, v .within) })
   row-at page at zero (j ∷ path) (lit l c rest) pos p s z f m = tt
   row-at page at (suc i) path (lit l c rest) pos p s z f m =
       at-map (further 1) (λ _. refl) (λ _. refl) (nodeAt i path (shown rest)) (placeAt page (at + 6 + length c) i path rest)
-      (row-at page (at + 6 + length c) i path rest (pos + (6 + length c)) (omega arith) (read (lit l c rest) pos (omega arith) z s .rest) (omega arith) (f .3) m)
+      (row-at page (at + 6 + length c) i path rest (pos + (6 + length c)) (omega arith) (read (lit l c rest) pos (omega arith) z s .rest) (omega arith)
+      (f .3) m)
   row-at page at i path (rec q b r rest) pos p s z f m =
       let o = nodeAt i path (shown r ⊞ shown rest) in
       let under = record-row (page-record img (recordOn q b page r) (m .0)) in
@@ -78,7 +80,8 @@ module _ (img : List ℕ) where
       (row-at q (base r) i path r (pageSize * q + base r) refl under (omega (arith, f .0 .fits)) (f .1) (m .1)) in
       let beyond : ltb i (width r) ≡ false → At o (placeAt page (at + 8) (i - width r) path rest) =
       λ h. at-right i path (shown r) (shown rest) (placeAt page (at + 8) (i - width r) path rest) (rw (breadth-shown r) (ltb-false i (width r) h))
-      (rw (breadth-shown r) (row-at page (at + 8) (i - width r) path rest (pos + 8) (omega arith) (read (rec q b r rest) pos (omega arith) z s .rest) (omega arith) (f .2) (m .2))) in
+      (rw (breadth-shown r)
+      (row-at page (at + 8) (i - width r) path rest (pos + 8) (omega arith) (read (rec q b r rest) pos (omega arith) z s .rest) (omega arith) (f .2) (m .2))) in
       cond-case (At o) (ltb i (width r)) within beyond
 
 module _ (st : Config) (root : Row) (v : Valid st root) (path : List ℕ) (n : Node) (x : Place)

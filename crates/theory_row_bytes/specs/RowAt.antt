@@ -9,7 +9,8 @@ use lib.ListN.{length, getD, take, drop, replicate, length-append, length-drop, 
 use lib.Seq.{getD-drop, getD-take, drop-drop, take-at, drop-at}
 use lib.Dec.{eqb}
 use Rattle.model.specs.Limits.{pageSize, capacity}
-use Rattle.model.specs.Row.{Head, Row, nil, agg, lit, rec, _⊹_, size, lone, base, two, header, bytes, recordBytes, recordSize, noHead, trailer, Held, recordPage}
+use Rattle.model.specs.Row.{Head, Row, nil, agg, lit, rec, _⊹_, size, lone, base, two, header, bytes, recordBytes, recordSize, noHead, trailer, Held}
+use Rattle.model.specs.Row.{recordPage}
 use Rattle.model.specs.Reading.{twoAt, kindAt, headAt, sizeAt, nameAt, pageOf}
 use Rattle.base_numbers.specs.Over.{over, over-right}
 use Rattle.theory_rows.specs.Fits.{HeadFits}
@@ -232,7 +233,8 @@ module _ {l : List ℕ} {pos : ℕ} {row : Row} (s : RecordAt l pos row) where
   pub record-row : RowAt l (pos + base row) row
   record-row = record { post = s .post; is = go (lone row) (s .is) }
     where
-      go : (b : Bool) → drop pos l ≡ cond b (bytes row) (header 4 noHead (6 + size row) ++ bytes row) ++ s .post → drop (pos + cond b 0 6) l ≡ bytes row ++ s .post
+      go : (b : Bool) → drop pos l ≡ cond b (bytes row) (header 4 noHead (6 + size row) ++ bytes row) ++ s .post
+          → drop (pos + cond b 0 6) l ≡ bytes row ++ s .post
       go true e = past l pos 0 [] (bytes row ++ s .post) refl e
       go false e = past l pos 6 (header 4 noHead (6 + size row)) (bytes row ++ s .post) refl e
 

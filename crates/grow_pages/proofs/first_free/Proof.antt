@@ -11,7 +11,8 @@ use Rattle.grow_pages.proofs.first_free.Statement.{statement}
 use Rattle.grow_pages.proofs.first_free.Tie as tie
 
 abbrev Inv-loop : tie.InvT-loop
-Inv-loop used pages from q₀ left₀ q left = ((st : Config) → st .pages ≡ pages → freeFrom st left (usedBy used) q ≡ freeFrom st pages (usedBy used) from) × (q < mostPages)
+Inv-loop used pages from q₀ left₀ q left =
+    ((st : Config) → st .pages ≡ pages → freeFrom st left (usedBy used) q ≡ freeFrom st pages (usedBy used) from) × (q < mostPages)
 
 abbrev μ-loop : tie.MeasureT-loop
 μ-loop used pages from q₀ left₀ q left = left

@@ -9,7 +9,8 @@ use Rattle.grow_pages.proofs.relink.Statement.{statement}
 use Rattle.grow_pages.proofs.relink.Tie as tie
 
 abbrev Inv-loop : tie.InvT-loop
-Inv-loop row image₀ pages q pos₀ image pos = ((goal : List ℕ) → Relinking row pages q 0 image₀ goal → Relinking row pages q pos image goal) × (length image ≡ length image₀)
+Inv-loop row image₀ pages q pos₀ image pos =
+    ((goal : List ℕ) → Relinking row pages q 0 image₀ goal → Relinking row pages q pos image goal) × (length image ≡ length image₀)
 
 abbrev μ-loop : tie.MeasureT-loop
 μ-loop row image₀ pages q pos₀ image pos = length row - pos
@@ -18,8 +19,13 @@ loop-holds : tie.Need-loop-holds Inv-loop μ-loop
 loop-holds c = (λ g s. s, refl)
 
 -- what the scan finds at pos
-seen : (c : tie.In-loop Inv-loop μ-loop) → let s = c .before .before .before .before in RelinkStep (s .args .row .now) (s .args .pages) (s .args .q) (c .before .loop .pos) (c .before .loop .image) (links (s .args .q) (s .pre .1 .1 .1 .row) (s .args .image .now))
-seen c = let s = c .before .before .before .before in relink-step _ _ _ _ _ _ (s .pre .0) (c .before .loop .inv .0 _ (relink-start _ _ _ _ (s .pre .1 .1 .1))) (c .loop-test .taken)
+seen : (c : tie.In-loop Inv-loop μ-loop)
+    → let s = c .before .before .before .before in
+    let goal = links (s .args .q) (s .pre .1 .1 .1 .row) (s .args .image .now) in
+    RelinkStep (s .args .row .now) (s .args .pages) (s .args .q) (c .before .loop .pos) (c .before .loop .image) goal
+seen c =
+    let s = c .before .before .before .before in
+    relink-step _ _ _ _ _ _ (s .pre .0) (c .before .loop .inv .0 _ (relink-start _ _ _ _ (s .pre .1 .1 .1))) (c .loop-test .taken)
 
 shared-slice-read-kind : tie.Need-shared-slice-read-kind Inv-loop μ-loop
 shared-slice-read-kind c = omega arith
@@ -64,7 +70,9 @@ loop-again-2 c =
     let p = c .before .before in
     let g = p .before .before in
     let i = c .before .before .before .before .before .before .before .before in (
-      λ y s. rw (p .put16 .ensures, g .name-at .ensures .0) (relink-step _ _ _ _ _ _ (i .before .before .before .before .pre .0) (i .before .loop .inv .0 y s) (i .loop-test .taken) .proxy (g .before .if2 .taken) .1 .1),
+      λ y s. rw (p .put16 .ensures, g .name-at .ensures .0)
+          (relink-step _ _ _ _ _ _ (i .before .before .before .before .pre .0) (i .before .loop .inv .0 y s) (i .loop-test .taken) .proxy
+          (g .before .if2 .taken) .1 .1),
       p .put16 .kept .0 ∙ i .before .loop .inv .1,
     )
 

@@ -36,7 +36,8 @@ returns-3 : tie.Need-returns-3
 returns-3 c =
     let t = c .before .before .before in
     let z = t .before .before .if1 .left in (
-      λ n r. is-past r z _ (t .size-at .ensures .0) _ (t .before .if2 .left) _ (c .before .before .nth .ensures (searched r z _ (t .size-at .ensures .0))) (not-true _ (c .if3 .taken)),
+      λ n r. is-past r z _ (t .size-at .ensures .0) _ (t .before .if2 .left) _ (c .before .before .nth .ensures (searched r z _ (t .size-at .ensures .0)))
+          (not-true _ (c .if3 .taken)),
       λ z. absurd (omega arith),
     )
 
@@ -44,7 +45,8 @@ returns-4 : tie.Need-returns-4
 returns-4 c =
     let t = c .before .before .before in
     let z = t .before .before .if1 .left in (
-      λ n r. is-within r z _ (t .size-at .ensures .0) _ (t .before .if2 .left) _ (c .before .before .nth .ensures (searched r z _ (t .size-at .ensures .0))) (not-false _ (c .if3 .left)),
+      λ n r. is-within r z _ (t .size-at .ensures .0) _ (t .before .if2 .left) _ (c .before .before .nth .ensures (searched r z _ (t .size-at .ensures .0)))
+          (not-false _ (c .if3 .left)),
       λ _. left-is _ _ _ _ _ (t .size-at .ensures .0) (c .before .before .nth .ensures),
     )
 

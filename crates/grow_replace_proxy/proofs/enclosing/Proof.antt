@@ -15,7 +15,8 @@ loop-holds : tie.Need-loop-holds Inv-loop μ-loop
 loop-holds c = λ g s. s
 
 -- what stands at pos
-seen : (c : tie.In-loop Inv-loop μ-loop) → let s = c .before .before .before in InnerStep (s .args .rec .now) (s .args .target) (c .before .loop .pos) (c .before .loop .par) (filledIn _ _ (s .pre))
+seen : (c : tie.In-loop Inv-loop μ-loop)
+    → let s = c .before .before .before in InnerStep (s .args .rec .now) (s .args .target) (c .before .loop .pos) (c .before .loop .par) (filledIn _ _ (s .pre))
 seen c = inner-step _ _ _ _ _ (c .before .loop .inv _ (inner-start _ _ (c .before .before .before .pre))) (c .loop-test .taken)
 
 size-at-requires : tie.Need-size-at-requires Inv-loop μ-loop
@@ -33,7 +34,8 @@ loop-less c = omega (arith, c .before .before .loop-test .taken)
 loop-again : tie.Need-loop-again Inv-loop μ-loop
 loop-again c =
     let i = c .before .before in
-    λ g s. let v = inner-step _ _ _ _ _ (i .before .loop .inv g s) (i .loop-test .taken) in v .enter (omega (arith, c .if1 .taken, c .before .size-at .ensures .0))
+    λ g s. let v =
+    inner-step _ _ _ _ _ (i .before .loop .inv g s) (i .loop-test .taken) in v .enter (omega (arith, c .if1 .taken, c .before .size-at .ensures .0))
 
 add-pos-2 : tie.Need-add-pos-2 Inv-loop μ-loop
 add-pos-2 c = let v = seen (c .before .before) in omega (arith, v .within, c .before .size-at .ensures .0)

@@ -44,7 +44,8 @@ enclosing-requires c κs =
 
 -- and in which node
 parent-is : (c : tie.After-enclosing) → let s = c .before .before .before .before .before .before .before in
-    (w : Lift (now (s .args .image)) (s .args .holder) (s .args .page) (now (s .args .sep))) → c .enclosing .result ≡ parent 0 (base (before _ _ _ _ w)) (w .spot)
+    (w : Lift (now (s .args .image)) (s .args .holder) (s .args .page) (now (s .args .sep))) → c .enclosing .result ≡ parent 0 (base (before _ _ _ _ w))
+    (w .spot)
 parent-is c w = c .enclosing .ensures (filled _ _ _ _ w _ (part _ _ _ _ w _ (c .before .before .before .used-at .ensures .0)) _ (spot-is (c .before) w))
 
 splice-requires : tie.Need-splice-requires
@@ -54,7 +55,8 @@ splice-requires c κs =
     let e = part _ _ _ _ w _ (c .before .before .before .before .used-at .ensures .0) in
     let n = long _ _ _ _ w _ e in
     let z = sep-most _ _ _ _ w in
-    (place _ _ _ _ w _ e _ _ (spot-is (c .before .before) w) (parent-is (c .before) w), (sep-least _ _ _ _ w, (omega (arith, n, z, w .small, s .pre .1), omega (arith, n, z, w .small))))
+    let p = place _ _ _ _ w _ e _ _ (spot-is (c .before .before) w) (parent-is (c .before) w) in
+    (p, (sep-least _ _ _ _ w, (omega (arith, n, z, w .small, s .pre .1), omega (arith, n, z, w .small))))
 
 same-length : tie.Need-same-length
 same-length c = search needs

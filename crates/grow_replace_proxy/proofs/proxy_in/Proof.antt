@@ -38,7 +38,8 @@ name-at-requires c κs = omega (arith, seen (c .before .before .before) .within)
 returns : tie.Need-returns Inv-loop μ-loop
 returns c =
     let i = c .before .before in
-    λ w. seek-step _ _ _ _ (i .before .before .before .loop .inv _ (seek-start _ _ w)) .proxy (i .if2 .taken) (sym (c .before .name-at .ensures .0) ∙ c .if3 .taken)
+    λ w. seek-step _ _ _ _ (i .before .before .before .loop .inv _ (seek-start _ _ w)) .proxy (i .if2 .taken)
+    (sym (c .before .name-at .ensures .0) ∙ c .if3 .taken)
 
 add-pos-2 : tie.Need-add-pos-2 Inv-loop μ-loop
 add-pos-2 c = omega (arith, seen (c .before .before .before .before .before) .within)

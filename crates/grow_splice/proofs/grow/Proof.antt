@@ -39,7 +39,9 @@ begun c w =
 -- what stands at pos
 seen : (c : tie.In-loop Inv-loop μ-loop) → let s = c .before .before .before .before .before .before .before .before .before in
     Look (c .before .loop .s) (grown _ _ _ (s .pre)) (c .before .loop .pos) (s .args .par) (s .args .n)
-seen c = look _ _ _ _ _ (c .before .loop .inv .0 _ (begun (c .before) (c .before .before .before .before .before .before .before .before .before .pre))) (c .loop-test .taken)
+seen c =
+    look _ _ _ _ _ (c .before .loop .inv .0 _ (begun (c .before) (c .before .before .before .before .before .before .before .before .before .pre)))
+    (c .loop-test .taken)
 
 size-at-requires-2 : tie.Need-size-at-requires-2 Inv-loop μ-loop
 size-at-requires-2 c κs = let v = seen (c .before) in omega (arith, v .fits)
@@ -68,7 +70,8 @@ loop-again : tie.Need-loop-again Inv-loop μ-loop
 loop-again c =
     let p = c .before .before in
     let i = p .before .before .before .before .before in (
-      λ g m. mid-enter _ _ _ _ _ _ _ (i .before .loop .inv .0 g m) (i .loop-test .taken) (p .before .before .before .size-at2 .ensures .0) (p .before .before .if1 .taken) (p .put162 .ensures),
+      λ g m. mid-enter _ _ _ _ _ _ _ (i .before .loop .inv .0 g m) (i .loop-test .taken) (p .before .before .before .size-at2 .ensures .0)
+          (p .before .before .if1 .taken) (p .put162 .ensures),
       p .put162 .kept .0 ∙ i .before .loop .inv .1,
     )
 
@@ -76,7 +79,8 @@ add-pos-2 : tie.Need-add-pos-2 Inv-loop μ-loop
 add-pos-2 c = omega (arith, c .before .size-at2 .ensures .1, c .if1 .left)
 
 loop-less-2 : tie.Need-loop-less-2 Inv-loop μ-loop
-loop-less-2 c = let v = seen (c .before .before .before) in omega (arith, v .is, v .more, c .before .size-at2 .ensures .0, c .before .before .before .loop-test .taken)
+loop-less-2 c =
+    let v = seen (c .before .before .before) in omega (arith, v .is, v .more, c .before .size-at2 .ensures .0, c .before .before .before .loop-test .taken)
 
 loop-again-2 : tie.Need-loop-again-2 Inv-loop μ-loop
 loop-again-2 c =

@@ -21,17 +21,20 @@ may-stand-requires c κs = search needs
 returns : tie.Need-returns
 returns c =
     let m = c .before in
-    λ end w st e. into-no _ _ _ w st _ _ e (m .before .before .before .size-at .ensures .0) (sym (by-byte (m .before .wide .ensures .0) (m .may-stand .ensures)) ∙ not-true _ (c .if1 .taken))
+    λ end w st e. into-no _ _ _ w st _ _ e (m .before .before .before .size-at .ensures .0)
+    (sym (by-byte (m .before .wide .ensures .0) (m .may-stand .ensures)) ∙ not-true _ (c .if1 .taken))
 
 returns-2 : tie.Need-returns-2
 returns-2 c =
     let m = c .before .before in
-    λ end w st e. into-empty _ _ _ w st _ _ e (m .before .before .before .size-at .ensures .0) (sym (by-byte (m .before .wide .ensures .0) (m .may-stand .ensures)) ∙ not-false _ (c .before .if1 .left)) (c .if2 .taken)
+    λ end w st e. into-empty _ _ _ w st _ _ e (m .before .before .before .size-at .ensures .0)
+    (sym (by-byte (m .before .wide .ensures .0) (m .may-stand .ensures)) ∙ not-false _ (c .before .if1 .left)) (c .if2 .taken)
 
 returns-3 : tie.Need-returns-3
 returns-3 c =
     let m = c .before .before in
-    λ end w st e. into-size _ _ _ w st _ _ e (m .before .before .before .size-at .ensures .0) (sym (by-byte (m .before .wide .ensures .0) (m .may-stand .ensures)) ∙ not-false _ (c .before .if1 .left)) (c .if2 .left)
+    λ end w st e. into-size _ _ _ w st _ _ e (m .before .before .before .size-at .ensures .0)
+    (sym (by-byte (m .before .wide .ensures .0) (m .may-stand .ensures)) ∙ not-false _ (c .before .if1 .left)) (c .if2 .left)
 
 pub enters-spec : {M : Type 1} → statement M
 enters-spec =

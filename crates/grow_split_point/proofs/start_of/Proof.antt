@@ -13,7 +13,8 @@ use Rattle.grow_split_point.proofs.start_of.Statement.{statement}
 use Rattle.grow_split_point.proofs.start_of.Tie as tie
 
 abbrev Inv-loop : tie.InvT-loop
-Inv-loop buf start end p tolerance pos₀ stop₀ pos stop = (st : Config) (t : ℕ) → SeeksD buf st p start end t → st .tolerance ≡ tolerance → SeeksD buf st p pos stop t
+Inv-loop buf start end p tolerance pos₀ stop₀ pos stop =
+    (st : Config) (t : ℕ) → SeeksD buf st p start end t → st .tolerance ≡ tolerance → SeeksD buf st p pos stop t
 
 abbrev μ-loop : tie.MeasureT-loop
 μ-loop buf start end p tolerance pos₀ stop₀ pos stop = stop - pos
@@ -39,7 +40,8 @@ loop-less c = omega (arith, first-fits (here (c .before .before .before) .kids) 
 loop-again : tie.Need-loop-again Inv-loop μ-loop
 loop-again c =
     let g = c .before .before in
-    λ st t s e. next-step e (g .before .loop .inv st t s e) (g .size-at .ensures .0) (c .before .if1 .taken) (rw (lt-ltb _ _ (c .before .if1 .taken)) (c .if2 .taken))
+    λ st t s e. next-step e (g .before .loop .inv st t s e) (g .size-at .ensures .0) (c .before .if1 .taken)
+    (rw (lt-ltb _ _ (c .before .if1 .taken)) (c .if2 .taken))
 
 shared-slice-read-wide : tie.Need-shared-slice-read-wide Inv-loop μ-loop
 shared-slice-read-wide c = omega (arith, first-fits (here (c .before .before .before) .kids) (c .before .before .size-at .ensures .0))
@@ -77,7 +79,8 @@ returns c = λ k st e.
     let g = j .before in
     here-step e (g .before .loop .inv st _ (record { kids = k; same = refl }) e) (g .size-at .ensures .0)
     (not-next _ _ _ (⊎-elim (λ w. inl (w .0 .taken, w .1 .left)) (λ w. inr (w .left)) (j .if1 .came)))
-    (not-into _ (m .may-stand .result) (g .size-at .result) (g .before .before .before .args .tolerance) (by-byte (m .before .wide .ensures .0) (m .may-stand .ensures))
+    (not-into _ (m .may-stand .result) (g .size-at .result) (g .before .before .before .args .tolerance)
+    (by-byte (m .before .wide .ensures .0) (m .may-stand .ensures))
     (⊎-elim (λ w. inl (w .0 .taken, w .1 .taken, w .2 .left)) (λ v. ⊎-elim (λ w. inr (inl (w .0 .taken, w .1 .left))) (λ w. inr (inr (w .left))) v) (c .if3 .came)))
 
 pub start-of-spec : {M : Type 1} → statement M

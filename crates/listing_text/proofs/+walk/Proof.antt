@@ -4,7 +4,8 @@ use native.Mathlib.Omega.{arith}
 use Prim.Native.Nat.{ℕ, _+_, _-_, _<_}
 use borrow.Fn.Kinds.{In}
 use borrow.Fn.PlainCycle.{Measures, is, falls, and}
-use Rattle.listing_text.specs.Lined.{rowText, Lined, At, node-fits, NodeLines, Underway, ownOf, at-node, lines-at, underway-start, own-room, inside-fitting, underway-on, underway-end}
+use Rattle.listing_text.specs.Lined.{rowText, Lined, At, node-fits, NodeLines, Underway, ownOf, at-node, lines-at, underway-start, own-room}
+use Rattle.listing_text.specs.Lined.{inside-fitting, underway-on, underway-end}
 use Rattle.listing_text.proofs.walk.Reads as walk
 use Rattle.listing_text.proofs.walk.Kinds as walk-kinds
 use Rattle.listing_text.proofs.+walk.Lts-walk as walk-lts
@@ -35,15 +36,19 @@ abbrev μ-loop : walk-lts.MeasureT-loop
 
 -- What is written and left at the loop's head.
 here : (t : ℕ) (c : walk-lts.At-loop (claims t) (walk-at t) walk.Post Inv-loop μ-loop) → let a = c .before .before .before .args in
-    Underway (a .image .now) (c .loop .i) (a .end) (a .level) (a .depth) (a .at) (c .loop .n) (a .out .now) (c .loop .out) (rowText (a .level) (c .before .before .before .pre .1 .lined .row))
+    Underway (a .image .now) (c .loop .i) (a .end) (a .level) (a .depth) (a .at) (c .loop .n) (a .out .now) (c .loop .out)
+    (rowText (a .level) (c .before .before .before .pre .1 .lined .row))
 here t c = c .loop .inv _ (underway-start (c .before .before .before .pre .1))
 
 -- The node at i.
-abbrev node : (t : ℕ) (c : walk-lts.After-size-at (claims t) (walk-at t) walk.Post Inv-loop μ-loop) → let l = c .before .before in let a = l .before .before .before .args in
-    (w : Lined (a .image .now) (l .loop .i) (a .end) (a .level) (a .depth)) → At (a .image .now) (l .loop .i) (l .loop .i + c .size-at .result) (a .end) (a .level) (a .depth)
+abbrev node : (t : ℕ) (c : walk-lts.After-size-at (claims t) (walk-at t) walk.Post Inv-loop μ-loop)
+    → let l = c .before .before in let a = l .before .before .before .args in
+    (w : Lined (a .image .now) (l .loop .i) (a .end) (a .level) (a .depth)) → At (a .image .now) (l .loop .i) (l .loop .i + c .size-at .result) (a .end)
+    (a .level) (a .depth)
 node t c w = at-node _ w (c .before .loop-test .taken) (c .size-at .ensures .0)
 
-after : (t : ℕ) (c : walk-lts.After-inside (claims t) (walk-at t) walk.Post Inv-loop μ-loop) → let l = c .before .before .before in let a = l .before .before .before .args in
+after : (t : ℕ) (c : walk-lts.After-inside (claims t) (walk-at t) walk.Post Inv-loop μ-loop)
+    → let l = c .before .before .before in let a = l .before .before .before .args in
     (w : Lined (a .image .now) (l .loop .i) (a .end) (a .level) (a .depth))
     → NodeLines (a .image .now) (l .loop .i) (l .loop .i + c .before .size-at .result) (a .end) (a .level) (a .depth) (c .inside .result)
     (ownOf (a .image .now) (l .loop .i) (l .loop .i + c .before .size-at .result) (a .level)) (w .row)
@@ -53,10 +58,14 @@ walk-loop-holds : (t : ℕ) → walk-lts.Need-loop-holds (claims t) (walk-at t) 
 walk-loop-holds t c = λ u g. g
 
 walk-size-at-requires : (t : ℕ) → walk-lts.Need-size-at-requires (claims t) (walk-at t) walk.Post Inv-loop μ-loop
-walk-size-at-requires t c κs = omega (arith, here t (c .before) .rest .here .room, here t (c .before) .rest .here .on .inside, here t (c .before) .rest .here .on .high, here t (c .before) .rest .ends, c .loop-test .taken)
+walk-size-at-requires t c κs =
+    let r = here t (c .before) .rest in
+    omega (arith, r .here .room, r .here .on .inside, r .ends, c .loop-test .taken)
 
 walk-add-next : (t : ℕ) → walk-lts.Need-add-next (claims t) (walk-at t) walk.Post Inv-loop μ-loop
-walk-add-next t c = omega (arith, here t (c .before .before) .rest .here .room, here t (c .before .before) .rest .here .on .inside, here t (c .before .before) .rest .here .on .high, here t (c .before .before) .rest .ends, c .before .loop-test .taken, c .size-at .ensures .1)
+walk-add-next t c =
+    let r = here t (c .before .before) .rest in
+    omega (arith, r .here .room, r .here .on .high, r .ends, c .before .loop-test .taken, c .size-at .ensures .1)
 
 walk-inside-requires : (t : ℕ) → walk-lts.Need-inside-requires (claims t) (walk-at t) walk.Post Inv-loop μ-loop
 walk-inside-requires t c κs = node t c (here t (c .before .before) .rest)

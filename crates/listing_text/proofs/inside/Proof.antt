@@ -14,7 +14,9 @@ add-t12 : tie.Need-add-t12
 add-t12 c = search needs
 
 returns : tie.Need-returns
-returns c = inside-aggregate (c .before .before .before .args .image .now) (c .before .before .before .args .i) (c .before .before .before .args .next) (c .before .before .before .args .level) (c .if1 .taken)
+returns c =
+    inside-aggregate (c .before .before .before .args .image .now) (c .before .before .before .args .i) (c .before .before .before .args .next)
+    (c .before .before .before .args .level) (c .if1 .taken)
 
 shared-slice-read-if2 : tie.Need-shared-slice-read-if2
 shared-slice-read-if2 c = search needs
@@ -36,7 +38,8 @@ returns-2 : tie.Need-returns-2
 returns-2 c =
     let c5 = c .before .before .before .before .before in
     let c8 = c5 .before .before .before in
-    inside-proxy (c8 .args .image .now) (c8 .args .i) (c8 .args .next) (c8 .args .level) _ _ _ (c5 .if1 .left) (c .before .before .before .if2 .taken) (c .before .before .name-at .ensures .0) (c .before .row-start .ensures) (c .row-end .ensures)
+    inside-proxy (c8 .args .image .now) (c8 .args .i) (c8 .args .next) (c8 .args .level) _ _ _ (c5 .if1 .left) (c .before .before .before .if2 .taken)
+    (c .before .before .name-at .ensures .0) (c .before .row-start .ensures) (c .row-end .ensures)
 
 returns-3 : tie.Need-returns-3
 returns-3 c =

@@ -84,7 +84,8 @@ returns-2 c =
 returns-3 : tie.Need-returns-3
 returns-3 c =
     let c7 = c .before .before .before .before .before .before .before in
-    same-text (sym (own-none (c7 .args .image .now) (c7 .args .i) (c7 .args .next) (c7 .args .level) (c .before .before .if1 .left) (c .if2 .left))) (nothing _ _ (omega (arith, c7 .pre .1 .fits)))
+    same-text (sym (own-none (c7 .args .image .now) (c7 .args .i) (c7 .args .next) (c7 .args .level) (c .before .before .if1 .left) (c .if2 .left)))
+    (nothing _ _ (omega (arith, c7 .pre .1 .fits)))
 
 pub own-spec : {M : Type 1} → statement M
 own-spec =

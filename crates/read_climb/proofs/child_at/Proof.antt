@@ -51,12 +51,15 @@ add-i c =
 loop-less : tie.Need-loop-less Inv-loop μ-loop
 loop-less c =
     let g = c .before .before .before .before .loop .inv (c .before .before .before .before .before .before .pre .0) in
-    omega (arith, header-long _ _ (standing _ _ _ (g .now)), c .size-at2 .ensures .0, c .before .before .before .size-at .ensures .0, c .before .before .if1 .taken)
+    let n = c .before .before .before .size-at .ensures .0 in
+    omega (arith, header-long _ _ (standing _ _ _ (g .now)), c .size-at2 .ensures .0, c .before .before .if1 .taken)
 
 loop-again : tie.Need-loop-again Inv-loop μ-loop
 loop-again c w =
     let g = c .before .before .before .before .loop .inv w in
-    go-on _ _ _ _ _ _ _ _ g (c .size-at2 .ensures .0) (omega (arith, c .size-at2 .ensures .0, c .before .before .before .size-at .ensures .0, c .before .before .if1 .taken)) (c .before .nodes-in .ensures (standing _ _ _ (g .now)))
+    go-on _ _ _ _ _ _ _ _ g (c .size-at2 .ensures .0)
+    (omega (arith, c .size-at2 .ensures .0, c .before .before .before .size-at .ensures .0, c .before .before .if1 .taken))
+    (c .before .nodes-in .ensures (standing _ _ _ (g .now)))
 
 returns : tie.Need-returns Inv-loop μ-loop
 returns c w = go-end _ _ _ _ _ _ _ (c .before .before .loop .inv w) (c .before .size-at .ensures .0) (c .if1 .left)

@@ -66,7 +66,8 @@ loop-less : tie.Need-loop-less Inv-loop μ-loop
 loop-less c =
     let w = c .before .before .before .before .before .before .before .before .pre .0 in
     let l = c .before .before .before .before .before .before .loop .inv .0 w in
-    omega (arith, above _ _ _ (w .reads) _ _ _ _ _ _ _ l _ (parent-at _ _ _ (w .reads) _ _ _ _ _ _ _ l _ (c .before .back-at .ensures .0) (c .before .before .if1 .left)))
+    let p = parent-at _ _ _ (w .reads) _ _ _ _ _ _ _ l _ (c .before .back-at .ensures .0) (c .before .before .if1 .left) in
+    omega (arith, above _ _ _ (w .reads) _ _ _ _ _ _ _ l _ p)
 
 loop-again : tie.Need-loop-again Inv-loop μ-loop
 loop-again c = (

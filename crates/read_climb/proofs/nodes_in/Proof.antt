@@ -6,7 +6,8 @@ use Rattle.read_climb.specs.Search.{RecordTold, plain, record-told}
 use Rattle.read_climb.proofs.nodes_in.Statement.{statement}
 use Rattle.read_climb.proofs.nodes_in.Tie as tie
 
-proxy : (c : tie.After-name-at) → let s = c .before .before .before .before in RecordTold (s .args .image .now) (c .name-at .result) (firstWidth (s .pre .0 .row))
+proxy : (c : tie.After-name-at)
+    → let s = c .before .before .before .before in RecordTold (s .args .image .now) (c .name-at .result) (firstWidth (s .pre .0 .row))
 proxy c = record-told _ _ _ (c .before .before .before .before .pre .0) (c .name-at .ensures .0) (c .before .if1 .left)
 
 shared-slice-read-if1 : tie.Need-shared-slice-read-if1

@@ -27,7 +27,9 @@ here c = c .loop .inv _ (starting _ _ _ (c .before .if2 .left))
 deeper : (c : tie.After-size-at Inv-loop μ-loop) → let l = c .before .before .before .before .before in let s = l .before .before .before .before .before in
     (t : Option Place) → Finds (s .args .image .now) (s .args .path .now) (l .loop .pos) (l .loop .i) t
     → Down (s .args .image .now) (s .args .path .now) (l .loop .pos) (l .loop .i) (c .size-at .result) (c .before .four .result) t
-deeper c t w = down _ _ _ _ _ w (c .before .before .before .before .loop-test .taken) _ _ (c .before .before .if3 .left) (c .size-at .ensures .0) (c .before .four .ensures)
+deeper c t w =
+    down _ _ _ _ _ w (c .before .before .before .before .loop-test .taken) _ _ (c .before .before .if3 .left) (c .size-at .ensures .0)
+    (c .before .four .ensures)
 
 refused-requires : tie.Need-refused-requires Inv-loop μ-loop
 refused-requires c κs = search needs

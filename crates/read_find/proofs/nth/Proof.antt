@@ -26,11 +26,13 @@ in-room c = room _ _ _ _ (here c)
 
 -- Past a node, and at a proxy.
 passed : (c : tie.After-size-at Inv-loop μ-loop) → let l = c .before .before .before .before .before in let s = l .before .before in
-    (w : Rowed (s .args .image .now) (l .loop .i) (l .loop .stop) (l .loop .deep)) → Passed (s .args .image .now) (l .loop .i) (l .loop .stop) (l .loop .deep) (c .size-at .result) (w .row)
+    (w : Rowed (s .args .image .now) (l .loop .i) (l .loop .stop) (l .loop .deep)) → Passed (s .args .image .now) (l .loop .i) (l .loop .stop) (l .loop .deep)
+    (c .size-at .result) (w .row)
 passed c w = pass _ _ _ _ _ (c .before .before .before .before .loop-test .taken) (c .size-at .ensures .0) (c .before .before .if1 .left) w
 
 entered : (c : tie.After-name-at Inv-loop μ-loop) → let l = c .before .before .before .before in let s = l .before .before in
-    (w : Rowed (s .args .image .now) (l .loop .i) (l .loop .stop) (l .loop .deep)) → Entered (s .args .image .now) (l .loop .i) (l .loop .stop) (l .loop .deep) (c .name-at .result) (w .row)
+    (w : Rowed (s .args .image .now) (l .loop .i) (l .loop .stop) (l .loop .deep)) → Entered (s .args .image .now) (l .loop .i) (l .loop .stop) (l .loop .deep)
+    (c .name-at .result) (w .row)
 entered c w = enter _ _ _ _ _ (c .before .before .before .loop-test .taken) (c .before .if1 .taken) (c .name-at .ensures .0) w
 
 proxy : (c : tie.After-name-at Inv-loop μ-loop) → let l = c .before .before .before .before in
@@ -91,7 +93,8 @@ loop-again-2 c =
     let l = p .before .before .before .before in
     λ t s.
     let w = l .loop .inv t s in
-    seek-inside _ _ _ _ _ _ _ w (entered p (w .rest)) _ (l .before .before .pre .1) _ _ (c .before .row-start .ensures) (c .row-end .ensures) (omega (arith, c .before .before .if2 .left))
+    seek-inside _ _ _ _ _ _ _ w (entered p (w .rest)) _ (l .before .before .pre .1) _ _ (c .before .row-start .ensures) (c .row-end .ensures)
+    (omega (arith, c .before .before .if2 .left))
 
 returns : tie.Need-returns Inv-loop μ-loop
 returns c =

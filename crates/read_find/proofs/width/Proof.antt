@@ -29,11 +29,13 @@ within c =
 
 -- Past a node, and at a proxy.
 passed : (c : tie.Else1 Inv-loop μ-loop) → let l = c .before .before .before .before in let s = l .before .before in
-    (w : Rowed (s .args .image .now) (l .loop .i) (s .args .end) mostPages) → Passed (s .args .image .now) (l .loop .i) (s .args .end) mostPages (c .before .before .size-at .result) (w .row)
+    (w : Rowed (s .args .image .now) (l .loop .i) (s .args .end) mostPages) → Passed (s .args .image .now) (l .loop .i) (s .args .end) mostPages
+    (c .before .before .size-at .result) (w .row)
 passed c w = pass _ _ _ _ _ (c .before .before .before .loop-test .taken) (c .before .before .size-at .ensures .0) (c .if1 .left) w
 
 entered : (c : tie.After-name-at Inv-loop μ-loop) → let l = c .before .before .before .before .before in let s = l .before .before in
-    (w : Rowed (s .args .image .now) (l .loop .i) (s .args .end) mostPages) → Entered (s .args .image .now) (l .loop .i) (s .args .end) mostPages (c .name-at .result) (w .row)
+    (w : Rowed (s .args .image .now) (l .loop .i) (s .args .end) mostPages) → Entered (s .args .image .now) (l .loop .i) (s .args .end) mostPages
+    (c .name-at .result) (w .row)
 entered c w = enter _ _ _ _ _ (c .before .before .before .before .loop-test .taken) (c .before .if1 .taken) (c .name-at .ensures .0) w
 
 proxy : (c : tie.After-name-at Inv-loop μ-loop) → let l = c .before .before .before .before .before in let s = l .before .before in

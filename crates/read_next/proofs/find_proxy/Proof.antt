@@ -26,10 +26,14 @@ flat-requires : tie.Need-flat-requires Inv-loop μ-loop
 flat-requires c κs = let h = sought-head (c .before .before .loop .inv (c .before .before .before .before .before .pre)) in (omega (arith, h .inside), h .small)
 
 loop-less : tie.Need-loop-less Inv-loop μ-loop
-loop-less c = let h = sought-head (c .before .before .before .loop .inv (c .before .before .before .before .before .before .pre)) in omega (arith, c .flat .ensures, h .further, h .within)
+loop-less c =
+    let h = sought-head (c .before .before .before .loop .inv (c .before .before .before .before .before .before .pre)) in
+    omega (arith, c .flat .ensures, h .further, h .within)
 
 loop-again : tie.Need-loop-again Inv-loop μ-loop
-loop-again c = λ w. sought-next (c .before .before .before .loop .inv w) _ (c .flat .ensures) (sym (c .before .before .names .ensures) ∙ not-true (c .before .before .names .result) (c .before .if1 .taken))
+loop-again c =
+    λ w. sought-next (c .before .before .before .loop .inv w) _ (c .flat .ensures)
+    (sym (c .before .before .names .ensures) ∙ not-true (c .before .before .names .result) (c .before .if1 .taken))
 
 returns : tie.Need-returns Inv-loop μ-loop
 returns c = λ w. sought-hit (c .before .before .loop .inv w) (sym (c .before .names .ensures) ∙ not-false (c .before .names .result) (c .if1 .left))

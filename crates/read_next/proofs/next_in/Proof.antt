@@ -13,7 +13,9 @@ enter-requires : tie.Need-enter-requires
 enter-requires c κs = (_, c .before .item-after .ensures .more (omega arith))
 
 returns-2 : tie.Need-returns-2
-returns-2 c = let e = c .enter .ensures _ (c .before .before .item-after .ensures .more (omega arith)) in record { stop = λ z. absurd (omega (arith, e .1)); more = λ _. e .0 }
+returns-2 c =
+    let e = c .enter .ensures _ (c .before .before .item-after .ensures .more (omega arith)) in
+    record { stop = λ z. absurd (omega (arith, e .1)); more = λ _. e .0 }
 
 pub next-in-spec : {M : Type 1} → statement M
 next-in-spec = tie.close (tie.spec item-after-requires returns enter-requires returns-2)

@@ -21,7 +21,9 @@ kind-at-requires : tie.Need-kind-at-requires
 kind-at-requires c κs = follows-inside (c .before .next-in .ensures .more (omega arith))
 
 returns-3 : tie.Need-returns-3
-returns-3 c = answer-kind _ _ _ _ _ (c .before .before .before .before .node-at .ensures .found (omega arith)) (c .before .before .next-in .ensures .more (omega arith)) (c .kind-at .ensures)
+returns-3 c =
+    answer-kind _ _ _ _ _ (c .before .before .before .before .node-at .ensures .found (omega arith)) (c .before .before .next-in .ensures .more (omega arith))
+    (c .kind-at .ensures)
 
 pub next-of-spec : {M : Type 1} → statement M
 next-of-spec =

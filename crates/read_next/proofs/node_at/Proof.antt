@@ -26,16 +26,24 @@ used-at-requires : tie.Need-used-at-requires
 used-at-requires c κs = search needs
 
 returns-4 : tie.Need-returns-4
-returns-4 c = let s = c .before .before .before .before .before .before .before in past-end (s .args .image .now) (s .args .page) _ (omega (arith, c .before .used-at .ensures .0, c .if4 .taken))
+returns-4 c =
+    let s = c .before .before .before .before .before .before .before in
+    past-end (s .args .image .now) (s .args .page) _ (omega (arith, c .before .used-at .ensures .0, c .if4 .taken))
 
 add-standing : tie.Need-add-standing
 add-standing c = search needs
 
 standing-requires : tie.Need-standing-requires
-standing-requires c κs = let s = c .before .before .before .before .before .before .before in (its-page-in (s .args .image .now) (s .args .page) (s .args .offset) (s .pre) (omega arith) (c .before .before .before .before .if2 .left) (c .before .before .if3 .left), omega (arith, c .before .used-at .ensures .0, c .if4 .left))
+standing-requires c κs =
+    let s = c .before .before .before .before .before .before .before in
+    let w = its-page-in (s .args .image .now) (s .args .page) (s .args .offset) (s .pre) (omega arith) (c .before .before .before .before .if2 .left) in
+    (w (c .before .before .if3 .left), omega (arith, c .before .used-at .ensures .0, c .if4 .left))
 
 returns-5 : tie.Need-returns-5
-returns-5 c = let s = c .before .before .before .before .before .before .before .before in located (s .args .image .now) (s .args .page) (s .args .offset) _ (s .pre) (omega arith) (c .before .before .before .before .before .if2 .left) (c .before .before .before .if3 .left) (c .standing .ensures)
+returns-5 c =
+    let s = c .before .before .before .before .before .before .before .before in
+    located (s .args .image .now) (s .args .page) (s .args .offset) _ (s .pre) (omega arith) (c .before .before .before .before .before .if2 .left)
+    (c .before .before .before .if3 .left) (c .standing .ensures)
 
 pub node-at-spec : {M : Type 1} → statement M
 node-at-spec =

@@ -17,10 +17,14 @@ loop-holds : tie.Need-loop-holds Inv-loop μ-loop
 loop-holds c = λ w. scan-start w _ _ (c .row-start .ensures)
 
 flat-requires : tie.Need-flat-requires Inv-loop μ-loop
-flat-requires c κs = let w = c .before .before .before .before .pre .0 in let h = scan-head w _ _ (c .before .loop .inv w) (omega (arith, known w .end)) in (omega (arith, h .inside), h .small)
+flat-requires c κs =
+    let w = c .before .before .before .before .pre .0 in
+    let h = scan-head w _ _ (c .before .loop .inv w) (omega (arith, known w .end)) in (omega (arith, h .inside), h .small)
 
 loop-less : tie.Need-loop-less Inv-loop μ-loop
-loop-less c = let w = c .before .before .before .before .before .pre .0 in let h = scan-head w _ _ (c .before .before .loop .inv w) (omega (arith, known w .end)) in omega (arith, c .flat .ensures, h .further)
+loop-less c =
+    let w = c .before .before .before .before .before .pre .0 in
+    let h = scan-head w _ _ (c .before .before .loop .inv w) (omega (arith, known w .end)) in omega (arith, c .flat .ensures, h .further)
 
 loop-again : tie.Need-loop-again Inv-loop μ-loop
 loop-again c = λ w. scan-next w _ _ _ (c .flat .ensures) (c .before .before .loop .inv w) (c .before .loop-test .taken) (omega (arith, known w .end))

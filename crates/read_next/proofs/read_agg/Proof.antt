@@ -28,10 +28,19 @@ cast-t8 : tie.Need-cast-t8
 cast-t8 c = search needs
 
 cast-t9 : tie.Need-cast-t9
-cast-t9 c = let s = c .before .before .before .before in let few = inner-few (s .args .image .now) (s .args .pos) (s .pre .2) in let same = c .width .ensures (inner-to (s .args .image .now) (s .args .pos) _ (ap (λ (n : ℕ). s .args .pos + n) (c .before .size-at .ensures .0)) (s .pre .2)) in omega arith
+cast-t9 c =
+    let s = c .before .before .before .before in
+    let few = inner-few (s .args .image .now) (s .args .pos) (s .pre .2) in
+    let same =
+    c .width .ensures (inner-to (s .args .image .now) (s .args .pos) _ (ap (λ (n : ℕ). s .args .pos + n) (c .before .size-at .ensures .0)) (s .pre .2)) in
+    omega arith
 
 returns : tie.Need-returns
-returns c = λ w. let s = c .before .before .before .before in agg-is (s .args .image .now) (s .args .pos) _ _ (w .row) (c .before .before .label-at .ensures .0) (c .width .ensures (inner-to (s .args .image .now) (s .args .pos) _ (ap (λ (n : ℕ). s .args .pos + n) (c .before .size-at .ensures .0)) w))
+returns c =
+    λ w.
+    let s = c .before .before .before .before in
+    agg-is (s .args .image .now) (s .args .pos) _ _ (w .row) (c .before .before .label-at .ensures .0)
+    (c .width .ensures (inner-to (s .args .image .now) (s .args .pos) _ (ap (λ (n : ℕ). s .args .pos + n) (c .before .size-at .ensures .0)) w))
 
 pub read-agg-spec : {M : Type 1} → statement M
 read-agg-spec =

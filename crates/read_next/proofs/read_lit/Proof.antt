@@ -19,7 +19,9 @@ cast-t7 : tie.Need-cast-t7
 cast-t7 c = search needs
 
 returns : tie.Need-returns
-returns c = lit-is (c .before .before .before .before .args .image .now) (c .before .before .before .before .args .pos) _ _ _ (c .before .before .label-at .ensures .0) (c .before .size-at .ensures .0) (c .content-at .ensures)
+returns c =
+    lit-is (c .before .before .before .before .args .image .now) (c .before .before .before .before .args .pos) _ _ _ (c .before .before .label-at .ensures .0)
+    (c .before .size-at .ensures .0) (c .content-at .ensures)
 
 pub read-lit-spec : {M : Type 1} → statement M
 read-lit-spec =
