@@ -182,8 +182,8 @@ module _ (l : List ℕ) (pos par gone : ℕ) (new : List ℕ) (w : Place l pos p
       let z : m + (n - gone) ≡ size (w .put ⊹ w .tail) = omega (arith, larger (omega arith)) in
       let x : (g ++ new) ++ drop (pos + gone) l ≡ (fore (seen .kind) (seen .head) t (m + (n - gone)) ++ bytes (w .put)) ++ (bytes (w .tail) ++ beyond t) =
       λ j. (pg j ++ w .comes j) ++ back j in
-      let y : (fore (seen .kind) (seen .head) t (m + (n - gone)) ++ bytes (w .put)) ++ (bytes (w .tail) ++ beyond t) ≡ recordBytes
-      (spliced l pos par gone new w) =
+      let r : List ℕ = recordBytes (spliced l pos par gone new w) in
+      let y : (fore (seen .kind) (seen .head) t (m + (n - gone)) ++ bytes (w .put)) ++ (bytes (w .tail) ++ beyond t) ≡ r =
       ap (λ (v : ℕ). (fore (seen .kind) (seen .head) t v ++ bytes (w .put)) ++ (bytes (w .tail) ++ beyond t)) z
       ∙ append-assoc (fore (seen .kind) (seen .head) t (size (w .put ⊹ w .tail))) (bytes (w .put)) (bytes (w .tail) ++ beyond t)
       ∙ sym (seen .is ∙ apart (seen .kind) (seen .head) t (w .put) (w .tail)) in
