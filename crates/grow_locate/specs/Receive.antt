@@ -10,22 +10,23 @@ use lib.Dec.{eqb}
 use Rattle.model.specs.Limits.{mostPages, pageSize, capacity, mostBytes}
 use Rattle.model.specs.Row.{Row, nil, agg, lit, rec, _⊹_, size, lone, base, Config}
 use Rattle.model.specs.Tree.{placeAt, placeOf}
-use Rattle.model.specs.Reading.{Reads, twoAt, sizeAt}
+use Rattle.model.specs.Reading.{Reads, sizeAt, backAt}
 use Rattle.model.specs.declared.Place.{Place}
 use Rattle.theory_rows.specs.Fits.{Valid}
 use Rattle.theory_rows.specs.Laws.{isNil-nil}
 use Rattle.theory_decoding.specs.Steps.{steps, few-steps}
 use Rattle.theory_decoding.specs.Reading.{reads-valid}
-use Rattle.theory_layout.specs.Here.{nesting, Here, AggView, agg-view, lit-view, rec-view, root-nesting}
+use Rattle.theory_row_bytes.specs.RowAt.{sizeOf}
+use Rattle.theory_layout.specs.Here.{nesting, Here, view, root-nesting}
 use Rattle.read_find.specs.Nth.{nthOf, nth-found}
-use Rattle.read_find.specs.Rowed.{Rowed}
+use Rattle.read_find.specs.Rowed.{Rowed, children-of}
 use Rattle.read_find.specs.Find.{Leads, reach, no-entry}
 use Rattle.read_next.specs.Scan.{HeldBy}
 use Rattle.theory_insert_point.specs.Chain.{Spot, here, inside, fill, before, past, fill-past, lastPage, whole}
 use Rattle.theory_insert_point.specs.Taking.{Taking, taking, taking-whole}
 use Rattle.theory_insert_point.specs.Beside.{offsetIn, Beside, behindNode, behindProxy, taking-first, taking-beside, offset-past}
 use Rattle.theory_insert_point.specs.Bytes.{here-fill, chain-page, taking-here}
-use Rattle.theory_insert_point.specs.Parts.{Part, part-fill, part-whole}
+use Rattle.theory_insert_point.specs.Parts.{Part, part-fill, part-whole, nesting-part, steps-part}
 use Rattle.grow_splice.specs.Spot.{isInside}
 use Rattle.grow_locate.specs.Parent.{parentIn, Parent, parent-of, parent-wide, taking-parent}
 use Rattle.grow_locate.specs.Aim.{Aimed, receiverOf}
@@ -41,7 +42,7 @@ goesAt t = pageSize * lastPage (t .chain) + offsetIn (t .spot) (t .rest)
 -- `next` is right behind the node at s, or behind the proxy of the record whose root it is.
 pub data Behind (img : List ℕ) (s next : ℕ) : Type 0 where
   node : (s % pageSize ≡ 0 → ⊥) → s + 16 ≤ length img → s < mostBytes → next ≡ s + sizeAt img s → Behind img s next
-  proxy : s % pageSize ≡ 0 → s + pageSize ≤ length img → s < mostBytes → (holder : ℕ) → twoAt img (s + 4084) ≡ holder
+  proxy : s % pageSize ≡ 0 → s + pageSize ≤ length img → s < mostBytes → (holder : ℕ) → backAt img s ≡ holder
       → (h : HeldBy img holder (s / pageSize)) × (h .pos + 8 ≡ next) → next < mostBytes → Behind img s next
 
 module _ (img : List ℕ) (s next : ℕ) where
@@ -53,7 +54,7 @@ module _ (img : List ℕ) (s next : ℕ) where
   root-room (node z a b e) y = absurd (z y)
   root-room (proxy z a b holder e h l) y = a
 
-  pub behind-held : Behind img s next → s % pageSize ≡ 0 → (holder : ℕ) → holder ≡ twoAt img (s + 4084)
+  pub behind-held : Behind img s next → s % pageSize ≡ 0 → (holder : ℕ) → holder ≡ backAt img s
       → (h : HeldBy img holder (s / pageSize)) × ((h .pos + 8 ≡ next) × (next < mostBytes))
   behind-held (node z a b e) y holder f = absurd (z y)
   behind-held (proxy z a b holder₁ e h l) y holder f =
@@ -65,11 +66,11 @@ module _ (img : List ℕ) (s next : ℕ) where
   behind-node (proxy z a b holder e h l) y = absurd (y z)
 
 -- how long a node is
-lone-long : (img : List ℕ) (page pos : ℕ) (one rest : Row) → lone one ≡ true → Here img page pos (one ⊹ rest) → sizeAt img pos ≡ size one
-lone-long img page pos nil rest l h = absurd (false≢true l)
-lone-long img page pos (agg g cs more) rest l h = omega (arith, agg-view img page pos g cs (more ⊹ rest) h .long, ap size (isNil-nil more l))
-lone-long img page pos (lit g c more) rest l h = omega (arith, lit-view img page pos g c (more ⊹ rest) h .long, ap size (isNil-nil more l))
-lone-long img page pos (rec q b r more) rest l h = absurd (false≢true l)
+lone-long : (one rest : Row) → lone one ≡ true → (0 < size (one ⊹ rest)) × (sizeOf (one ⊹ rest) ≡ size one)
+lone-long nil rest l = absurd (false≢true l)
+lone-long (agg g cs more) rest l = (omega arith, omega (arith, ap size (isNil-nil more l)))
+lone-long (lit g c more) rest l = (omega arith, omega (arith, ap size (isNil-nil more l)))
+lone-long (rec q b r more) rest l = absurd (false≢true l)
 
 module _ (img : List ℕ) (st : Config) (root : Row) (reads : Reads img st root) (path : List ℕ) (k : ℕ) (t : Taking) (e : taking root path k ≡ some t) where
   -- what stood in front of the place
@@ -79,7 +80,8 @@ module _ (img : List ℕ) (st : Config) (root : Row) (reads : Reads img st root)
   whole-around : (s : Spot) (one : Row) → t .spot ≡ past s one → whole (t .chain) (fill s (one ⊹ t .rest)) ≡ root
   whole-around s one z = ap (whole (t .chain)) (sym (around s one z)) ∙ taking-whole root path k t e
 
-  before-here : (s : Spot) (one : Row) → t .spot ≡ past s one → Here img (lastPage (t .chain)) (pageSize * lastPage (t .chain) + base (fill s (one ⊹ t .rest)) + before s) (one ⊹ t .rest)
+  before-here : (s : Spot) (one : Row) → t .spot ≡ past s one
+      → Here img (lastPage (t .chain)) (pageSize * lastPage (t .chain) + base (fill s (one ⊹ t .rest)) + before s) (one ⊹ t .rest)
   before-here s one z =
       here-fill img (lastPage (t .chain)) (pageSize * lastPage (t .chain) + base (fill s (one ⊹ t .rest))) s (one ⊹ t .rest)
       (chain-page img st root reads (t .chain) (fill s (one ⊹ t .rest)) (whole-around s one z) .here)
@@ -99,7 +101,8 @@ module _ (img : List ℕ) (st : Config) (root : Row) (reads : Reads img st root)
   beside y s a (behindNode u one l z p o) =
       let h = before-here u one z in
       let m : s ≡ pageSize * lastPage (t .chain) + base (fill u (one ⊹ t .rest)) + before u = omega arith in
-      let long : sizeAt img s ≡ size one = subst (λ (n : ℕ). sizeAt img n ≡ size one) (sym m) (lone-long img (lastPage (t .chain)) _ one (t .rest) l h) in
+      let n = lone-long one (t .rest) l in
+      let long : sizeAt img s ≡ size one = subst (λ (n : ℕ). sizeAt img n ≡ size one) (sym m) (view h (n .0) .size-is ∙ n .1) in
       let high = h .on .high in
       let in-img = h .on .inside in
       let room = h .room in
@@ -107,14 +110,14 @@ module _ (img : List ℕ) (st : Config) (root : Row) (reads : Reads img st root)
       node (λ q. omega arith) (omega arith) (omega arith) (omega (arith, goes-past u one z))
   beside y s a (behindProxy u q b r l z p o) =
       let h = before-here u (rec q b r nil) z in
-      let v = rec-view img (lastPage (t .chain)) _ q b r (t .rest) h in
+      let v = view h (omega arith) in
       let m : s ≡ pageSize * q = omega arith in
       let d : q ≡ s / pageSize = omega arith in
       let (x, i) = held-by img st root reads (t .chain) u q b r (t .rest) (whole-around u (rec q b r nil) z) in
       let g : x .pos + 8 ≡ goesAt t = omega (arith, goes-past u (rec q b r nil) z) in
       let high = v .under .here .on .high in
       let in-img = v .under .here .on .inside in
-      proxy (omega arith) (omega arith) (omega arith) (lastPage (t .chain)) (subst (λ (n : ℕ). twoAt img (n + 4084) ≡ lastPage (t .chain)) (sym m) (v .under .back))
+      proxy (omega arith) (omega arith) (omega arith) (lastPage (t .chain)) (subst (λ (n : ℕ). backAt img n ≡ lastPage (t .chain)) (sym m) (v .under .back))
       (subst (λ (n : ℕ). (h : HeldBy img (lastPage (t .chain)) n) × (h .pos + 8 ≡ goesAt t)) d (x, g))
       (omega (arith, goes-past u (rec q b r nil) z, h .room, h .on .high))
 
@@ -123,24 +126,6 @@ module _ (img : List ℕ) (st : Config) (root : Row) (reads : Reads img st root)
   goes-room = omega (arith, taking-here img st root reads path k t e .room)
 
 -- ── the parent ──
-
-nesting-part : Part nesting
-nesting-part = record {
-  children = λ h cs rest. omega arith;
-  after-agg = λ h cs rest. omega arith;
-  after-lit = λ h c rest. omega arith;
-  under = λ p b r rest. omega arith;
-  after-rec = λ p b r rest. omega arith;
-}
-
-steps-part : Part steps
-steps-part = record {
-  children = λ h cs rest. omega arith;
-  after-agg = λ h cs rest. omega arith;
-  after-lit = λ h c rest. omega arith;
-  under = λ p b r rest. omega arith;
-  after-rec = λ p b r rest. omega arith;
-}
 
 -- The left sibling of child k of the aggregate at `parent`, if there is one, stands at the byte `left`.
 abbrev pub LeftAt : (img : List ℕ) → (parent k left : ℕ) → Type 0
@@ -163,7 +148,8 @@ module _ (img : List ℕ) (parent k : ℕ) (w : Aimed img parent k) where
       let n : ℕ = pageSize * lastPage (found .chain) + base (fill (found .spot) row) in
       let z : n + before (found .spot) ≡ parent = omega (arith, w .at, found .page, found .offset) in
       subst (λ (n : ℕ). Here img (lastPage (found .chain)) n row) z
-      (here-fill img (lastPage (found .chain)) n (found .spot) row (chain-page img (w .st) (w .root) (w .reads) (found .chain) (fill (found .spot) row) (found .is) .here))
+      (here-fill img (lastPage (found .chain)) n (found .spot) row
+      (chain-page img (w .st) (w .root) (w .reads) (found .chain) (fill (found .spot) row) (found .is) .here))
 
   part-of : (f : Row → ℕ) → Part f → f row ≤ f (w .root)
   part-of f q =
@@ -182,25 +168,16 @@ module _ (img : List ℕ) (parent k : ℕ) (w : Aimed img parent k) where
       let o = h .on in
       (omega (arith, h .room, o .inside), omega (arith, h .room, o .high))
 
-  seen : AggView img (lastPage (found .chain)) parent (found .head) (found .children) (found .rest)
-  seen = agg-view img (lastPage (found .chain)) parent (found .head) (found .children) (found .rest) parent-here
-
   -- Its children,
   pub kids : (len : ℕ) → len ≡ sizeAt img parent → Rowed img (parent + 6) (parent + len) mostPages
-  kids len e = record {
-    page = lastPage (found .chain);
-    row = found .children;
-    here = seen .children;
-    ends = omega (arith, seen .long);
-    deep = omega (arith, deep);
-    few = omega (arith, few);
-  }
+  kids len e = children-of parent-here refl deep few len e
 
   -- and the left sibling.
   module _ (i : ℕ) (z : k ≡ suc i) where
     left : Leads img (nthOf (parent + 6) (found .children) i .at) [] (placeAt (lastPage (found .chain)) (w .y .offset + 6) i [] (found .children))
     left =
-        reach img (lastPage (found .chain)) (parent + 6) (w .y .offset + 6) i [] (found .children) (seen .children) (omega (arith, w .at, found .page)) (omega (arith, deep)) (omega (arith, few))
+        reach img (lastPage (found .chain)) (parent + 6) (w .y .offset + 6) i [] (found .children) (view parent-here (omega arith) .children)
+        (omega (arith, w .at, found .page)) (omega (arith, deep)) (omega (arith, few))
         (nth-found (parent + 6) (found .children) i (parent-wide (w .st) (w .root) v k (λ j. placeOf (w .root) (w .path ++ j ∷ [])) (w .t) (w .y) found i z))
 
     abbrev left-place : Place
@@ -218,7 +195,8 @@ module _ (img : List ℕ) (parent k : ℕ) (w : Aimed img parent k) where
     unfolding kids
     sibling at l =
         let e : k - 1 ≡ i = omega arith in
-        subst (λ (x : ℕ). Behind img x (goesAt (w .t))) (sym (l (kids (sizeAt img parent) refl) (λ y. omega arith) ∙ ap (λ (i : ℕ). nthOf (parent + 6) (found .children) i .at) e)) left-behind
+        subst (λ (x : ℕ). Behind img x (goesAt (w .t)))
+        (sym (l (kids (sizeAt img parent) refl) (λ y. omega arith) ∙ ap (λ (i : ℕ). nthOf (parent + 6) (found .children) i .at) e)) left-behind
 
   -- The first child goes behind the header.
   pub goes-first : k ≡ 0 → parent + 6 ≡ goesAt (w .t)

@@ -1,5 +1,6 @@
 // Where the new node of an insert goes, on an image that passes the check.
-use base_numbers::two;
+use base_layout::back_at;
+use base_layout::size_at;
 use model::Settings;
 use read_next::find_proxy;
 ghost use mathlib.Core.Path.{_≡_};
@@ -23,9 +24,9 @@ fn behind(image: &[u8], s: usize) -> usize
     ensures { λ r. ⌜ ((next : ℕ) → Behind (now (image .entry)) s next → r ≡ next) ⌝ }
 {
     if s % Settings::PAGE != 0 {
-        return s + two(image, s + 4);
+        return s + size_at(image, s);
     }
-    let holder = two(image, s + 4084);
+    let holder = back_at(image, s);
     find_proxy(image, holder, s / Settings::PAGE) + 8
 }
 

@@ -1,14 +1,14 @@
 -- Back links: each record whose proxy stands in a row names the row's page.
 use mathlib.Core.Path.{_≡_, refl, sym, ap, _∙_}
-use mathlib.Core.List.{List, _++_, append-assoc}
+use mathlib.Core.List.{List, [], append-nil}
 use Prim.Native.Nat.{ℕ, _+_, _*_, _<_, _≤_}
 use native.Mathlib.Omega.{arith}
-use lib.ListN.{length, drop, getD}
-use Rattle.model.specs.Limits.{mostPages, pageSize}
-use Rattle.model.specs.Row.{Row, nil, agg, lit, rec, _⊹_, size, two, header, bytes, noHead}
-use Rattle.model.specs.Reading.{sizeAt, nameAt}
-use Rattle.theory_decoding.specs.At.{first-byte, number-at, past}
-use Rattle.theory_rows.specs.Laws.{length-bytes, size-⊹, bytes-⊹}
+use lib.ListN.{length}
+use Rattle.model.specs.Limits.{mostPages, pageSize, capacity}
+use Rattle.model.specs.Row.{Row, nil, agg, lit, rec, _⊹_, size, two, bytes}
+use Rattle.model.specs.Reading.{sizeAt, nameAt, kindAt}
+use Rattle.theory_row_bytes.specs.RowAt.{RowAt, FirstNode, first-node, row-into}
+use Rattle.theory_rows.specs.Laws.{length-bytes, size-⊹}
 use Rattle.base_numbers.specs.Over.{over}
 
 -- The image after the back link of each record that the row names is set to page q.
@@ -16,13 +16,13 @@ abbrev pub links : (q : ℕ) → Row → (image : List ℕ) → List ℕ
 links q nil img = img
 links q (agg h cs rest) img = links q rest (links q cs img)
 links q (lit h c rest) img = links q rest img
-links q (rec p s r rest) img = links q rest (over (pageSize * p + 4084) (two q) img)
+links q (rec p s r rest) img = links q rest (over (pageSize * p + (capacity + 4)) (two q) img)
 
 links-⊹ : (q : ℕ) (a b : Row) (img : List ℕ) → links q (a ⊹ b) img ≡ links q b (links q a img)
 links-⊹ q nil b img = refl
 links-⊹ q (agg h cs rest) b img = links-⊹ q rest b (links q cs img)
 links-⊹ q (lit h c rest) b img = links-⊹ q rest b img
-links-⊹ q (rec p s r rest) b img = links-⊹ q rest b (over (pageSize * p + 4084) (two q) img)
+links-⊹ q (rec p s r rest) b img = links-⊹ q rest b (over (pageSize * p + (capacity + 4)) (two q) img)
 
 -- Each proxy of the row names a page below n.
 abbrev pub Below : (n : ℕ) → Row → Type 0
@@ -44,98 +44,71 @@ pub record Linked (l : List ℕ) (n : ℕ) : Type 0 where
   pub below : Below n row
   pub small : size row < 65536
 
--- ── the scan of the headers ──
+-- ── the walk over the headers ──
 
 -- At pos: what is left of the bytes is a row, whose links lead from img to goal.
-pub record Scan (l : List ℕ) (n q pos : ℕ) (img goal : List ℕ) : Type 0 where
+pub record Relinking (l : List ℕ) (n q pos : ℕ) (img goal : List ℕ) : Type 0 where
   pub row : Row
-  pub is : drop pos l ≡ bytes row
+  pub stands : RowAt l pos row
   pub ends : pos + size row ≡ length l
   pub small : size row < 65536
   pub below : Below n row
   pub same : links q row img ≡ goal
 
--- What the scan finds where bytes are left.
-pub record Found (l : List ℕ) (n q pos : ℕ) (img goal : List ℕ) : Type 0 where
-  pub long : ℕ
-  pub is : sizeAt l pos ≡ long
-  pub more : 6 ≤ long
-  pub within : pos + long ≤ length l
-  pub into : getD l pos 0 ≡ 1 → Scan l n q (pos + 6) img goal
-  pub proxy : getD l pos 0 ≡ 3 → (long ≡ 8) × ((nameAt l pos < n) × Scan l n q (pos + 8) (over (pageSize * nameAt l pos + 4084) (two q) img) goal)
-  pub past : (getD l pos 0 ≡ 1 → ⊥) → (getD l pos 0 ≡ 3 → ⊥) → Scan l n q (pos + long) img goal
+-- How it goes on from the header at pos.
+pub record RelinkStep (l : List ℕ) (n q pos : ℕ) (img goal : List ℕ) : Type 0 where
+  pub more : 6 ≤ sizeAt l pos
+  pub within : pos + sizeAt l pos ≤ length l
+  pub into : kindAt l pos ≡ 1 → Relinking l n q (pos + 6) img goal
+  pub proxy : kindAt l pos ≡ 3
+      → (sizeAt l pos ≡ 8) × ((nameAt l pos < n) × Relinking l n q (pos + 8) (over (pageSize * nameAt l pos + (capacity + 4)) (two q) img) goal)
+  pub past : (kindAt l pos ≡ 1 → ⊥) → (kindAt l pos ≡ 3 → ⊥) → Relinking l n q (pos + sizeAt l pos) img goal
 
 module _ (l : List ℕ) (n q pos : ℕ) (img goal : List ℕ) (few : n ≤ mostPages) where
-  found-by : (r : Row) → drop pos l ≡ bytes r → pos + size r ≡ length l → size r < 65536 → Below n r → links q r img ≡ goal → 0 < size r → Found l n q pos img goal
-  found-by nil e z t b s h = absurd (omega arith)
-  found-by (agg lb cs rest) e z t b s h =
-      let kind : getD l pos 0 ≡ 1 = first-byte l pos (bytes (agg lb cs rest)) e in
-      let body : bytes (agg lb cs rest) ≡ header 1 lb (6 + size cs) ++ bytes (cs ⊹ rest) = ap (λ (v : List ℕ). header 1 lb (6 + size cs) ++ v) (sym (bytes-⊹ cs rest)) in
+  step-by : (r : Row) → RowAt l pos r → FirstNode l pos r → pos + size r ≡ length l → size r < 65536 → Below n r → links q r img ≡ goal
+      → RelinkStep l n q pos img goal
+  step-by nil s v z t b e = absurd (omega (arith, v .more))
+  step-by (agg lb cs rest) s v z t b e =
+      let w = size-⊹ cs rest in
       record {
-        long = 6 + size cs;
-        is = number-at l pos (bytes (agg lb cs rest)) e 4 (6 + size cs) (omega arith) refl refl;
-        more = omega arith;
-        within = omega arith;
+        more = omega (arith, v .size-is);
+        within = omega (arith, v .size-is);
         into = λ k. record {
           row = cs ⊹ rest;
-          is = past l pos 6 (header 1 lb (6 + size cs)) (bytes (cs ⊹ rest)) refl (e ∙ body);
-          ends = omega (arith, size-⊹ cs rest);
-          small = omega (arith, size-⊹ cs rest);
-          below = below-⊹ n cs rest (b .0) (b .1);
-          same = links-⊹ q cs rest img ∙ s;
-        };
-        proxy = λ k. absurd (omega (arith, kind));
-        past = λ k m. absurd (k kind);
-      }
-  found-by (lit lb c rest) e z t b s h =
-      let kind : getD l pos 0 ≡ 2 = first-byte l pos (bytes (lit lb c rest)) e in
-      record {
-        long = 6 + length c;
-        is = number-at l pos (bytes (lit lb c rest)) e 4 (6 + length c) (omega arith) refl refl;
-        more = omega arith;
-        within = omega arith;
-        into = λ k. absurd (omega (arith, kind));
-        proxy = λ k. absurd (omega (arith, kind));
-        past = λ k m. record {
-          row = rest;
-          is = past l pos (6 + length c) (header 2 lb (6 + length c) ++ c) (bytes rest) (omega arith) (e ∙ sym (append-assoc (header 2 lb (6 + length c)) c (bytes rest)));
+          stands = row-into l pos lb cs rest s;
           ends = omega arith;
           small = omega arith;
-          below = b;
-          same = s;
+          below = below-⊹ n cs rest (b .0) (b .1);
+          same = links-⊹ q cs rest img ∙ e;
         };
+        proxy = λ k. absurd (omega (arith, v .kind-is));
+        past = λ k m. absurd (k (v .kind-is));
       }
-  found-by (rec p t x rest) e z y b s h =
-      let kind : getD l pos 0 ≡ 3 = first-byte l pos (bytes (rec p t x rest)) e in
-      let name : nameAt l pos ≡ p = number-at l pos (bytes (rec p t x rest)) e 6 p (omega (arith, b .0)) refl refl in
+  step-by (lit lb c rest) s v z t b e = record {
+    more = omega (arith, v .size-is);
+    within = omega (arith, v .size-is);
+    into = λ k. absurd (omega (arith, v .kind-is));
+    proxy = λ k. absurd (omega (arith, v .kind-is));
+    past = λ k m. rw (v .size-is) (record { row = rest; stands = v .rest; ends = omega arith; small = omega arith; below = b; same = e });
+  }
+  step-by (rec p x y rest) s v z t b e =
+      let name = v .name-is refl (omega (arith, b .0)) in
       record {
-        long = 8;
-        is = number-at l pos (bytes (rec p t x rest)) e 4 8 (omega arith) refl refl;
-        more = omega arith;
-        within = omega arith;
-        into = λ k. absurd (omega (arith, kind));
-        proxy = λ k. (
-          refl,
-          (
-            rw name (b .0),
-            record {
-              row = rest;
-              is = past l pos 8 (header 3 noHead 8 ++ two p) (bytes rest) refl e;
-              ends = omega arith;
-              small = omega arith;
-              below = b .1;
-              same = rw name s;
-            },
-          ),
-        );
-        past = λ k m. absurd (m kind);
+        more = omega (arith, v .size-is);
+        within = omega (arith, v .size-is);
+        into = λ k. absurd (omega (arith, v .kind-is));
+        proxy =
+            λ k.
+            (v .size-is, (rw name (b .0), record { row = rest; stands = v .rest; ends = omega arith; small = omega arith; below = b .1; same = rw name e }));
+        past = λ k m. absurd (m (v .kind-is));
       }
 
-  pub found : Scan l n q pos img goal → pos < length l → Found l n q pos img goal
-  found s h = found-by (s .row) (s .is) (s .ends) (s .small) (s .below) (s .same) (omega (arith, s .ends))
+  pub relink-step : Relinking l n q pos img goal → pos < length l → RelinkStep l n q pos img goal
+  relink-step s h =
+      step-by (s .row) (s .stands) (first-node l pos (s .row) (omega (arith, s .ends)) (s .small) (s .stands)) (s .ends) (s .small) (s .below) (s .same)
 
-  pub scan-end : Scan l n q pos img goal → length l ≤ pos → img ≡ goal
-  scan-end s h = none (s .row) (omega (arith, s .ends)) ∙ s .same
+  pub relink-end : Relinking l n q pos img goal → length l ≤ pos → img ≡ goal
+  relink-end s h = none (s .row) (omega (arith, s .ends)) ∙ s .same
     where
       none : (r : Row) → size r ≡ 0 → img ≡ links q r img
       none nil e = refl
@@ -143,10 +116,10 @@ module _ (l : List ℕ) (n q pos : ℕ) (img goal : List ℕ) (few : n ≤ mostP
       none (lit lb c rest) e = absurd (omega arith)
       none (rec p t x rest) e = absurd (omega arith)
 
-pub scan-start : (l img : List ℕ) (n q : ℕ) (w : Linked l n) → Scan l n q 0 img (links q (w .row) img)
-scan-start l img n q w = record {
+pub relink-start : (l img : List ℕ) (n q : ℕ) (w : Linked l n) → Relinking l n q 0 img (links q (w .row) img)
+relink-start l img n q w = record {
   row = w .row;
-  is = w .is;
+  stands = record { post = []; is = w .is ∙ sym (append-nil (bytes (w .row))) };
   ends = omega (arith, ap length (w .is), length-bytes (w .row));
   small = w .small;
   below = w .below;

@@ -4,11 +4,11 @@ use mathlib.Core.Bool.{Bool, true, false, cond}
 use mathlib.Core.List.{List, _++_, append-assoc}
 use Prim.Native.Nat.{ℕ, _+_, _-_, _*_, _≤_}
 use native.Mathlib.Omega.{arith}
-use borrow.Author.Tests.{eqb-true, eqb-false, eq-eqb, leb-true, leb-false}
+use borrow.Author.Tests.{eqb-true, eqb-false, leb-true, leb-false}
 use lib.Dec.{eqb, leb}
 use lib.ListN.{length, take, drop, replicate, length-append, length-take, length-drop, length-replicate, take-append-drop}
 use lib.Seq.{take-at, drop-at, take-append-le, drop-append-le, drop-drop, length-take-le}
-use Rattle.model.specs.Limits.{pageSize}
+use Rattle.model.specs.Limits.{pageSize, capacity}
 use Rattle.model.specs.Row.{Row, nil, agg, lit, rec, two}
 use Rattle.model.specs.Reading.{pageOf}
 use Rattle.base_numbers.specs.Over.{over, over-is, length-over, over-left, over-right, over-all}
@@ -37,12 +37,15 @@ after-over at m xs l h k =
     let n : length (take at l ++ xs) ≡ a = simp (length-append, length-take) (omega arith) in
     let w : drop a (over at xs l) ≡ drop a l =
     ap (drop a) (over-is at xs l ∙ sym (append-assoc (take at l) xs (drop a l))) ∙ drop-at (take at l ++ xs) (drop a l) a n in
-    ap (λ (i : ℕ). drop i (over at xs l)) (sym e) ∙ sym (drop-drop (m - a) a (over at xs l)) ∙ ap (drop (m - a)) w ∙ drop-drop (m - a) a l ∙ ap (λ (i : ℕ). drop i l) e
+    ap (λ (i : ℕ). drop i (over at xs l)) (sym e) ∙ sym (drop-drop (m - a) a (over at xs l)) ∙ ap (drop (m - a)) w ∙ drop-drop (m - a) a l
+    ∙ ap (λ (i : ℕ). drop i l) e
 
 -- ── a write within a page ──
 
 pub length-page : (p : ℕ) (img : List ℕ) → pageSize * p + pageSize ≤ length img → length (pageOf img p) ≡ pageSize
-length-page p img h = let e : length (drop (pageSize * p) img) ≡ length img - pageSize * p = length-drop (pageSize * p) img in length-take-le pageSize (drop (pageSize * p) img) (omega arith)
+length-page p img h =
+    let e : length (drop (pageSize * p) img) ≡ length img - pageSize * p = length-drop (pageSize * p) img in
+    length-take-le pageSize (drop (pageSize * p) img) (omega arith)
 
 module _ (p k : ℕ) (xs img : List ℕ) (h : k + length xs ≤ pageSize) (room : pageSize * p + pageSize ≤ length img) where
   pub page-same : pageOf (over (pageSize * p + k) xs img) p ≡ over k xs (pageOf img p)
@@ -89,18 +92,9 @@ module _ (p : ℕ) (s img : List ℕ) (long : length s ≡ pageSize) (room : pag
       ∙ page-over p 0 s img (omega arith) room q
       ∙ ap (λ (v : List ℕ). cond (eqb q p) v (pageOf img q)) (over-all s (pageOf img p) (long ∙ sym (length-page p img room)))
 
-  pub set-same : pageOf (setPage p s img) p ≡ s
-  set-same = page-set p ∙ rw (eq-eqb p p refl)
-
-  pub set-other : (q : ℕ) → (q ≡ p → ⊥) → pageOf (setPage p s img) q ≡ pageOf img q
-  set-other q e = page-set q ∙ go (eqb q p) refl
-    where
-      go : (b : Bool) → eqb q p ≡ b → cond b s (pageOf img q) ≡ pageOf img q
-      go true f = absurd (e (eqb-true q p f))
-      go false f = refl
-
 -- A page is cleared.
-pub page-cleared : (p : ℕ) (img : List ℕ) → pageSize * p + pageSize ≤ length img → (q : ℕ) → pageOf (setPage p (replicate pageSize 0) img) q ≡ cond (eqb q p) (replicate pageSize 0) (pageOf img q)
+pub page-cleared : (p : ℕ) (img : List ℕ) → pageSize * p + pageSize ≤ length img → (q : ℕ)
+    → pageOf (setPage p (replicate pageSize 0) img) q ≡ cond (eqb q p) (replicate pageSize 0) (pageOf img q)
 page-cleared p img room q = page-set p (replicate pageSize 0) img (length-replicate {A = ℕ} pageSize 0) room q
 
 -- ── back links ──
@@ -112,5 +106,6 @@ length-links n q (agg l cs rest) img b h =
     length-links n q rest (links q cs img) (b .1) (omega arith) ∙ e
 length-links n q (lit l c rest) img b h = length-links n q rest img b h
 length-links n q (rec p s r rest) img b h =
-    let e : length (over (pageSize * p + 4084) (two q) img) ≡ length img = length-over (pageSize * p + 4084) (two q) img (omega (arith, b .0)) in
-    length-links n q rest (over (pageSize * p + 4084) (two q) img) (b .1) (omega arith) ∙ e
+    let e : length (over (pageSize * p + (capacity + 4)) (two q) img) ≡ length img =
+    length-over (pageSize * p + (capacity + 4)) (two q) img (omega (arith, b .0)) in
+    length-links n q rest (over (pageSize * p + (capacity + 4)) (two q) img) (b .1) (omega arith) ∙ e

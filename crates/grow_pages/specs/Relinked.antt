@@ -21,9 +21,11 @@ mem-set q s img long room = λ i p. page-set q s img long room p i
 pub mem-cleared : (q : ℕ) (img : List ℕ) → pageSize * q + pageSize ≤ length img → pageOf (setPage q blank img) ≡ setMem q blank (pageOf img)
 mem-cleared q img room = λ i p. page-cleared q img room p i
 
-mem-link : (p q : ℕ) (img : List ℕ) → pageSize * p + pageSize ≤ length img → pageOf (over (pageSize * p + 4084) (two q) img) ≡ setMem p (relink q (pageOf img p)) (pageOf img)
+mem-link : (p q : ℕ) (img : List ℕ) → pageSize * p + pageSize ≤ length img
+    → pageOf (over (pageSize * p + (capacity + 4)) (two q) img) ≡ setMem p (relink q (pageOf img p)) (pageOf img)
 mem-link p q img room =
-    (λ i x. page-over p 4084 (two q) img (omega arith) room x i) ∙ ap (λ (s : List ℕ). setMem p s (pageOf img)) (over-is 4084 (two q) (pageOf img p))
+    (λ i x. page-over p (capacity + 4) (two q) img (omega arith) room x i)
+    ∙ ap (λ (s : List ℕ). setMem p s (pageOf img)) (over-is (capacity + 4) (two q) (pageOf img p))
 
 pub mem-links : (n q : ℕ) (row : Row) (img : List ℕ) → Below n row → pageSize * n ≤ length img → pageOf (links q row img) ≡ linkMem q row (pageOf img)
 unfolding linkMem
@@ -32,7 +34,8 @@ mem-links n q (agg l cs rest) img b h =
     mem-links n q rest (links q cs img) (b .1) (omega (arith, length-links n q cs img (b .0) h)) ∙ ap (linkMem q rest) (mem-links n q cs img (b .0) h)
 mem-links n q (lit l c rest) img b h = mem-links n q rest img b h
 mem-links n q (rec p s r rest) img b h =
-    mem-links n q rest (over (pageSize * p + 4084) (two q) img) (b .1) (omega (arith, length-over (pageSize * p + 4084) (two q) img (omega (arith, b .0))))
+    mem-links n q rest (over (pageSize * p + (capacity + 4)) (two q) img) (b .1)
+    (omega (arith, length-over (pageSize * p + (capacity + 4)) (two q) img (omega (arith, b .0))))
     ∙ ap (linkMem q rest) (mem-link p q img (omega (arith, b .0)))
 
 -- ── a record is written, and its links are set ──
@@ -40,7 +43,8 @@ mem-links n q (rec p s r rest) img b h =
 abbrev pub written : (page : ℕ) → (settled : Bool) → (holder : ℕ) → Row → (image : List ℕ) → List ℕ
 written q s h row img = links q row (setPage q (pageBytesOf (recordBytes row) (cond s 1 0) h) img)
 
-module _ (n q h : ℕ) (s : Bool) (row : Row) (img : List ℕ) (below : Below n row) (small : recordSize row ≤ capacity) (room : pageSize * n ≤ length img) (inside : q < n) where
+module _ (n q h : ℕ) (s : Bool) (row : Row) (img : List ℕ) (below : Below n row) (small : recordSize row ≤ capacity) (room : pageSize * n ≤ length img)
+    (inside : q < n) where
   abbrev page : List ℕ
   page = pageBytesOf (recordBytes row) (cond s 1 0) h
 

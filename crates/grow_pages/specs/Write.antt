@@ -42,9 +42,9 @@ pub record-written : (p s h : ℕ) (c l a b d e f g : List ℕ) → pageSize * p
     → a ≡ over (pageSize * p) c l
     → b ≡ over (pageSize * p + length c) (replicate (capacity - length c) 0) a
     → d ≡ over (pageSize * p + capacity) (two (1 + 256 * s)) b
-    → e ≡ over (pageSize * p + 4082) (two (length c)) d
-    → f ≡ over (pageSize * p + 4084) (two h) e
-    → g ≡ over (pageSize * p + 4086) (replicate 10 0) f
+    → e ≡ over (pageSize * p + capacity + 2) (two (length c)) d
+    → f ≡ over (pageSize * p + capacity + 4) (two h) e
+    → g ≡ over (pageSize * p + capacity + 6) (replicate 10 0) f
     → g ≡ setPage p (pageBytesOf c s h) l
 unfolding setPage pageBytesOf
 record-written p s h c l a b d e f g room k t qa qb qd qe qf qg =
@@ -54,8 +54,10 @@ record-written p s h c l a b d e f g room k t qa qb qd qe qf qg =
     let qd′ : d ≡ over (at + capacity) (1 ∷ s ∷ []) b = rw (state s t) at qd in
     let w1 : b ≡ over at (c ++ z) l = over-then _ _ _ _ _ _ _ qa qb refl (omega arith) in
     let w2 : d ≡ over at ((c ++ z) ++ (1 ∷ s ∷ [])) l = over-then _ _ _ _ _ _ _ w1 qd′ (simp length-append (omega arith)) (simp length-append (omega arith)) in
-    let w3 : e ≡ over at (((c ++ z) ++ (1 ∷ s ∷ [])) ++ two (length c)) l = over-then _ _ _ _ _ _ _ w2 qe (simp length-append (omega arith)) (simp length-append (omega arith)) in
-    let w4 : f ≡ over at ((((c ++ z) ++ (1 ∷ s ∷ [])) ++ two (length c)) ++ two h) l = over-then _ _ _ _ _ _ _ w3 qf (simp length-append (omega arith)) (simp length-append (omega arith)) in
+    let w3 : e ≡ over at (((c ++ z) ++ (1 ∷ s ∷ [])) ++ two (length c)) l =
+    over-then _ _ _ _ _ _ _ w2 qe (simp length-append (omega arith)) (simp length-append (omega arith)) in
+    let w4 : f ≡ over at ((((c ++ z) ++ (1 ∷ s ∷ [])) ++ two (length c)) ++ two h) l =
+    over-then _ _ _ _ _ _ _ w3 qf (simp length-append (omega arith)) (simp length-append (omega arith)) in
     over-then _ _ _ _ _ _ _ w4 qg (simp length-append (omega arith)) (simp length-append (omega arith)) ∙ simp append-assoc
 
 -- A page written whole.
@@ -82,7 +84,8 @@ module _ (st : Config) (u : List ℕ) (left q : ℕ) where
       go zero h = absurd (omega arith)
       go (suc k) h = sym (simp (eq-eqb _ _ e))
 
-  pub free-turn : (n k : ℕ) → st .pages ≡ n → 0 < left → (getD u q 0 ≡ 0 → ⊥) → k ≡ after n q → freeFrom st (left - 1) (usedBy u) k ≡ freeFrom st left (usedBy u) q
+  pub free-turn : (n k : ℕ) → st .pages ≡ n → 0 < left → (getD u q 0 ≡ 0 → ⊥) → k ≡ after n q
+      → freeFrom st (left - 1) (usedBy u) k ≡ freeFrom st left (usedBy u) q
   unfolding freeFrom usedBy
   free-turn n k s h e f = go left h
     where
@@ -90,9 +93,9 @@ module _ (st : Config) (u : List ℕ) (left q : ℕ) where
       go zero h = absurd (omega arith)
       go (suc k′) h = rw (f, ← s, sub-one) (sym (simp (ne-eqb _ _ e)))
 
-  pub free-none : left ≤ 0 → 0 ≡ freeFrom st left (usedBy u) q
+  pub free-spent : left ≤ 0 → 0 ≡ freeFrom st left (usedBy u) q
   unfolding freeFrom
-  free-none h = go left h
+  free-spent h = go left h
     where
       go : (k : ℕ) → k ≤ 0 → 0 ≡ freeFrom st k (usedBy u) q
       go zero h = refl

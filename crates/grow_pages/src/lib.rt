@@ -1,8 +1,9 @@
 // The page writes of an insert: a free page, a record on its page, a page cleared, back links.
+use base_layout::name_at;
+use base_layout::size_at;
 use base_numbers::clear;
 use base_numbers::copy_in;
 use base_numbers::put16;
-use base_numbers::two;
 use model::Settings;
 ghost use mathlib.Core.Path.{_≡_};
 ghost use Prim.Native.Nat.{_+_, _*_, _≤_, _<_};
@@ -39,10 +40,11 @@ pub fn put_record(image: &mut [u8], page: usize, content: &[u8], settled: usize,
     let n = content.len();
     copy_in(content, image, base);
     clear(image, base + n, Settings::CAPACITY - n);
-    put16(image, base + Settings::CAPACITY, 1 + 256 * settled);
-    put16(image, base + 4082, n);
-    put16(image, base + 4084, holder);
-    clear(image, base + 4086, 10);
+    let trailer = base + Settings::CAPACITY;
+    put16(image, trailer, 1 + 256 * settled);
+    put16(image, trailer + 2, n);
+    put16(image, trailer + 4, holder);
+    clear(image, trailer + 6, 10);
 }
 
 // Makes a page free: all zero.
@@ -64,11 +66,11 @@ pub fn relink(row: &[u8], image: &mut [u8], pages: usize, q: usize)
         if kind == 1 {
             pos += 6;
         } else if kind == 3 {
-            let p = two(row, pos + 6);
-            put16(image, Settings::PAGE * p + 4084, q);
+            let p = name_at(row, pos);
+            put16(image, Settings::PAGE * p + (Settings::CAPACITY + 4), q);
             pos += 8;
         } else {
-            pos += two(row, pos + 4);
+            pos += size_at(row, pos);
         }
     }
 }

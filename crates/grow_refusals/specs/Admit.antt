@@ -46,7 +46,8 @@ foundAt img path = pageSize * findOf img path .place .page + findOf img path .pl
 -- ── an accepted insert ──
 
 abbrev pub aims : (img : List ℕ) (st : Config) (root : Row) (reads : Reads img st root) (path : List ℕ) (child kind label parent : ℕ) (content : List ℕ)
-    → insertNumber (shown root) path child (newOf kind label content) false ≡ 0 → parent ≡ pageSize * findOf img path .place .page + findOf img path .place .offset
+    → insertNumber (shown root) path child (newOf kind label content) false ≡ 0
+    → parent ≡ pageSize * findOf img path .place .page + findOf img path .place .offset
     → Aimed img parent child
 aims img st root reads path child kind label parent content z e =
     aimed img st root reads path child (newOf kind label content) false (accepted (shown root) path child (newOf kind label content) false z) parent e
@@ -76,7 +77,8 @@ module _ (img : List ℕ) (st : Config) (root : Row) (reads : Reads img st root)
       go none e = refl
       go (some n) e = absurd (z (find-named n e))
 
-  find-place : (p : List ℕ) (n : Node) (y : Place) → entries path ≡ some p → named (shown root) p ≡ some n → placeOf root p ≡ some y → findOf img path .place ≡ y
+  find-place : (p : List ℕ) (n : Node) (y : Place) → entries path ≡ some p → named (shown root) p ≡ some n → placeOf root p ≡ some y
+      → findOf img path .place ≡ y
   unfolding findOf findIn
   find-place p n y e f g = rw (opens img st root reads, le-ltb longestPath (length path) (omega arith), e, f, g)
 
@@ -88,7 +90,9 @@ module _ (img : List ℕ) (st : Config) (root : Row) (reads : Reads img st root)
       record {
         node = n;
         names = ap (namedIf (shown root)) e ∙ f;
-        read = subst (λ (y : Place). ReadAt img n (pageSize * y .page + y .offset)) (sym z) (node-read img st root reads n (m .0) y (ap (placeOf root) (m .1) ∙ g));
+        read =
+            subst (λ (y : Place). ReadAt img n (pageSize * y .page + y .offset)) (sym z)
+            (node-read img st root reads n (m .0) y (ap (placeOf root) (m .1) ∙ g));
       }
 
   pub found : findOf img path .number ≡ 0 → Found img root path
@@ -143,7 +147,8 @@ module _ (img path : List ℕ) (child kind : ℕ) (content : List ℕ) where
   module _ (w : Formed path kind content) where
     -- The tests of the parent are left.
     formed : (st : Config) (root : Row) (label : ℕ) → let parent = namedBy (shown root) path in
-        lowest ((7, isNone parent) ∷ (8, isLiteral parent) ∷ (9, childrenBelow child parent) ∷ (12, false) ∷ []) ≡ insertNumber (shown root) path child (newOf kind label content) false
+        lowest ((7, isNone parent) ∷ (8, isLiteral parent) ∷ (9, childrenBelow child parent) ∷ (12, false) ∷ []) ≡ insertNumber (shown root) path child
+        (newOf kind label content) false
     unfolding insertNumber
     formed st root label = rw (le-ltb longestParent (length path) (w .short), w .good, le-ltb mostContent (length content) (w .small))
 
@@ -166,7 +171,8 @@ module _ (img path : List ℕ) (child kind : ℕ) (content : List ℕ) where
         parent-read st root reads e = let u = parent-found st root reads in (u .node, subst (ReadAt img (u .node)) (sym e) (u .read))
 
         -- and the number that it gives.
-        pub by-parent : {parent : ℕ} (number : ℕ) → parent ≡ foundAt img path → ((n : Node) → ReadAt img n parent → number ≡ parentNumber n child) → Number number
+        pub by-parent : {parent : ℕ} (number : ℕ) → parent ≡ foundAt img path
+            → ((n : Node) → ReadAt img n parent → number ≡ parentNumber (n .kind) (n .children) child) → Number number
         by-parent number e t = λ st root reads label.
             let u = parent-found st root reads in
             t (u .node) (subst (ReadAt img (u .node)) (sym e) (u .read)) ∙ sym (rw (u .names)) ∙ formed st root label

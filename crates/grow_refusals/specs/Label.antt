@@ -10,9 +10,9 @@ use lib.Dec.{ltb}
 use Rattle.model.specs.Limits.{mostBytes}
 use Rattle.model.specs.Row.{Head, Row, nil, agg, lit, rec, lone}
 use Rattle.model.specs.Tree.{width, placeOf}
-use Rattle.model.specs.Reading.{twoAt}
-use Rattle.theory_layout.specs.Here.{agg-view}
-use Rattle.theory_insert_point.specs.Chain.{Spot, here, past, into, Chain, below, lastPage}
+use Rattle.model.specs.Reading.{headAt}
+use Rattle.theory_layout.specs.Here.{view}
+use Rattle.theory_insert_point.specs.Chain.{Spot, here, past, into, Chain, below}
 use Rattle.theory_insert_point.specs.Taking.{Taking, takingAt, takingAfter, takingChild}
 use Rattle.grow_locate.specs.Parent.{Parent}
 use Rattle.grow_locate.specs.Aim.{Aimed}
@@ -54,10 +54,10 @@ module _ (img : List ℕ) (parent k : ℕ) (w : Aimed img parent k) where
   p = found img parent k w
 
   -- Its header has the label of the place's parent,
-  pub parent-label : (parent + 6 ≤ length img) × (twoAt img (parent + 2) ≡ w .t .parent .label)
+  pub parent-label : (parent + 6 ≤ length img) × (headAt img parent .label ≡ w .t .parent .label)
   parent-label =
       let h : w .t .parent ≡ p .head = child-parent (p .head) (p .chain) (into (p .spot) (p .head) (p .rest)) k (p .children) (w .t) (p .takes) in
-      (omega (arith, parent-room img parent k w .0), agg-view img (lastPage (p .chain)) parent (p .head) (p .children) (p .rest) (parent-here img parent k w) .label ∙ ap (λ (h : Head). h .label) (sym h))
+      (omega (arith, parent-room img parent k w .0), ap (λ (h : Head). h .label) (view (parent-here img parent k w) (omega arith) .head-is ∙ sym h))
 
   -- and its byte is below the most bytes of an image.
   pub parent-low : parent < mostBytes

@@ -1,5 +1,5 @@
 // Every refusal of an insert but a full store's, on an image that passes the check.
-use base_numbers::two;
+use base_layout::size_at;
 use model::Settings;
 use read_find::find_in;
 use read_find::nth;
@@ -54,7 +54,7 @@ struct Tried {
 // The search for the left sibling is the test, so that the children are passed one time.
 fn try_parent(image: &[u8], widths: &[u32; Settings::PAGES], parent: usize, child: usize) -> Tried
     requires { ⌜ ((n : Node) × ReadAt (now image) n parent) × Widths (now image) (now widths) ⌝ }
-    ensures { λ r. ⌜ ((n : Node) → ReadAt (now (image .entry)) n parent → r .number ≡ parentNumber n child) ⌝ }
+    ensures { λ r. ⌜ ((n : Node) → ReadAt (now (image .entry)) n parent → r .number ≡ parentNumber (n .kind) (n .children) child) ⌝ }
     ensures { λ r. ⌜ (r .number ≡ 0 → LeftAt (now (image .entry)) parent child (r .left)) ⌝ }
 {
     if image[parent] == 2 {
@@ -63,7 +63,7 @@ fn try_parent(image: &[u8], widths: &[u32; Settings::PAGES], parent: usize, chil
     if child == 0 {
         return Tried { number: 0, left: 0 };
     }
-    let end = parent + two(image, parent + 4);
+    let end = parent + size_at(image, parent);
     let left = nth(image, widths, parent + 6, end, child - 1, Settings::PAGES);
     if !left.found {
         return Tried { number: 9, left: 0 };

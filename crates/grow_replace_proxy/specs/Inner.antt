@@ -1,16 +1,17 @@
 -- The walk down to the node that holds a byte of a record.
-use mathlib.Core.Path.{_≡_, sym, ap, _∙_}
+use mathlib.Core.Path.{_≡_, sym, ap, _∙_, refl}
 use mathlib.Core.Bool.{Bool}
 use mathlib.Core.List.{List}
 use Prim.Native.Nat.{ℕ, _+_, _<_, _≤_}
 use native.Mathlib.Omega.{arith}
 use lib.ListN.{length}
+use Rattle.theory_row_bytes.specs.RowAt.{RecordIs, sizeOf}
 use Rattle.model.specs.Limits.{capacity}
-use Rattle.model.specs.Row.{Head, Row, nil, agg, lit, rec, size, base, recordSize, recordBytes}
+use Rattle.model.specs.Row.{Head, Row, nil, agg, lit, rec, size, base, recordSize, _⊹_}
 use Rattle.model.specs.Reading.{sizeAt}
 use Rattle.theory_insert_point.specs.Chain.{Spot, here, inside, fill}
-use Rattle.grow_splice.specs.Spot.{at, parent, push, size-around, parent-push, at-push, at-low, at-high}
-use Rattle.grow_replace_proxy.specs.Left.{spot-case, opened, Left, left-length, left-start, Reads, left-past, left-into, reads-inside, reads-agg, reads-lit, reads-rec}
+use Rattle.grow_splice.specs.Spot.{at, parent, push, size-around, parent-push, at-push, at-low, at-high, spot-case}
+use Rattle.grow_replace_proxy.specs.Left.{opened, Left, left-first, push-first, left-start, left-past, left-into}
 
 -- A record with a proxy at the byte target.
 pub record Filled (l : List ℕ) (target : ℕ) : Type 0 where
@@ -19,7 +20,7 @@ pub record Filled (l : List ℕ) (target : ℕ) : Type 0 where
   pub settled : Bool
   pub old : Row
   pub rest : Row
-  pub is : l ≡ recordBytes (fill spot (rec page settled old rest))
+  pub is : RecordIs l (fill spot (rec page settled old rest))
   pub small : recordSize (fill spot (rec page settled old rest)) ≤ capacity
   pub stands : target ≡ at (base (fill spot (rec page settled old rest))) spot
 
@@ -37,62 +38,57 @@ pub record Inner (l : List ℕ) (target pos par goal : ℕ) : Type 0 where
   pub goal-is : goal ≡ parent par pos spot
 
 -- What stands at pos.
-pub record Step (l : List ℕ) (target pos par goal : ℕ) : Type 0 where
-  pub long : ℕ
-  pub is : sizeAt l pos ≡ long
-  pub more : 6 ≤ long
-  pub within : pos + long ≤ length l
-  pub enter : target < pos + long → Inner l target (pos + 6) pos goal
-  pub skip : pos + long ≤ target → Inner l target (pos + long) par goal
+pub record InnerStep (l : List ℕ) (target pos par goal : ℕ) : Type 0 where
+  pub more : 6 ≤ sizeAt l pos
+  pub within : pos + sizeAt l pos ≤ length l
+  pub enter : target < pos + sizeAt l pos → Inner l target (pos + 6) pos goal
+  pub skip : pos + sizeAt l pos ≤ target → Inner l target (pos + sizeAt l pos) par goal
 
 module _ (l : List ℕ) (target pos par goal : ℕ) (x : Row) (some : 1 ≤ size x) (low : pos < target) where
-  abbrev Steps : Spot → Type 0
-  Steps s = Left l pos s x → target ≡ at pos s → goal ≡ parent par pos s → Step l target pos par goal
+  abbrev InnerSteps : Spot → Type 0
+  InnerSteps s = Left l pos s x → target ≡ at pos s → goal ≡ parent par pos s → InnerStep l target pos par goal
 
-  step-inside : (h : Head) (right : Row) (s : Spot) → Steps (inside nil h right s)
+  step-inside : (h : Head) (right : Row) (s : Spot) → InnerSteps (inside nil h right s)
   step-inside h right s v t g =
-      let d = reads-inside l pos x h right s v in
+      let d = left-first v (omega arith) in
       let z : pos + 0 ≡ pos = omega arith in
       let t′ : target ≡ at (pos + 6) s = t ∙ ap (λ (m : ℕ). at (m + 6) s) z in
       record {
-        long = 6 + size (fill s x);
-        is = d .long;
-        more = omega arith;
-        within = omega (arith, left-length l pos (inside nil h right s) x v);
+        more = omega (arith, d .size-is);
+        within = omega (arith, d .size-is, d .within);
         enter = λ k. record {
           spot = s;
           filling = x;
           some = some;
-          left = left-into l pos x h right s v;
+          left = left-into x h right s v;
           target-is = t′;
           goal-is = g ∙ ap (λ (m : ℕ). parent m (m + 6) s) z;
         };
-        skip = λ k. absurd (omega (arith, at-high s (pos + 6), size-around s x));
+        skip = λ k. absurd (omega (arith, d .size-is, at-high s (pos + 6), size-around s x));
       }
 
-  step-past : (k : ℕ) (a : Row) (t : Spot) → Reads l pos k (size a) → 6 ≤ size a → Steps (push a t)
-  step-past k a t d more v e g =
+  step-past : (a : Row) (t : Spot) → 0 < size a → sizeOf (a ⊹ fill t x) ≡ size a → InnerSteps (push a t)
+  step-past a t h one v e g =
+      let d = push-first x a t v h in
       let e′ : target ≡ at (pos + size a) t = e ∙ at-push a t pos in
-      let next = left-past l pos x a t v in
+      let n : sizeAt l pos ≡ size a = d .size-is ∙ one in
       record {
-        long = size a;
-        is = d .long;
-        more = more;
-        within = omega (arith, left-length l (pos + size a) t x next);
+        more = omega (arith, d .more);
+        within = omega (arith, d .within, d .total);
         enter = λ k. absurd (omega (arith, at-low t (pos + size a)));
-        skip = λ k. record { spot = t; filling = x; some = some; left = next; target-is = e′; goal-is = g ∙ parent-push a t par pos };
+        skip = λ k. rw n (record { spot = t; filling = x; some = some; left = left-past x a t v; target-is = e′; goal-is = g ∙ parent-push a t par pos });
       }
 
-  steps : (s : Spot) → Steps s
+  steps : (s : Spot) → InnerSteps s
   steps s =
-      spot-case Steps (λ v t g. absurd (omega arith)) step-inside
-      (λ h cs t v. step-past 1 (agg h cs nil) t (reads-agg l pos x h cs t v) (omega arith) v)
-      (λ h c t v. step-past 2 (lit h c nil) t (reads-lit l pos x h c t v) (omega arith) v)
-      (λ p b r t v. step-past 3 (rec p b r nil) t (reads-rec l pos x p b r t v) (omega arith) v)
+      spot-case InnerSteps (λ v t g. absurd (omega arith)) step-inside
+      (λ h cs t. step-past (agg h cs nil) t (omega arith) (omega arith))
+      (λ h c t. step-past (lit h c nil) t (omega arith) (omega arith))
+      (λ p b r t. step-past (rec p b r nil) t (omega arith) refl)
       s
 
-pub step : (l : List ℕ) (target pos par goal : ℕ) → Inner l target pos par goal → pos < target → Step l target pos par goal
-step l target pos par goal v h = steps l target pos par goal (v .filling) (v .some) h (v .spot) (v .left) (v .target-is) (v .goal-is)
+pub inner-step : (l : List ℕ) (target pos par goal : ℕ) → Inner l target pos par goal → pos < target → InnerStep l target pos par goal
+inner-step l target pos par goal v h = steps l target pos par goal (v .filling) (v .some) h (v .spot) (v .left) (v .target-is) (v .goal-is)
 
 -- At the target the walk stands in the node that holds it.
 pub inner-end : (l : List ℕ) (target pos par goal : ℕ) → Inner l target pos par goal → target ≤ pos → par ≡ goal

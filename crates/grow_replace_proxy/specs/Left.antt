@@ -1,35 +1,20 @@
 -- What is left of a record's bytes on a walk: a row with a filling at a spot, and the walk's steps over it.
 use mathlib.Core.Path.{_≡_, refl, sym, ap, _∙_}
 use mathlib.Core.Bool.{Bool, false, true≢false}
-use mathlib.Core.List.{List, [], _++_, append-assoc, append-nil}
+use mathlib.Core.List.{List, [], append-nil}
 use Prim.Native.Nat.{ℕ, _+_, _<_, _≤_}
 use native.Mathlib.Omega.{arith}
-use lib.ListN.{length, getD, length-append}
+use Rattle.theory_row_bytes.specs.RowAt.{RowAt, FirstNode, first-node, row-split, row-into, RecordIs, HeaderAt, header-past}
 use Rattle.model.specs.Limits.{capacity}
-use Rattle.model.specs.Row.{Head, Row, nil, agg, lit, rec, _⊹_, size, lone, two, header, bytes, recordSize, recordBytes, count, noHead}
-use Rattle.model.specs.Reading.{twoAt, sizeAt, nameAt}
-use Rattle.theory_rows.specs.Laws.{length-bytes, size-⊹, ⊹-assoc, bytes-⊹}
+use Rattle.model.specs.Row.{Head, Row, nil, agg, lit, rec, _⊹_, size, lone, bytes, recordSize, count}
+use Rattle.theory_rows.specs.Laws.{size-⊹, ⊹-assoc}
 use Rattle.theory_rows.specs.Bound.{isNil-⊹}
 use Rattle.theory_rows.specs.Pages.{count-⊹}
-use Rattle.theory_decoding.specs.Decode.{two-bytes, getD-past}
 use Rattle.theory_insert_point.specs.Chain.{Spot, here, inside, fill}
 use Rattle.grow_splice.specs.Spot.{isInside, push}
-use Rattle.grow_splice.specs.Bump.{two-header, agg-bytes, lit-bytes}
 use Rattle.grow_splice.specs.Splice.{Whole, whole}
 
 -- ── spots ──
-
--- A spot by the first node of its row.
-pub spot-case : (P : Spot → Type 0) → P (here nil) → ((h : Head) (rest : Row) (s : Spot) → P (inside nil h rest s)) → ((h : Head) (cs : Row) (t : Spot) → P (push (agg h cs nil) t))
-    → ((h : Head) (c : List ℕ) (t : Spot) → P (push (lit h c nil) t)) → ((p : ℕ) (b : Bool) (r : Row) (t : Spot) → P (push (rec p b r nil) t)) → (s : Spot) → P s
-spot-case P n i a l p (here nil) = n
-spot-case P n i a l p (here (agg h cs left)) = a h cs (here left)
-spot-case P n i a l p (here (lit h c left)) = l h c (here left)
-spot-case P n i a l p (here (rec q b r left)) = p q b r (here left)
-spot-case P n i a l p (inside nil k rest s) = i k rest s
-spot-case P n i a l p (inside (agg h cs left) k rest s) = a h cs (inside left k rest s)
-spot-case P n i a l p (inside (lit h c left) k rest s) = l h c (inside left k rest s)
-spot-case P n i a l p (inside (rec q b r left) k rest s) = p q b r (inside left k rest s)
 
 pub fill-push : (a : Row) (s : Spot) (x : Row) → fill (push a s) x ≡ a ⊹ fill s x
 fill-push a (here left) x = ⊹-assoc a left x
@@ -52,89 +37,41 @@ proxy-root (inside left h right s) q b old rest e = absurd (true≢false e)
 -- ── what is left ──
 
 pub record Left (l : List ℕ) (pos : ℕ) (s : Spot) (x : Row) : Type 0 where
-  pub pre : List ℕ
-  pub post : List ℕ
-  pub is : l ≡ pre ++ (bytes (fill s x) ++ post)
-  pub len : length pre ≡ pos
+  pub stands : RowAt l pos (fill s x)
   pub small : size (fill s x) < 65536
 
-pub left-length : (l : List ℕ) (pos : ℕ) (s : Spot) (x : Row) → Left l pos s x → pos + size (fill s x) ≤ length l
-left-length l pos s x v = omega (arith, v .len, length-bytes (fill s x), simp length-append at (ap length (v .is)))
+-- Its first node.
+pub left-first : {l : List ℕ} {pos : ℕ} {s : Spot} {x : Row} → Left l pos s x → 0 < size (fill s x) → FirstNode l pos (fill s x)
+left-first {l} {pos} {s} {x} v h = first-node l pos (fill s x) h (v .small) (v .stands)
 
--- what a header says
-pub record Reads (l : List ℕ) (pos k n : ℕ) : Type 0 where
-  pub kind : getD l pos 0 ≡ k
-  pub long : sizeAt l pos ≡ n
+module _ {l : List ℕ} {pos : ℕ} (x : Row) where
+  -- behind whole nodes
+  left-push : (a : Row) (t : Spot) → Left l pos (push a t) x → RowAt l pos (a ⊹ fill t x) × (size (a ⊹ fill t x) < 65536)
+  left-push a t v = rw (← fill-push a t x) (v .stands, v .small)
 
-pub reads : (l pre body : List ℕ) (pos k : ℕ) (lb : Head) (n : ℕ) → l ≡ pre ++ (header k lb n ++ body) → length pre ≡ pos → n < 65536 → Reads l pos k n
-reads l pre body pos k lb n e z h = record {
-  kind = let y : pos + 0 ≡ pos = omega arith in rw e (rw y at (getD-past pre (header k lb n ++ body) pos 0 z));
-  long = rw e (two-header pre body pos k lb n z h);
-}
+  pub push-first : (a : Row) (t : Spot) → Left l pos (push a t) x → 0 < size a → FirstNode l pos (a ⊹ fill t x)
+  push-first a t v h =
+      let w = left-push a t v in
+      first-node l pos (a ⊹ fill t x) (omega (arith, size-⊹ a (fill t x))) (w .1) (w .0)
 
--- ── steps ──
-
-module _ (l : List ℕ) (pos : ℕ) (x : Row) where
-  -- past whole nodes
+  -- past them
   pub left-past : (a : Row) (t : Spot) → Left l pos (push a t) x → Left l (pos + size a) t x
-  left-past a t v = record {
-    pre = v .pre ++ bytes a;
-    post = v .post;
-    is = v .is ∙ ap (λ (z : List ℕ). v .pre ++ (z ++ v .post)) (ap bytes (fill-push a t x) ∙ bytes-⊹ a (fill t x)) ∙ simp append-assoc;
-    len = simp (length-append, length-bytes) (omega (arith, v .len));
-    small = omega (arith, v .small, ap size (fill-push a t x), size-⊹ a (fill t x));
-  }
+  left-past a t v =
+      let w = left-push a t v in
+      record { stands = row-split l pos a (fill t x) (w .0) .1; small = omega (arith, w .1, size-⊹ a (fill t x)) }
 
   -- into an aggregate that ends before the spot
   pub left-through : (h : Head) (cs : Row) (t : Spot) → Left l pos (push (agg h cs nil) t) x → Left l (pos + 6) (push cs t) x
   left-through h cs t v =
-      let e : bytes (fill (push (agg h cs nil) t) x) ≡ header 1 h (6 + size cs) ++ bytes (fill (push cs t) x) =
-      ap bytes (fill-push (agg h cs nil) t x) ∙ ap (λ (z : List ℕ). header 1 h (6 + size cs) ++ z) (sym (ap bytes (fill-push cs t x) ∙ bytes-⊹ cs (fill t x))) in
+      let w = left-push (agg h cs nil) t v in
       record {
-        pre = v .pre ++ header 1 h (6 + size cs);
-        post = v .post;
-        is = v .is ∙ ap (λ (z : List ℕ). v .pre ++ (z ++ v .post)) e ∙ simp append-assoc;
-        len = simp length-append (omega (arith, v .len));
-        small = omega (arith, v .small, ap size (fill-push (agg h cs nil) t x), ap size (fill-push cs t x), size-⊹ cs (fill t x));
+        stands = rw (fill-push cs t x) (row-into l pos h cs (fill t x) (w .0));
+        small = omega (arith, w .1, ap size (fill-push cs t x), size-⊹ cs (fill t x));
       }
 
   -- into the aggregate that holds the spot
   pub left-into : (h : Head) (rest : Row) (s : Spot) → Left l pos (inside nil h rest s) x → Left l (pos + 6) s x
-  left-into h rest s v = record {
-    pre = v .pre ++ header 1 h (6 + size (fill s x));
-    post = bytes rest ++ v .post;
-    is = v .is ∙ simp append-assoc;
-    len = simp length-append (omega (arith, v .len));
-    small = omega (arith, v .small);
-  }
-
-  -- ── the first node ──
-
-  pub reads-inside : (h : Head) (rest : Row) (s : Spot) → Left l pos (inside nil h rest s) x → Reads l pos 1 (6 + size (fill s x))
-  reads-inside h rest s v =
-      reads l (v .pre) ((bytes (fill s x) ++ bytes rest) ++ v .post) pos 1 h (6 + size (fill s x)) (v .is) (v .len) (omega (arith, v .small))
-
-  first : (k : ℕ) (lb : Head) (body : List ℕ) (a : Row) (t : Spot) → bytes a ≡ header k lb (size a) ++ body → Left l pos (push a t) x → Reads l pos k (size a)
-  first k lb body a t b v =
-      reads l (v .pre) (body ++ (bytes (fill t x) ++ v .post)) pos k lb (size a)
-      (v .is ∙ ap (λ (z : List ℕ). v .pre ++ (z ++ v .post)) (ap bytes (fill-push a t x) ∙ bytes-⊹ a (fill t x) ∙ ap (λ (z : List ℕ). z ++ bytes (fill t x)) b) ∙ simp append-assoc)
-      (v .len) (omega (arith, v .small, ap size (fill-push a t x), size-⊹ a (fill t x)))
-
-  pub reads-agg : (h : Head) (cs : Row) (t : Spot) → Left l pos (push (agg h cs nil) t) x → Reads l pos 1 (size (agg h cs nil))
-  reads-agg h cs t v = first 1 h (bytes cs) (agg h cs nil) t (agg-bytes h cs) v
-
-  pub reads-lit : (h : Head) (c : List ℕ) (t : Spot) → Left l pos (push (lit h c nil) t) x → Reads l pos 2 (size (lit h c nil))
-  reads-lit h c t v = first 2 h c (lit h c nil) t (lit-bytes h c) v
-
-  pub reads-rec : (p : ℕ) (b : Bool) (r : Row) (t : Spot) → Left l pos (push (rec p b r nil) t) x → Reads l pos 3 8
-  reads-rec p b r t v = first 3 noHead (two p) (rec p b r nil) t refl v
-
--- A proxy's page, the proxy first in what is left.
-pub named : (l pre body : List ℕ) (pos p : ℕ) → l ≡ pre ++ (header 3 noHead 8 ++ (two p ++ body)) → length pre ≡ pos → p < 65536 → nameAt l pos ≡ p
-unfolding twoAt
-named l pre body pos p e z h =
-    let y : pos + 6 + 1 ≡ pos + 7 = omega arith in
-    rw (y, e, getD-past pre (header 3 noHead 8 ++ (two p ++ body)) pos 6 z, getD-past pre (header 3 noHead 8 ++ (two p ++ body)) pos 7 z) (two-bytes p h)
+  left-into h rest s v = record { stands = left-first v (omega arith) .kids; small = omega (arith, v .small) }
 
 -- ── the start ──
 
@@ -143,14 +80,10 @@ abbrev pub opened : (s : Spot) (q : ℕ) (b : Bool) (old rest : Row) → Whole s
 opened s q b old rest = whole s (rec q b old rest) (rec q b old rest) (λ e. (proxy-root s q b old rest e, proxy-root s q b old rest e))
 
 -- Past its header the walk starts.
-pub left-start : (l : List ℕ) (s : Spot) (q : ℕ) (b : Bool) (old rest : Row) → l ≡ recordBytes (fill s (rec q b old rest)) → recordSize (fill s (rec q b old rest)) ≤ capacity
-    → Left l 6 (opened s q b old rest .spot) (rec q b old rest)
+pub left-start : (l : List ℕ) (s : Spot) (q : ℕ) (b : Bool) (old rest : Row) → RecordIs l (fill s (rec q b old rest))
+    → recordSize (fill s (rec q b old rest)) ≤ capacity → Left l 6 (opened s q b old rest .spot) (rec q b old rest)
 left-start l s q b old rest e h =
     let v = opened s q b old rest in
-    record {
-      pre = header (v .kind) (v .head) (6 + size (fill (v .spot) (rec q b old rest)));
-      post = [];
-      is = e ∙ v .was ∙ ap (λ (z : List ℕ). header (v .kind) (v .head) (6 + size (fill (v .spot) (rec q b old rest))) ++ z) (sym (append-nil (bytes (fill (v .spot) (rec q b old rest)))));
-      len = refl;
-      small = omega (arith, v .size-was);
-    }
+    let row = fill (v .spot) (rec q b old rest) in
+    let w : HeaderAt l 0 (v .kind) (v .head) (6 + size row) = record { post = bytes row; is = e ∙ v .was } in
+    record { stands = record { post = []; is = header-past w ∙ sym (append-nil (bytes row)) }; small = omega (arith, v .size-was) }

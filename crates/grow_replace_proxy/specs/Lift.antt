@@ -1,39 +1,35 @@
 -- A separator in the place of the proxy to the record that was split, in the record that holds the proxy.
-use mathlib.Core.Path.{_≡_, sym, ap, _∙_}
+use mathlib.Core.Path.{_≡_, ap, _∙_}
 use mathlib.Core.Bool.{Bool}
 use mathlib.Core.List.{List}
 use Prim.Native.Nat.{ℕ, _+_, _*_, _-_, _<_, _≤_}
 use native.Mathlib.Omega.{arith}
-use lib.ListN.{length, getD, take, drop}
-use lib.Seq.{take-take, getD-take, getD-drop}
+use lib.ListN.{length, take, drop}
+use Rattle.theory_row_bytes.specs.RowAt.{RecordIs, record-bytes, page-record, number-on}
 use Rattle.model.specs.Limits.{pageSize, capacity}
 use Rattle.model.specs.Row.{Row, rec, _⊹_, size, base, bytes, recordSize, recordBytes, Held, recordPage, count, recordOn}
-use Rattle.model.specs.Reading.{twoAt, pageOf, usedAt}
+use Rattle.model.specs.Reading.{pageOf, usedAt}
 use Rattle.theory_rows.specs.Laws.{length-bytes}
 use Rattle.theory_rows.specs.Image.{length-record}
-use Rattle.theory_decoding.specs.Decode.{used-page, take-page}
+use Rattle.theory_decoding.specs.Decode.{used-page}
 use Rattle.theory_layout.specs.Here.{PageIn}
 use Rattle.theory_insert_point.specs.Chain.{Spot, fill}
 use Rattle.grow_splice.specs.Spot.{at, parent}
 use Rattle.grow_splice.specs.Splice.{KeepsRoot, Place, put-for}
-use Rattle.grow_replace_proxy.specs.Seek.{Proxied}
+use Rattle.grow_replace_proxy.specs.Seek.{NamesOnce}
 use Rattle.grow_replace_proxy.specs.Inner.{Filled}
 
 -- A record that stands on its page: its length, as the page says it,
 module _ (img : List ℕ) (h : Held) (is : pageOf img (h .page) ≡ recordPage h) (small : recordSize (h .row) ≤ capacity) where
   pub page-used : usedAt img (pageSize * h .page) ≡ recordSize (h .row)
-  unfolding twoAt
-  page-used =
-      let at-byte : (i : ℕ) → i < pageSize → getD img (pageSize * h .page + i) 0 ≡ getD (recordPage h) i 0 = λ i k.
-      sym (getD-drop (pageSize * h .page) img i 0) ∙ sym (getD-take pageSize (drop (pageSize * h .page) img) i 0 k) ∙ ap (λ (z : List ℕ). getD z i 0) is in
-      let z : pageSize * h .page + 4082 + 1 ≡ pageSize * h .page + 4083 = omega arith in
-      rw (z, at-byte 4082 (omega arith), at-byte 4083 (omega arith)) (used-page h small)
+  page-used = number-on img (h .page) is (capacity + 2) (omega arith) ∙ used-page h small
 
   -- and its bytes.
-  pub page-part : (n : ℕ) → n ≡ usedAt img (pageSize * h .page) → take (pageSize * h .page + n - pageSize * h .page) (drop (pageSize * h .page) img) ≡ recordBytes (h .row)
+  pub page-part : (n : ℕ) → n ≡ usedAt img (pageSize * h .page)
+      → take (pageSize * h .page + n - pageSize * h .page) (drop (pageSize * h .page) img) ≡ recordBytes (h .row)
   page-part n e =
       let z : pageSize * h .page + n - pageSize * h .page ≡ recordSize (h .row) = omega (arith, page-used) in
-      rw z (sym (take-take (recordSize (h .row)) pageSize (drop (pageSize * h .page) img) (omega arith)) ∙ ap (take (recordSize (h .row))) is ∙ take-page h small)
+      rw z (record-bytes (page-record img h is))
 
 -- The record on page `holder` names `page` one time, by a proxy at the spot; the bytes of `put` are to take the proxy's place.
 pub record Lift (img : List ℕ) (holder page : ℕ) (sep : List ℕ) : Type 0 where
@@ -78,13 +74,13 @@ module _ (img : List ℕ) (holder page : ℕ) (sep : List ℕ) (w : Lift img hol
   pub sep-most : length sep ≤ 512
   sep-most = omega (arith, w .most, length-bytes (w .put), ap length (w .comes))
 
-  module _ (l : List ℕ) (e : l ≡ recordBytes before) where
+  module _ (l : List ℕ) (e : RecordIs l before) where
     pub long : length l ≡ recordSize before
     long = ap length e ∙ length-record before
 
     -- the witnesses of the three calls
-    abbrev pub proxied : Proxied l page
-    proxied = record {
+    abbrev pub names-once : NamesOnce l page
+    names-once = record {
       spot = w .spot;
       settled = w .settled;
       old = w .old;

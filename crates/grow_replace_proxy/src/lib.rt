@@ -1,5 +1,7 @@
 // One step of a cascade: a separator in the place of the proxy to the record that was split.
-use base_numbers::two;
+use base_layout::name_at;
+use base_layout::size_at;
+use base_layout::used_at;
 use grow_splice::splice;
 use model::Settings;
 ghost use mathlib.Core.Path.{_≡_};
@@ -7,14 +9,14 @@ ghost use Prim.Native.Nat.{_≤_};
 ghost use lib.ListN.{length};
 ghost use Rattle.model.specs.Row.{recordSize, recordBytes};
 ghost use Rattle.base_numbers.specs.Over.{over};
-ghost use Rattle.grow_replace_proxy.specs.Seek.{Proxied, proxySpot};
+ghost use Rattle.grow_replace_proxy.specs.Seek.{NamesOnce, proxySpot};
 ghost use Rattle.grow_replace_proxy.specs.Inner.{Filled, filledIn};
 ghost use Rattle.grow_replace_proxy.specs.Lift.{Lift, lifted};
 
 // Where the record has the proxy to the page. Its root is an aggregate or a helper, so its nodes start at 6.
 fn proxy_in(rec: &[u8], page: usize) -> usize
-    requires { ⌜ Proxied (now rec) page ⌝ }
-    ensures { λ r. ⌜ ((w : Proxied (now (rec .entry)) page) → r ≡ proxySpot (now (rec .entry)) page w) ⌝ }
+    requires { ⌜ NamesOnce (now rec) page ⌝ }
+    ensures { λ r. ⌜ ((w : NamesOnce (now (rec .entry)) page) → r ≡ proxySpot (now (rec .entry)) page w) ⌝ }
 {
     let mut pos = 6;
     loop {
@@ -22,12 +24,12 @@ fn proxy_in(rec: &[u8], page: usize) -> usize
         if kind == 1 {
             pos += 6;
         } else if kind == 3 {
-            if two(rec, pos + 6) == page {
+            if name_at(rec, pos) == page {
                 return pos;
             }
             pos += 8;
         } else {
-            pos += two(rec, pos + 4);
+            pos += size_at(rec, pos);
         }
     }
 }
@@ -40,7 +42,7 @@ fn enclosing(rec: &[u8], target: usize) -> usize
     let mut par = 0;
     let mut pos = 6;
     while pos < target {
-        let size = two(rec, pos + 4);
+        let size = size_at(rec, pos);
         if target < pos + size {
             par = pos;
             pos += 6;
@@ -59,7 +61,7 @@ pub fn lift(image: &[u8], holder: usize, page: usize, sep: &[u8], buf: &mut [u8]
         × (now (buf .exit) ≡ over 0 (recordBytes (lifted (now (image .entry)) holder page (now (sep .entry)) w)) (now (buf .entry)))) ⌝ }
 {
     let a = Settings::PAGE * holder;
-    let e = a + two(image, a + 4082);
+    let e = a + used_at(image, a);
     let rec = &image[a..e];
     let at = proxy_in(rec, page);
     let par = enclosing(rec, at);

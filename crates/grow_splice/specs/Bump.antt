@@ -1,17 +1,17 @@
 -- The walk that adds n to the size of each node that holds a filling.
 use mathlib.Core.Path.{_≡_, refl, sym, ap, _∙_}
-use mathlib.Core.List.{List, [], _++_, append-assoc, append-nil}
+use mathlib.Core.List.{List, [], _++_, append-assoc}
 use mathlib.Core.Logic.{⊎-elim}
-use Prim.Native.Nat.{ℕ, _+_, _/_, _%_, _<_, _≤_}
+use Prim.Native.Nat.{ℕ, _+_, _<_, _≤_}
 use native.Mathlib.Omega.{arith}
-use lib.ListN.{length, getD, length-append}
-use lib.Seq.{getD-append-add}
-use Rattle.model.specs.Row.{Head, Row, nil, agg, lit, rec, size, two, header, bytes, noHead}
-use Rattle.model.specs.Reading.{twoAt, sizeAt}
-use Rattle.base_numbers.specs.Over.{over, over-right}
+use lib.ListN.{length, length-append}
+use Rattle.model.specs.Row.{Head, Row, nil, agg, lit, rec, size, two, header, bytes}
+use Rattle.model.specs.Reading.{sizeAt}
+use Rattle.base_numbers.specs.Over.{over}
 use Rattle.theory_rows.specs.Laws.{length-bytes}
-use Rattle.theory_insert_point.specs.Chain.{Spot, here, inside}
-use Rattle.grow_splice.specs.Spot.{parent, around, before, push, before-push, around-push, parent-push, parent-low, parent-high, before-plain}
+use Rattle.theory_insert_point.specs.Chain.{Spot, inside}
+use Rattle.theory_row_bytes.specs.RowAt.{HeaderAt, header-after, header-size, header-inside, header-resized, kindOf, headOf, bodyOf, restOf, one-bytes}
+use Rattle.grow_splice.specs.Spot.{spot-case, parent, around, before, push, before-push, around-push, parent-push, parent-low, parent-high, before-plain}
 
 -- cur is goal, but that the nodes from pos on have not grown yet
 pub record Mid (cur goal : List ℕ) (pos par n : ℕ) : Type 0 where
@@ -28,7 +28,8 @@ pub record Mid (cur goal : List ℕ) (pos par n : ℕ) : Type 0 where
 
 pub mid-end : (cur goal : List ℕ) (pos par n : ℕ) → Mid cur goal pos par n → par < pos → cur ≡ goal
 mid-end cur goal pos par n m h =
-    m .now ∙ ap (λ (z : List ℕ). m .pre ++ z) (before-plain (m .spot) (m .outer) pos (m .filled) (m .filled + n) (m .low) (omega (arith, m .at))) ∙ sym (m .then)
+    m .now ∙ ap (λ (z : List ℕ). m .pre ++ z) (before-plain (m .spot) (m .outer) pos (m .filled) (m .filled + n) (m .low) (omega (arith, m .at)))
+    ∙ sym (m .then)
 
 -- what stands at pos
 pub record Look (cur goal : List ℕ) (pos par n : ℕ) : Type 0 where
@@ -40,34 +41,23 @@ pub record Look (cur goal : List ℕ) (pos par n : ℕ) : Type 0 where
   pub skip : pos + sz ≤ par → Mid cur goal (pos + sz) par n
   pub enter : par < pos + sz → Mid (over (pos + 4) (two (sz + n)) cur) goal (pos + 6) par n
 
--- a header read at its place, and its size written
-pub two-header : (pre body : List ℕ) (pos k : ℕ) (l : Head) (sz : ℕ) → length pre ≡ pos → sz < 65536 → twoAt (pre ++ (header k l sz ++ body)) (pos + 4) ≡ sz
-unfolding twoAt
-two-header pre body pos k l sz e h =
-    let a : getD (pre ++ (header k l sz ++ body)) (length pre + 4) 0 ≡ sz % 256 = getD-append-add pre (header k l sz ++ body) 4 0 in
-    let b : getD (pre ++ (header k l sz ++ body)) (length pre + 5) 0 ≡ sz / 256 % 256 = getD-append-add pre (header k l sz ++ body) 5 0 in
-    let d : length pre + 4 + 1 ≡ length pre + 5 = omega arith in
-    rw (← e, d, a, b) (omega arith)
-
-pub over-header : (pre body : List ℕ) (pos k : ℕ) (l : Head) (sz m : ℕ) → length pre ≡ pos → over (pos + 4) (two m) (pre ++ (header k l sz ++ body)) ≡ pre ++ (header k l m ++ body)
-unfolding over
-over-header pre body pos k l sz m e = over-right (pos + 4) 4 (two m) pre (header k l sz ++ body) (omega arith) ∙ ap (λ (z : List ℕ). pre ++ z) refl
-
 -- a node that is passed by
-look-past : (a : Row) (k : ℕ) (l : Head) (body : List ℕ) (t : Spot) (cur goal : List ℕ) (pos par n : ℕ) (m : Mid cur goal pos par n) → m .spot ≡ push a t
-    → bytes a ≡ header k l (size a) ++ body → pos ≤ par → Look cur goal pos par n
-look-past a k l body t cur goal pos par n m s b h =
+look-past : (a : Row) (t : Spot) (cur goal : List ℕ) (pos par n : ℕ) (m : Mid cur goal pos par n) → pos ≤ par → 0 < size a → restOf a ≡ nil
+    → m .spot ≡ push a t → Look cur goal pos par n
+look-past a t cur goal pos par n m h some alone s =
     let f = m .filled in
-    let size-is : size a ≡ 6 + length body = omega (arith, length-bytes a, simp length-append at (ap length b)) in
+    let b = one-bytes a some alone in
+    let size-is : size a ≡ 6 + length (bodyOf a) = omega (arith, length-bytes a, simp length-append at (ap length b)) in
     let low : (x : ℕ) → before (m .spot) x ≡ bytes a ++ before t x = λ x. ap (λ (z : Spot). before z x) s ∙ before-push a t x in
     let bound : size a + around t + f + n < 65536 = omega (arith, m .small, ap around s, around-push a t) in
     let par-is : par ≡ parent (m .outer) (pos + size a) t = m .at ∙ ap (λ (z : Spot). parent (m .outer) pos z) s ∙ parent-push a t (m .outer) pos in
-    let shape : cur ≡ m .pre ++ (header k l (size a) ++ (body ++ before t f)) =
+    let shape : cur ≡ m .pre ++ (header (kindOf a) (headOf a) (size a) ++ (bodyOf a ++ before t f)) =
     m .now ∙ ap (λ (z : List ℕ). m .pre ++ z) (low f ∙ ap (λ (z : List ℕ). z ++ before t f) b) in
+    let v = header-after cur (m .pre) (bodyOf a ++ before t f) pos (kindOf a) (headOf a) (size a) shape (m .len) in
     record {
       sz = size a;
-      is = rw shape (two-header (m .pre) (body ++ before t f) pos k l (size a) (m .len) (omega arith));
-      fits = omega (arith, m .len, simp length-append at (ap length shape));
+      is = header-size v (omega arith);
+      fits = header-inside v;
       more = omega arith;
       small = omega arith;
       skip = λ g. record {
@@ -96,10 +86,11 @@ look-into h rest t cur goal pos par n m s g =
     let par-is : par ≡ parent pos (pos + 6) t = m .at ∙ ap (λ (z : Spot). parent (m .outer) pos z) s ∙ ap (λ (z : ℕ). parent z (z + 6) t) zero-is in
     let shape : cur ≡ m .pre ++ (header 1 h sz ++ before t f) = m .now ∙ ap (λ (z : Spot). m .pre ++ before z f) s in
     let grows : sz + n ≡ 6 + (around t + (f + n)) = omega arith in
+    let v = header-after cur (m .pre) (before t f) pos 1 h sz shape (m .len) in
     record {
       sz = sz;
-      is = rw shape (two-header (m .pre) (before t f) pos 1 h sz (m .len) (omega arith));
-      fits = omega (arith, m .len, simp length-append at (ap length shape));
+      is = header-size v (omega arith);
+      fits = header-inside v;
       more = omega arith;
       small = omega arith;
       skip = λ g. absurd (⊎-elim (λ w. omega arith) (λ w. omega arith) (parent-high t pos (pos + 6) (omega arith)));
@@ -108,7 +99,7 @@ look-into h rest t cur goal pos par n m s g =
         filled = f;
         pre = m .pre ++ header 1 h (sz + n);
         outer = pos;
-        now = ap (over (pos + 4) (two (sz + n))) shape ∙ over-header (m .pre) (before t f) pos 1 h sz (sz + n) (m .len)
+        now = ap (over (pos + 4) (two (sz + n))) shape ∙ header-resized (m .pre) (before t f) pos 1 h sz (sz + n) (m .len)
             ∙ sym (append-assoc (m .pre) (header 1 h (sz + n)) (before t f));
         then = m .then ∙ ap (λ (z : Spot). m .pre ++ before z (f + n)) s ∙ ap (λ (z : ℕ). m .pre ++ (header 1 h z ++ before t (f + n))) (sym grows)
             ∙ sym (append-assoc (m .pre) (header 1 h (sz + n)) (before t (f + n)));
@@ -119,32 +110,14 @@ look-into h rest t cur goal pos par n m s g =
       };
     }
 
--- each kind's bytes
-pub agg-bytes : (h : Head) (cs : Row) → bytes (agg h cs nil) ≡ header 1 h (size (agg h cs nil)) ++ bytes cs
-agg-bytes h cs =
-    let e : 6 + size cs ≡ 6 + size cs + 0 = omega arith in
-    rw (append-nil, ← e)
-
-pub lit-bytes : (h : Head) (c : List ℕ) → bytes (lit h c nil) ≡ header 2 h (size (lit h c nil)) ++ c
-lit-bytes h c =
-    let e : 6 + length c ≡ 6 + length c + 0 = omega arith in
-    rw (append-nil, ← e)
-
 pub look : (cur goal : List ℕ) (pos par n : ℕ) → Mid cur goal pos par n → pos ≤ par → Look cur goal pos par n
-look cur goal pos par n m h = go (m .spot) refl
-  where
-    past : (a : Row) (k : ℕ) (l : Head) (body : List ℕ) (t : Spot) → bytes a ≡ header k l (size a) ++ body → m .spot ≡ push a t → Look cur goal pos par n
-    past a k l body t b s = look-past a k l body t cur goal pos par n m s b h
-
-    go : (s : Spot) → m .spot ≡ s → Look cur goal pos par n
-    go (here nil) s = absurd (omega (arith, m .low, m .at, ap (parent (m .outer) pos) s))
-    go (here (agg l cs left)) s = past (agg l cs nil) 1 l (bytes cs) (here left) (agg-bytes l cs) s
-    go (here (lit l c left)) s = past (lit l c nil) 2 l c (here left) (lit-bytes l c) s
-    go (here (rec p t r left)) s = past (rec p t r nil) 3 noHead (two p) (here left) refl s
-    go (inside nil k rest u) s = look-into k rest u cur goal pos par n m s h
-    go (inside (agg l cs left) k rest u) s = past (agg l cs nil) 1 l (bytes cs) (inside left k rest u) (agg-bytes l cs) s
-    go (inside (lit l c left) k rest u) s = past (lit l c nil) 2 l c (inside left k rest u) (lit-bytes l c) s
-    go (inside (rec p t r left) k rest u) s = past (rec p t r nil) 3 noHead (two p) (inside left k rest u) refl s
+look cur goal pos par n m h =
+    spot-case (λ s. m .spot ≡ s → Look cur goal pos par n) (λ s. absurd (omega (arith, m .low, m .at, ap (parent (m .outer) pos) s)))
+    (λ k rest u s. look-into k rest u cur goal pos par n m s h)
+    (λ k cs t. look-past (agg k cs nil) t cur goal pos par n m h (omega arith) refl)
+    (λ k c t. look-past (lit k c nil) t cur goal pos par n m h (omega arith) refl)
+    (λ p b r t. look-past (rec p b r nil) t cur goal pos par n m h (omega arith) refl)
+    (m .spot) refl
 
 -- what the walk is called with: the bytes of a record before a filling; the node that holds the filling starts at par; the record grows by n
 pub record Cut (l : List ℕ) (par n : ℕ) : Type 0 where
@@ -161,25 +134,29 @@ abbrev pub grown : (l : List ℕ) (par n : ℕ) → Cut l par n → List ℕ
 grown l par n w = header (w .kind) (w .head) (6 + (around (w .spot) + (w .filled + n))) ++ before (w .spot) (w .filled + n)
 
 module _ (l : List ℕ) (par n : ℕ) (w : Cut l par n) where
-  pub cut-root : twoAt l 4 ≡ 6 + (around (w .spot) + w .filled)
-  cut-root = rw (w .is) (two-header [] (before (w .spot) (w .filled)) 0 (w .kind) (w .head) (6 + (around (w .spot) + w .filled)) refl (omega (arith, w .small)))
+  at-root : HeaderAt l 0 (w .kind) (w .head) (6 + (around (w .spot) + w .filled))
+  at-root = header-after l [] (before (w .spot) (w .filled)) 0 (w .kind) (w .head) (6 + (around (w .spot) + w .filled)) (w .is) refl
 
-  pub cut-small : twoAt l 4 + n < 65536
+  pub cut-root : sizeAt l 0 ≡ 6 + (around (w .spot) + w .filled)
+  cut-root = header-size at-root (omega (arith, w .small))
+
+  pub cut-small : sizeAt l 0 + n < 65536
   cut-small = omega (arith, cut-root, w .small)
 
   pub cut-length : 6 ≤ length l
-  cut-length = omega (arith, simp length-append at (ap length (w .is)))
+  cut-length = header-inside at-root
 
-  pub cut-start : Mid (over 4 (two (twoAt l 4 + n)) l) (grown l par n w) 6 par n
+  pub cut-start : Mid (over 4 (two (sizeAt l 0 + n)) l) (grown l par n w) 6 par n
   cut-start =
-      let z : twoAt l 4 + n ≡ 6 + (around (w .spot) + (w .filled + n)) = omega (arith, cut-root) in
+      let z : sizeAt l 0 + n ≡ 6 + (around (w .spot) + (w .filled + n)) = omega (arith, cut-root) in
       record {
         spot = w .spot;
         filled = w .filled;
         pre = header (w .kind) (w .head) (6 + (around (w .spot) + (w .filled + n)));
         outer = 0;
         now = ap (λ (k : ℕ). over 4 (two k) l) z ∙ ap (over 4 (two (6 + (around (w .spot) + (w .filled + n))))) (w .is)
-            ∙ over-header [] (before (w .spot) (w .filled)) 0 (w .kind) (w .head) (6 + (around (w .spot) + w .filled)) (6 + (around (w .spot) + (w .filled + n))) refl;
+            ∙ header-resized [] (before (w .spot) (w .filled)) 0 (w .kind) (w .head) (6 + (around (w .spot) + w .filled))
+            (6 + (around (w .spot) + (w .filled + n))) refl;
         then = refl;
         len = refl;
         low = omega arith;
@@ -188,7 +165,8 @@ module _ (l : List ℕ) (par n : ℕ) (w : Cut l par n) where
       }
 
 -- the walk's two steps, as the code takes them
-pub mid-enter : (cur goal next : List ℕ) (pos par n r : ℕ) → Mid cur goal pos par n → pos ≤ par → r ≡ sizeAt cur pos → par < pos + r → next ≡ over (pos + 4) (two (r + n)) cur → Mid next goal (pos + 6) par n
+pub mid-enter : (cur goal next : List ℕ) (pos par n r : ℕ) → Mid cur goal pos par n → pos ≤ par → r ≡ sizeAt cur pos → par < pos + r
+    → next ≡ over (pos + 4) (two (r + n)) cur → Mid next goal (pos + 6) par n
 mid-enter cur goal next pos par n r m h e k q =
     let v = look cur goal pos par n m h in
     let z : r ≡ v .sz = e ∙ v .is in

@@ -6,6 +6,7 @@ use Prim.Native.Nat.{ℕ, _+_, _-_, _<_, _≤_}
 use native.Mathlib.Omega.{arith}
 use lib.ListN.{length, take, drop, length-append, length-take, length-drop}
 use lib.Seq.{take-at, drop-at, length-take-le, take-all}
+use Rattle.theory_row_bytes.specs.RowAt.{RecordIs}
 use Rattle.model.specs.Row.{Head, Row, nil, agg, lit, rec, _⊹_, size, nodeCount, lone, base, header, bytes, recordSize, recordBytes, count, noHead}
 use Rattle.base_numbers.specs.Over.{over, over-then, over-front, over-again, take-over}
 use Rattle.theory_rows.specs.Laws.{length-bytes, size-⊹, bytes-⊹}
@@ -87,7 +88,7 @@ pub record Place (l : List ℕ) (pos par gone : ℕ) (new : List ℕ) : Type 0 w
   pub old : Row
   pub tail : Row
   pub put : Row
-  pub is : l ≡ recordBytes (fill spot (old ⊹ tail))
+  pub is : RecordIs l (fill spot (old ⊹ tail))
   pub goes : size old ≡ gone
   pub comes : new ≡ bytes put
   pub offset : pos ≡ at (base (fill spot (old ⊹ tail))) spot
@@ -106,7 +107,8 @@ apart : (k : ℕ) (n : Head) (s : Spot) (x y : Row)
     → header k n (6 + size (fill s (x ⊹ y))) ++ bytes (fill s (x ⊹ y)) ≡ fore k n s (size (x ⊹ y)) ++ (bytes x ++ (bytes y ++ beyond s))
 apart k n s x y =
     (λ i. header k n (6 + size-around s (x ⊹ y) i) ++ bytes-fill s (x ⊹ y) i)
-    ∙ ap (λ (z : List ℕ). header k n (6 + (around s + size (x ⊹ y))) ++ (before s (size (x ⊹ y)) ++ z)) (ap (λ (z : List ℕ). z ++ beyond s) (bytes-⊹ x y) ∙ append-assoc (bytes x) (bytes y) (beyond s))
+    ∙ ap (λ (z : List ℕ). header k n (6 + (around s + size (x ⊹ y))) ++ (before s (size (x ⊹ y)) ++ z))
+    (ap (λ (z : List ℕ). z ++ beyond s) (bytes-⊹ x y) ∙ append-assoc (bytes x) (bytes y) (beyond s))
 
 module _ (l : List ℕ) (pos par gone : ℕ) (new : List ℕ) (w : Place l pos par gone new) where
   seen : Whole (w .spot) (w .old ⊹ w .tail) (w .put ⊹ w .tail)
@@ -162,8 +164,10 @@ module _ (l : List ℕ) (pos par gone : ℕ) (new : List ℕ) (w : Place l pos p
   }
 
   -- the four writes of a splice
-  pub steps : (o a g b d : List ℕ) (n : ℕ) (e : take pos a ≡ take pos l) (h : length l + (n - gone) < 65536) → n ≡ length new → gone ≤ n → length l + n ≤ length o + gone
-      → a ≡ over 0 (take pos l) o → g ≡ grown (take pos a) par (n - gone) (cut (take pos a) (n - gone) e h) → length g ≡ pos → b ≡ over pos new (g ++ drop pos a)
+  pub steps : (o a g b d : List ℕ) (n : ℕ) (e : take pos a ≡ take pos l) (h : length l + (n - gone) < 65536) → n ≡ length new → gone ≤ n
+      → length l + n ≤ length o + gone
+      → a ≡ over 0 (take pos l) o → g ≡ grown (take pos a) par (n - gone) (cut (take pos a) (n - gone) e h) → length g ≡ pos
+      → b ≡ over pos new (g ++ drop pos a)
       → d ≡ over (pos + n) (drop (pos + gone) l) b → d ≡ over 0 (recordBytes (spliced l pos par gone new w)) o
   unfolding cut back-bytes
   steps o a g b d n e h k low room pa pg len pb pd =
@@ -178,7 +182,8 @@ module _ (l : List ℕ) (pos par gone : ℕ) (new : List ℕ) (w : Place l pos p
       let z : m + (n - gone) ≡ size (w .put ⊹ w .tail) = omega (arith, larger (omega arith)) in
       let x : (g ++ new) ++ drop (pos + gone) l ≡ (fore (seen .kind) (seen .head) t (m + (n - gone)) ++ bytes (w .put)) ++ (bytes (w .tail) ++ beyond t) =
       λ j. (pg j ++ w .comes j) ++ back j in
-      let y : (fore (seen .kind) (seen .head) t (m + (n - gone)) ++ bytes (w .put)) ++ (bytes (w .tail) ++ beyond t) ≡ recordBytes (spliced l pos par gone new w) =
+      let r : List ℕ = recordBytes (spliced l pos par gone new w) in
+      let y : (fore (seen .kind) (seen .head) t (m + (n - gone)) ++ bytes (w .put)) ++ (bytes (w .tail) ++ beyond t) ≡ r =
       ap (λ (v : ℕ). (fore (seen .kind) (seen .head) t v ++ bytes (w .put)) ++ (bytes (w .tail) ++ beyond t)) z
       ∙ append-assoc (fore (seen .kind) (seen .head) t (size (w .put ⊹ w .tail))) (bytes (w .put)) (bytes (w .tail) ++ beyond t)
       ∙ sym (seen .is ∙ apart (seen .kind) (seen .head) t (w .put) (w .tail)) in
@@ -194,13 +199,14 @@ part-end l pos = take-all (length l - pos) (drop pos l) (simp length-drop (omega
 -- ── the two uses ──
 
 -- A row put in, in front of `tail`.
-abbrev pub put-in : (s : Spot) (put tail : Row) (l : List ℕ) (pos par : ℕ) (new : List ℕ) → l ≡ recordBytes (fill s tail) → pos ≡ at (base (fill s tail)) s
+abbrev pub put-in : (s : Spot) (put tail : Row) (l : List ℕ) (pos par : ℕ) (new : List ℕ) → RecordIs l (fill s tail) → pos ≡ at (base (fill s tail)) s
     → par ≡ parent 0 (base (fill s tail)) s → new ≡ bytes put → KeepsRoot s tail (put ⊹ tail) → Place l pos par 0 new
-put-in s put tail l pos par new e a p n k = record { spot = s; old = nil; tail = tail; put = put; is = e; goes = refl; comes = n; offset = a; holder = p; root = k }
+put-in s put tail l pos par new e a p n k =
+    record { spot = s; old = nil; tail = tail; put = put; is = e; goes = refl; comes = n; offset = a; holder = p; root = k }
 
 -- A row in the place of a proxy.
 abbrev pub put-for : (s : Spot) (page : ℕ) (settled : Bool) (row put tail : Row) (l : List ℕ) (pos par : ℕ) (new : List ℕ)
-    → let r = fill s (rec page settled row tail) in l ≡ recordBytes r → pos ≡ at (base r) s → par ≡ parent 0 (base r) s → new ≡ bytes put
+    → let r = fill s (rec page settled row tail) in RecordIs l r → pos ≡ at (base r) s → par ≡ parent 0 (base r) s → new ≡ bytes put
     → KeepsRoot s (rec page settled row tail) (put ⊹ tail) → Place l pos par 8 new
 put-for s q t r put tail l pos par new e a p n k = record {
   spot = s;

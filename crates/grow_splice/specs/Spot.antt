@@ -6,7 +6,7 @@ use Prim.Native.Nat.{ℕ, _+_, _≤_, _<_}
 use native.Mathlib.Omega.{arith}
 use mathlib.Core.Logic.{_⊎_, inl, inr, ⊎-elim}
 use lib.ListN.{length, length-append}
-use Rattle.model.specs.Row.{Row, nil, agg, lit, rec, _⊹_, size, nodeCount, lone, header, bytes}
+use Rattle.model.specs.Row.{Row, nil, agg, lit, rec, _⊹_, size, nodeCount, lone, header, bytes, Head}
 use Rattle.theory_rows.specs.Laws.{length-bytes, size-⊹, bytes-⊹}
 use Rattle.theory_insert_point.specs.Chain.{Spot, here, inside, fill}
 
@@ -59,9 +59,6 @@ pub size-around : (s : Spot) (x : Row) → size (fill s x) ≡ around s + size x
 size-around (here left) x = size-⊹ left x
 size-around (inside left h rest s) x = omega (arith, size-⊹ left (agg h (fill s x) rest), size-around s x)
 
-pub size-fill : (s : Spot) (x : Row) → size (fill s x) ≡ size (fill s nil) + size x
-size-fill s x = omega (arith, size-around s x, size-around s nil)
-
 pub bytes-fill : (s : Spot) (x : Row) → bytes (fill s x) ≡ before s (size x) ++ (bytes x ++ beyond s)
 bytes-fill (here left) x = bytes-⊹ left x ∙ ap (λ (z : List ℕ). bytes left ++ z) (sym (append-nil (bytes x)))
 bytes-fill (inside left h rest s) x = simp (bytes-⊹ left (agg h (fill s x) rest), size-around s x, bytes-fill s x, append-assoc)
@@ -76,6 +73,19 @@ length-before pos m (inside left h rest s) =
 abbrev pub push : Row → Spot → Spot
 push a (here left) = here (a ⊹ left)
 push a (inside left h rest s) = inside (a ⊹ left) h rest s
+
+-- A spot by the first node of its row.
+pub spot-case : (P : Spot → Type 0) → P (here nil) → ((h : Head) (rest : Row) (s : Spot) → P (inside nil h rest s))
+    → ((h : Head) (cs : Row) (t : Spot) → P (push (agg h cs nil) t)) → ((h : Head) (c : List ℕ) (t : Spot) → P (push (lit h c nil) t))
+    → ((p : ℕ) (b : Bool) (r : Row) (t : Spot) → P (push (rec p b r nil) t)) → (s : Spot) → P s
+spot-case P n i a l p (here nil) = n
+spot-case P n i a l p (here (agg h cs left)) = a h cs (here left)
+spot-case P n i a l p (here (lit h c left)) = l h c (here left)
+spot-case P n i a l p (here (rec q b r left)) = p q b r (here left)
+spot-case P n i a l p (inside nil k rest s) = i k rest s
+spot-case P n i a l p (inside (agg h cs left) k rest s) = a h cs (inside left k rest s)
+spot-case P n i a l p (inside (lit h c left) k rest s) = l h c (inside left k rest s)
+spot-case P n i a l p (inside (rec q b r left) k rest s) = p q b r (inside left k rest s)
 
 pub before-push : (a : Row) (s : Spot) (m : ℕ) → before (push a s) m ≡ bytes a ++ before s m
 before-push a (here left) m = bytes-⊹ a left

@@ -1,7 +1,7 @@
 // Bytes put into a record, in a lent buffer.
+use base_layout::size_at;
 use base_numbers::copy_in;
 use base_numbers::put16;
-use base_numbers::two;
 ghost use mathlib.Core.Path.{_≡_};
 ghost use Prim.Native.Nat.{_+_, _≤_, _<_};
 ghost use lib.ListN.{length};
@@ -15,11 +15,11 @@ pub fn grow(s: &mut [u8], par: usize, n: usize)
     requires { ⌜ Cut (now s) par n ⌝ }
     ensures { λ _. ⌜ ((w : Cut (now (s .entry)) par n) → now (s .exit) ≡ grown (now (s .entry)) par n w) ⌝ }
 {
-    let whole = two(s, 4);
+    let whole = size_at(s, 0);
     put16(s, 4, whole + n);
     let mut pos = 6;
     while pos <= par {
-        let size = two(s, pos + 4);
+        let size = size_at(s, pos);
         if par < pos + size {
             put16(s, pos + 4, size + n);
             pos += 6;

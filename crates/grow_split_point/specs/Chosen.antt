@@ -1,4 +1,4 @@
--- A level of a split: the child that is chosen, those before it, and what a split makes of them.
+-- A level of a split: the child that is chosen, and those before it.
 use mathlib.Core.Path.{_≡_, refl, sym, ap, _∙_}
 use mathlib.Core.Bool.{Bool, true, false, cond, not, _&&_, false≢true}
 use Prim.Native.Nat.{ℕ, _+_, _<_}
@@ -6,11 +6,9 @@ use native.Mathlib.Omega.{arith}
 use lib.ListN.{length}
 use lib.Dec.{leb}
 use Rattle.model.specs.Row.{Row, nil, agg, lit, rec, _⊹_, size, isNil, isAgg, Config}
-use Rattle.model.specs.Growth.{Work, Out, stops, group, twoGroups, separate}
-use Rattle.theory_rows.specs.Laws.{⊹-nil, ⊹-assoc}
-use Rattle.grow_split_point.specs.Stands.{headOf, kidsOf, restOf}
-
--- ── joined rows ──
+use Rattle.model.specs.Growth.{stops}
+use Rattle.theory_rows.specs.Laws.{⊹-assoc}
+use Rattle.grow_split_point.specs.Stands.{kidsOf}
 
 -- ── the chosen child ──
 
@@ -82,52 +80,6 @@ remains-some p at (rec q s r rest) k =
     let n = at + 8 in
     some-by (goes p n rest) p n rest (remains p n rest) (rec q s r rest) refl (remains-some p n rest) k
 
--- ── what a split makes of a level ──
-
 pub cond-flip {ℓ} : {A : Type ℓ} (b : Bool) (x y : A) → cond b x y ≡ cond (not b) y x
 cond-flip true x y = refl
 cond-flip false x y = refl
-
-module _ (st : Config) (near p : ℕ) where
-  -- The split goes on inside the first node of `row`, which starts at `at`: the group before it, its children, the group after it.
-  unfoldable pub inside : (at : ℕ) → (left row : Row) → Work → Out
-  inside at left row w =
-      let a = group st near left w in
-      let b = separate st near p (at + 6) nil (kidsOf row) (a .1) in
-      let c = group st near (restOf row) (b .1) in
-      (a .0 ⊹ agg (headOf row) (b .0) (c .0), c .1)
-
-  -- A level from the chosen child on, the first node of `row`, which starts at `at`: `left` stands before it.
-  abbrev pub atChosen : (at : ℕ) → (left row : Row) → Work → Out
-  atChosen at left row w = cond (goesInto st row) (inside at left row w) (twoGroups st near p left row w)
-
-  two-nil : (left : Row) (w : Work) → group st near left w ≡ twoGroups st near p left nil w
-  unfolding group twoGroups
-  two-nil left w = λ i. (sym (⊹-nil (group st near left w .0)) i, group st near left w .1)
-
-  step : (b : Bool) (at n : ℕ) (left one node rest P : Row) (w : Work) → size (one ⊹ P) ≡ n + size P
-      → separate st near p (at + n) (left ⊹ one) rest w ≡ atChosen (at + n + size P) ((left ⊹ one) ⊹ P) (remains p (at + n) rest) w
-      → cond b (separate st near p (at + n) (left ⊹ one) rest w) (atChosen at left node w)
-      ≡ atChosen (at + size (cond b (one ⊹ P) nil)) (left ⊹ cond b (one ⊹ P) nil) (cond b (remains p (at + n) rest) node) w
-  step true at n left one node rest P w e ih =
-      let z : at + n + size P ≡ at + size (one ⊹ P) = omega arith in
-      ih ∙ (λ i. atChosen (z i) (⊹-assoc left one P i) (remains p (at + n) rest) w)
-  step false at n left one node rest P w e ih =
-      let z : at ≡ at + 0 = omega arith in
-      λ i. atChosen (z i) (sym (⊹-nil left) i) node w
-
-  -- A level of a split, by the child that is chosen.
-  pub separate-by : (at : ℕ) (left row : Row) (w : Work)
-      → separate st near p at left row w ≡ atChosen (at + size (passed p at row)) (left ⊹ passed p at row) (remains p at row) w
-  unfolding separate passed remains inside
-  separate-by at left nil w = two-nil left w ∙ (λ i. twoGroups st near p (sym (⊹-nil left) i) nil w)
-  separate-by at left (agg h cs rest) w =
-      let n = 6 + size cs in
-      let on = separate st near p (at + n) (left ⊹ agg h cs nil) rest w in
-      ap (cond (goes p (at + n) rest) on) (cond-flip (stops st cs) _ _)
-      ∙ step (goes p (at + n) rest) at n left (agg h cs nil) (agg h cs rest) rest (passed p (at + n) rest) w refl (separate-by (at + n) (left ⊹ agg h cs nil) rest w)
-  separate-by at left (lit h c rest) w =
-      let n = 6 + length c in
-      step (goes p (at + n) rest) at n left (lit h c nil) (lit h c rest) rest (passed p (at + n) rest) w refl (separate-by (at + n) (left ⊹ lit h c nil) rest w)
-  separate-by at left (rec q s r rest) w =
-      step (goes p (at + 8) rest) at 8 left (rec q s r nil) (rec q s r rest) rest (passed p (at + 8) rest) w refl (separate-by (at + 8) (left ⊹ rec q s r nil) rest w)

@@ -10,11 +10,11 @@ use borrow.Author.Tests.{lt-ltb, le-ltb, lt-leb, le-leb, ltb-true, ltb-false}
 use lib.Dec.{ltb, leb}
 use lib.ListN.{length, getD}
 use Rattle.model.specs.Row.{Row, nil, agg, lit, rec, _⊹_, size, isNil, loneRec, bytes, standing, mayStand, Config}
-use Rattle.model.specs.Reading.{sizeAt}
+use Rattle.model.specs.Reading.{sizeAt, kindAt}
 use Rattle.model.specs.Growth.{stops, startOf}
 use Rattle.theory_rows.specs.Laws.{length-bytes}
 use Rattle.theory_rows.specs.Bound.{not-nil}
-use Rattle.grow_split_point.specs.Stands.{Kids, first, kindOf, sizeOf, kidsOf, restOf}
+use Rattle.grow_split_point.specs.Stands.{Kids, first, n-is, behind, within, kindOf, sizeOf, kidsOf, restOf}
 use Rattle.grow_split_point.specs.Chosen.{goes, passed, goesInto, cond-flip}
 
 -- ── tests as the code makes them ──
@@ -41,7 +41,8 @@ not-or true b = refl
 not-or false b = refl
 
 -- By the table an aggregate may stand only in an aggregate, of the nodes that a row can hold.
-into-read : (st : Config) (tol : ℕ) (r : Row) → 0 < size r → st .tolerance ≡ tol → goesInto st r ≡ mayStand (kindOf r) 1 && (ltb 6 (sizeOf r) && leb tol (sizeOf r))
+into-read : (st : Config) (tol : ℕ) (r : Row) → 0 < size r → st .tolerance ≡ tol
+    → goesInto st r ≡ mayStand (kindOf r) 1 && (ltb 6 (sizeOf r) && leb tol (sizeOf r))
 unfolding mayStand standing
 into-read st tol nil k e = absurd (omega arith)
 into-read st tol (agg h cs rest) k e =
@@ -54,7 +55,8 @@ pub not-next : (a b d : ℕ) → ((a < b) × (leb a d ≡ false)) ⊎ (b ≤ a) 
 not-next a b d (inl (h, e)) = rw (lt-ltb a b h, e)
 not-next a b d (inr h) = rw (le-ltb a b h)
 
-pub not-into : (a r : Bool) (b d : ℕ) → r ≡ a → ((r ≡ true) × (ltb 6 b ≡ true) × (leb d b ≡ false)) ⊎ (((r ≡ true) × (ltb 6 b ≡ false)) ⊎ (r ≡ false)) → a && (ltb 6 b && leb d b) ≡ false
+pub not-into : (a r : Bool) (b d : ℕ) → r ≡ a → ((r ≡ true) × (ltb 6 b ≡ true) × (leb d b ≡ false)) ⊎ (((r ≡ true) × (ltb 6 b ≡ false)) ⊎ (r ≡ false))
+    → a && (ltb 6 b && leb d b) ≡ false
 not-into a r b d q (inl (e, k, m)) = rw (← q, e, k, m)
 not-into a r b d q (inr (inl (e, k))) = rw (← q, e, k)
 not-into a r b d q (inr (inr e)) = rw (← q, e)
@@ -70,7 +72,8 @@ abbrev pub withTolerance : ℕ → Config
 withTolerance t = record { pages = 0; target = 0; tolerance = t; form = 0; matrix = [] }
 
 -- by the row's first node
-start-by : (st : Config) (p pos : ℕ) (r : Row) → 0 < size r → startOf st p pos r ≡ cond (goes p (pos + sizeOf r) (restOf r)) (startOf st p (pos + sizeOf r) (restOf r))
+start-by : (st : Config) (p pos : ℕ) (r : Row) → 0 < size r
+    → startOf st p pos r ≡ cond (goes p (pos + sizeOf r) (restOf r)) (startOf st p (pos + sizeOf r) (restOf r))
     (cond (goesInto st r) (startOf st p (pos + 6) (kidsOf r)) pos)
 unfolding startOf
 start-by st p pos nil h = absurd (omega arith)
@@ -79,62 +82,41 @@ start-by st p pos (agg h cs rest) k =
 start-by st p pos (lit h c rest) k = refl
 start-by st p pos (rec q s r rest) k = refl
 
-kids-size : (r : Row) → 0 < size r → mayStand (kindOf r) 1 ≡ true → sizeOf r ≡ 6 + size (kidsOf r)
+into-agg : (r : Row) → 0 < size r → mayStand (kindOf r) 1 ≡ true → kindOf r ≡ 1
 unfolding mayStand standing
-kids-size nil k e = absurd (omega arith)
-kids-size (agg h cs rest) k e = refl
-kids-size (lit h c rest) k e = absurd (false≢true e)
-kids-size (rec p s r rest) k e = absurd (false≢true e)
+into-agg nil k e = absurd (omega arith)
+into-agg (agg h cs rest) k e = refl
+into-agg (lit h c rest) k e = absurd (false≢true e)
+into-agg (rec p s r rest) k e = absurd (false≢true e)
 
--- The search at pos, in a row that ends at stop, leads to t.
-pub record Sought (l : List ℕ) (st : Config) (p pos stop t : ℕ) : Type 0 where
+-- The search for d at pos, in a row that ends at stop, leads to t.
+pub record SeeksD (l : List ℕ) (st : Config) (p pos stop t : ℕ) : Type 0 where
   pub kids : Kids l pos stop
   pub same : startOf st p pos (kids .row) ≡ t
 
-module _ (l : List ℕ) (st : Config) (p tol pos stop t n : ℕ) (te : st .tolerance ≡ tol) (w : Sought l st p pos stop t) (is : n ≡ sizeAt l pos) where
-  n-is : n ≡ sizeOf (w .kids .row)
-  n-is = is ∙ first (w .kids) .size-is
-
-  pub sought-fits : (pos + 6 ≤ length l) × ((6 ≤ n) × ((pos + n ≤ stop) × (stop ≤ length l)))
-  sought-fits = omega (arith, n-is, first (w .kids) .more, first (w .kids) .total, first (w .kids) .within, w .kids .ends)
-
+module _ {l : List ℕ} {st : Config} {p tol pos stop t n : ℕ} (te : st .tolerance ≡ tol) (w : SeeksD l st p pos stop t) (is : n ≡ sizeAt l pos) where
   -- the choice in terms of what is read
   read : t ≡ cond (ltb (pos + n) stop && leb (pos + n) p) (startOf st p (pos + n) (restOf (w .kids .row)))
-      (cond (mayStand (getD l pos 0) 1 && (ltb 6 n && leb tol n)) (startOf st p (pos + 6) (kidsOf (w .kids .row))) pos)
+      (cond (mayStand (kindAt l pos) 1 && (ltb 6 n && leb tol n)) (startOf st p (pos + 6) (kidsOf (w .kids .row))) pos)
   read =
       let r = w .kids .row in
       let e : stop ≡ pos + sizeOf r + size (restOf r) = omega (arith, first (w .kids) .total, w .kids .ends) in
-      rw (n-is, first (w .kids) .kind-is, ← goes-read p (pos + sizeOf r) stop (restOf r) e, ← into-read st tol r (w .kids .some) te)
+      rw (n-is (w .kids) is, first (w .kids) .kind-is, ← goes-read p (pos + sizeOf r) stop (restOf r) e, ← into-read st tol r (w .kids .some) te)
       (sym (w .same) ∙ start-by st p pos r (w .kids .some))
 
-  pub next-step : pos + n < stop → ltb (pos + n) stop && leb (pos + n) p ≡ true → Sought l st p (pos + n) stop t
-  next-step k h = record {
-    kids = record {
-      row = restOf (w .kids .row);
-      stands = rw n-is (first (w .kids) .rest);
-      some = omega (arith, n-is, first (w .kids) .total, w .kids .ends);
-      ends = omega (arith, n-is, first (w .kids) .total, w .kids .ends);
-      small = w .kids .small;
-    };
-    same = sym (rw h at read);
-  }
+  pub next-step : pos + n < stop → ltb (pos + n) stop && leb (pos + n) p ≡ true → SeeksD l st p (pos + n) stop t
+  next-step k h = record { kids = behind (w .kids) is k; same = sym (rw h at read) }
 
-  pub into-step : ltb (pos + n) stop && leb (pos + n) p ≡ false → mayStand (getD l pos 0) 1 ≡ true → ltb 6 n ≡ true → leb tol n ≡ true → Sought l st p (pos + 6) (pos + n) t
+  pub into-step : ltb (pos + n) stop && leb (pos + n) p ≡ false → mayStand (kindAt l pos) 1 ≡ true → ltb 6 n ≡ true → leb tol n ≡ true
+      → SeeksD l st p (pos + 6) (pos + n) t
   into-step h e k m =
-      let s : sizeOf (w .kids .row) ≡ 6 + size (kidsOf (w .kids .row)) = kids-size (w .kids .row) (w .kids .some) (rw (first (w .kids) .kind-is) at e) in
-      let g : mayStand (getD l pos 0) 1 && (ltb 6 n && leb tol n) ≡ true = rw (e, k, m) in
+      let g : mayStand (kindAt l pos) 1 && (ltb 6 n && leb tol n) ≡ true = rw (e, k, m) in
       record {
-        kids = record {
-          row = kidsOf (w .kids .row);
-          stands = first (w .kids) .kids;
-          some = omega (arith, n-is, s, ltb-true 6 n k);
-          ends = omega (arith, n-is, s);
-          small = omega (arith, sought-fits, w .kids .small);
-        };
+        kids = within (w .kids) is (into-agg (w .kids .row) (w .kids .some) (rw (first (w .kids) .kind-is) at e)) (ltb-true 6 n k);
         same = sym (rw (h, g) at read);
       }
 
-  pub here-step : ltb (pos + n) stop && leb (pos + n) p ≡ false → mayStand (getD l pos 0) 1 && (ltb 6 n && leb tol n) ≡ false → pos ≡ t
+  pub here-step : ltb (pos + n) stop && leb (pos + n) p ≡ false → mayStand (kindAt l pos) 1 && (ltb 6 n && leb tol n) ≡ false → pos ≡ t
   here-step h g = sym (rw (h, g) at read)
 
 -- ── the child at one level ──
@@ -143,7 +125,8 @@ size-by : (b : Bool) (one P : Row) (n : ℕ) → size (one ⊹ P) ≡ n + size P
 size-by true one P n e = e
 size-by false one P n e = refl
 
-passed-by : (p pos : ℕ) (r : Row) → 0 < size r → size (passed p pos r) ≡ cond (goes p (pos + sizeOf r) (restOf r)) (sizeOf r + size (passed p (pos + sizeOf r) (restOf r))) 0
+passed-by : (p pos : ℕ) (r : Row) → 0 < size r
+    → size (passed p pos r) ≡ cond (goes p (pos + sizeOf r) (restOf r)) (sizeOf r + size (passed p (pos + sizeOf r) (restOf r))) 0
 unfolding passed
 passed-by p pos nil h = absurd (omega arith)
 passed-by p pos (agg h cs rest) k = size-by (goes p (pos + (6 + size cs)) rest) (agg h cs nil) (passed p (pos + (6 + size cs)) rest) (6 + size cs) refl
@@ -151,51 +134,36 @@ passed-by p pos (lit h c rest) k = size-by (goes p (pos + (6 + length c)) rest) 
 passed-by p pos (rec q s r rest) k = size-by (goes p (pos + 8) rest) (rec q s r nil) (passed p (pos + 8) rest) 8 refl
 
 -- The search for the child at pos, in a row that ends at `end`, leads to t.
-pub record Going (l : List ℕ) (p pos end t : ℕ) : Type 0 where
+pub record SeeksChild (l : List ℕ) (p pos end t : ℕ) : Type 0 where
   pub kids : Kids l pos end
   pub same : pos + size (passed p pos (kids .row)) ≡ t
 
-module _ (l : List ℕ) (p pos end t n : ℕ) (w : Going l p pos end t) (is : n ≡ sizeAt l pos) where
-  k-is : n ≡ sizeOf (w .kids .row)
-  k-is = is ∙ first (w .kids) .size-is
-
-  pub going-fits : (pos + 6 ≤ length l) × ((6 ≤ n) × ((pos + n ≤ end) × (end ≤ length l)))
-  going-fits = omega (arith, k-is, first (w .kids) .more, first (w .kids) .total, first (w .kids) .within, w .kids .ends)
-
+module _ {l : List ℕ} {p pos end t n : ℕ} (w : SeeksChild l p pos end t) (is : n ≡ sizeAt l pos) where
   looks : t ≡ pos + cond (ltb (pos + n) end && leb (pos + n) p) (n + size (passed p (pos + n) (restOf (w .kids .row)))) 0
   looks =
       let r = w .kids .row in
       let e : end ≡ pos + sizeOf r + size (restOf r) = omega (arith, first (w .kids) .total, w .kids .ends) in
-      rw (k-is, ← goes-read p (pos + sizeOf r) end (restOf r) e) (sym (w .same) ∙ ap (λ (z : ℕ). pos + z) (passed-by p pos r (w .kids .some)))
+      rw (n-is (w .kids) is, ← goes-read p (pos + sizeOf r) end (restOf r) e) (sym (w .same) ∙ ap (λ (z : ℕ). pos + z) (passed-by p pos r (w .kids .some)))
 
-  pub going-on : pos + n < end → ltb (pos + n) end && leb (pos + n) p ≡ true → Going l p (pos + n) end t
-  going-on h e = record {
-    kids = record {
-      row = restOf (w .kids .row);
-      stands = rw k-is (first (w .kids) .rest);
-      some = omega (arith, k-is, first (w .kids) .total, w .kids .ends);
-      ends = omega (arith, k-is, first (w .kids) .total, w .kids .ends);
-      small = w .kids .small;
-    };
-    same = add-assoc pos n _ ∙ sym (rw e at looks);
-  }
+  pub child-on : pos + n < end → ltb (pos + n) end && leb (pos + n) p ≡ true → SeeksChild l p (pos + n) end t
+  child-on h e = record { kids = behind (w .kids) is h; same = add-assoc pos n _ ∙ sym (rw e at looks) }
 
-  pub going-here : ltb (pos + n) end && leb (pos + n) p ≡ false → pos ≡ t
-  going-here e = sym ((rw e at looks) ∙ add-zero pos)
+  pub child-here : ltb (pos + n) end && leb (pos + n) p ≡ false → pos ≡ t
+  child-here e = sym ((rw e at looks) ∙ add-zero pos)
 
 -- ── whether the split goes on ──
 
 module _ (l : List ℕ) (x end : ℕ) (w : Kids l x end) (st : Config) (tol n : ℕ) (te : st .tolerance ≡ tol) (is : n ≡ sizeAt l x) where
-  into-is : goesInto st (w .row) ≡ mayStand (getD l x 0) 1 && (ltb 6 n && leb tol n)
+  into-is : goesInto st (w .row) ≡ mayStand (kindAt l x) 1 && (ltb 6 n && leb tol n)
   into-is = rw (is, first w .size-is, first w .kind-is) (into-read st tol (w .row) (w .some) te)
 
-  pub into-no : mayStand (getD l x 0) 1 ≡ false → false ≡ goesInto st (w .row)
+  pub into-no : mayStand (kindAt l x) 1 ≡ false → false ≡ goesInto st (w .row)
   into-no h = sym (into-is ∙ rw h)
 
-  pub into-empty : mayStand (getD l x 0) 1 ≡ true → n ≤ 6 → false ≡ goesInto st (w .row)
+  pub into-empty : mayStand (kindAt l x) 1 ≡ true → n ≤ 6 → false ≡ goesInto st (w .row)
   into-empty h g = sym (into-is ∙ rw (h, le-ltb 6 n g))
 
-  pub into-size : mayStand (getD l x 0) 1 ≡ true → 6 < n → leb tol n ≡ goesInto st (w .row)
+  pub into-size : mayStand (kindAt l x) 1 ≡ true → 6 < n → leb tol n ≡ goesInto st (w .row)
   into-size h g = sym (into-is ∙ rw (h, lt-ltb 6 n g))
 
 -- ── whether a group stays ──

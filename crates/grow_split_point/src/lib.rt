@@ -1,13 +1,14 @@
 // Where a record splits: the split point, the node d, the child of a level at which the split goes on.
+use base_layout::size_at;
 use base_node_kinds::may_stand;
-use base_numbers::two;
 use base_numbers::wide;
 ghost use mathlib.Core.Path.{_≡_};
 ghost use mathlib.Core.Bool.{_||_};
 ghost use Prim.Native.Nat.{ℕ, _+_, _≤_, _<_};
-ghost use lib.ListN.{length, getD};
+ghost use lib.ListN.{length};
 ghost use lib.IntN.{subℕ};
 ghost use Rattle.model.specs.Row.{Row, size, bytes, isNil, loneRec, Config};
+ghost use Rattle.model.specs.Reading.{kindAt};
 ghost use Rattle.model.specs.Growth.{splitPoint, startOf};
 ghost use Rattle.model.specs.Claims.{InLean};
 ghost use Rattle.grow_split_point.specs.Stands.{Kids};
@@ -29,7 +30,7 @@ pub fn start_of(buf: &[u8], start: usize, end: usize, p: usize, tolerance: usize
     let mut pos = start;
     let mut stop = end;
     loop {
-        let size = two(buf, pos + 4);
+        let size = size_at(buf, pos);
         let next = pos + size;
         if next < stop && next <= p {
             pos = next;
@@ -49,7 +50,7 @@ pub fn child(buf: &[u8], start: usize, end: usize, p: usize) -> usize
 {
     let mut pos = start;
     loop {
-        let next = pos + two(buf, pos + 4);
+        let next = pos + size_at(buf, pos);
         if next < end && next <= p {
             pos = next;
         } else {
@@ -60,10 +61,10 @@ pub fn child(buf: &[u8], start: usize, end: usize, p: usize) -> usize
 
 // Whether the split goes on inside the node at x: only where an aggregate may stand in it.
 pub fn enters(buf: &[u8], x: usize, tolerance: usize) -> bool
-    requires { ⌜ (x + 6 ≤ length (now buf)) × (getD (now buf) x 0 < 5) ⌝ }
+    requires { ⌜ (x + 6 ≤ length (now buf)) × (kindAt (now buf) x < 5) ⌝ }
     ensures { λ r. ⌜ ((end : ℕ) (w : Kids (now (buf .entry)) x end) (st : Config) → st .tolerance ≡ tolerance → r ≡ goesInto st (w .row)) ⌝ }
 {
-    let size = two(buf, x + 4);
+    let size = size_at(buf, x);
     if !may_stand(wide(buf[x]), 1) {
         return false;
     }

@@ -4,18 +4,19 @@ use mathlib.Core.Bool.{cond}
 use mathlib.Core.List.{List, [], _∷_, _++_, append-assoc, append-nil, map}
 use Prim.Native.Nat.{ℕ, suc, _+_, _*_, _-_, _≤_, _<_, max}
 use native.Mathlib.Omega.{arith}
-use lib.ListN.{length, getD, take, drop, length-append}
+use lib.ListN.{length, take, drop, length-append}
 use lib.Dec.{eqb}
 use borrow.Author.Tests.{eq-eqb, ne-eqb}
 use Rattle.model.specs.Limits.{pageSize, mostBytes}
 use Rattle.model.specs.Row.{Head, Row, nil, agg, lit, rec, size, base}
 use Rattle.model.specs.Tree.{Tree, end, branch, leaf, _⊞_, shown, Node, nodes, below, further}
-use Rattle.model.specs.Reading.{twoAt, sizeAt, nameAt}
-use Rattle.theory_layout.specs.Here.{PageIn, Here, agg-view, lit-view, rec-view}
+use Rattle.model.specs.Reading.{sizeAt, nameAt, kindAt, headAt}
+use Rattle.theory_row_bytes.specs.RowAt.{RowAt, sizeOf, restOf}
+use Rattle.theory_layout.specs.Here.{PageIn, Here, view}
 use Rattle.read_find.specs.Rowed.{startOn, endOn}
 use Rattle.listing_text.specs.Text.{lineOf, letterOf, linesOf}
 use Rattle.listing_text.specs.Wrote.{Room, Wrote, nothing, then, same-text}
-use Rattle.listing_text.specs.declared.RowAt.{RowAt}
+use Rattle.listing_text.specs.declared.Extent.{Extent}
 
 -- ── the lines of a row ──
 
@@ -29,7 +30,8 @@ rowText l (rec p s r rest) = rowText l r ++ rowText l rest
 lines-append : (l : ℕ) (a b : List Node) → linesOf l (a ++ b) ≡ linesOf l a ++ linesOf l b
 unfolding linesOf
 lines-append l [] b = refl
-lines-append l (n ∷ a) b = rw (lines-append l a b) (sym (append-assoc (lineOf (l + length (n .path)) (letterOf (n .kind)) (n .head .label) (n .content)) (linesOf l a) (linesOf l b)))
+lines-append l (n ∷ a) b =
+    rw (lines-append l a b) (sym (append-assoc (lineOf (l + length (n .path)) (letterOf (n .kind)) (n .head .label) (n .content)) (linesOf l a) (linesOf l b)))
 
 -- A node's level does not depend on its number in its row, and is one more from the row above.
 lines-further : (l k : ℕ) (a : List Node) → linesOf l (map (further k) a) ≡ linesOf l a
@@ -45,7 +47,8 @@ lines-below l (n ∷ a) =
     rw (e, lines-below l a)
 
 -- The lines of a branch: its own, those of its children, those of the nodes after it.
-lines-branch : (l : ℕ) (h : Head) (cs rest : Tree) → linesOf l (nodes (branch h cs rest)) ≡ lineOf l 65 (h .label) [] ++ linesOf (l + 1) (nodes cs) ++ linesOf l (nodes rest)
+lines-branch : (l : ℕ) (h : Head) (cs rest : Tree)
+    → linesOf l (nodes (branch h cs rest)) ≡ lineOf l 65 (h .label) [] ++ linesOf (l + 1) (nodes cs) ++ linesOf l (nodes rest)
 unfolding linesOf
 lines-branch l h cs rest =
     let e : l + 0 ≡ l = omega arith in
@@ -103,113 +106,113 @@ pub record At (img : List ℕ) (i next end level depth : ℕ) : Type 0 where
 -- What a node at i that ends at next prints by itself, and the row that it holds.
 abbrev pub ownOf : (img : List ℕ) → (i next level : ℕ) → List ℕ
 ownOf img i next level =
-    let aggregate = lineOf level 65 (twoAt img (i + 2)) [] in
-    let literal = lineOf level 76 (twoAt img (i + 2)) (take (next - (i + 6)) (drop (i + 6) img)) in
-    cond (eqb (getD img i 0) 1) aggregate (cond (eqb (getD img i 0) 2) literal [])
+    let aggregate = lineOf level 65 (headAt img i .label) [] in
+    let literal = lineOf level 76 (headAt img i .label) (take (next - (i + 6)) (drop (i + 6) img)) in
+    cond (eqb (kindAt img i) 1) aggregate (cond (eqb (kindAt img i) 2) literal [])
 
-abbrev pub insideOf : (img : List ℕ) → (i next level : ℕ) → RowAt
+abbrev pub insideOf : (img : List ℕ) → (i next level : ℕ) → Extent
 insideOf img i next level =
     let p = nameAt img i in
-    let children : RowAt = record { start = i + 6; stop = next; level = level + 1 } in
-    let under : RowAt = record { start = startOn img p; stop = endOn img p; level = level } in
-    let none : RowAt = record { start = next; stop = next; level = level } in
-    cond (eqb (getD img i 0) 1) children (cond (eqb (getD img i 0) 3) under none)
+    let children : Extent = record { start = i + 6; stop = next; level = level + 1 } in
+    let under : Extent = record { start = startOn img p; stop = endOn img p; level = level } in
+    let none : Extent = record { start = next; stop = next; level = level } in
+    cond (eqb (kindAt img i) 1) children (cond (eqb (kindAt img i) 3) under none)
+
+-- Its bytes are in the image.
+pub node-fits : {img : List ℕ} {i next end level depth : ℕ} → At img i next end level depth
+    → (i + 6 ≤ next) × ((next ≤ end) × ((end + 16 ≤ length img) × (end < mostBytes)))
+node-fits a =
+    let w = a .lined in
+    let v = view (w .here) (omega (arith, w .ends, a .some)) in
+    omega (arith, a .long, v .size-is, v .more, v .total, w .ends, w .here .room, w .here .on .inside, w .here .on .high)
 
 -- The node's line, the row inside it and the row behind it are the whole.
-pub record Step (img : List ℕ) (i next end level depth : ℕ) (x : RowAt) (own : List ℕ) (row : Row) : Type 0 where
-  pub more : i + 6 ≤ next
-  pub within : next ≤ end
-  pub room : end + 16 ≤ length img
-  pub small : end < mostBytes
+pub record NodeLines (img : List ℕ) (i next end level depth : ℕ) (x : Extent) (own : List ℕ) (row : Row) : Type 0 where
   pub below : 1 ≤ depth
-  pub sum : level + depth ≤ 4294967296
-  pub names : getD img i 0 ≡ 3 → PageIn img (nameAt img i) × (i + 8 ≤ next)
+  pub names : kindAt img i ≡ 3 → PageIn img (nameAt img i) × (i + 8 ≤ next)
   pub inside : Lined img (x .start) (x .stop) (x .level) (depth - 1)
   pub after : Lined img next end level depth
   pub text : rowText level row ≡ own ++ rowText (x .level) (inside .row) ++ rowText level (after .row)
 
-module _ (img : List ℕ) (i next end level depth : ℕ) (some : i < end) (long : next ≡ i + sizeAt img i) where
-  step-row : (page : ℕ) (row : Row) → Here img page i row → end ≡ i + size row → span row ≤ depth → level + depth ≤ 4294967296
-      → Step img i next end level depth (insideOf img i next level) (ownOf img i next level) row
-  unfolding rowText
-  step-row page nil h e d l = absurd (omega arith)
-  step-row page (agg k cs rest) h e d l =
-      let v = agg-view img page i k cs rest h in
-      let z : i + (6 + size cs) ≡ next = omega (arith, v .long) in
-      rw (v .kind) record {
-        more = omega (arith, v .long);
-        within = omega (arith, v .long);
-        room = omega (arith, h .room, h .on .inside);
-        small = omega (arith, h .room, h .on .high);
-        below = omega arith;
-        sum = l;
-        names = λ y. absurd (omega (arith, v .kind));
-        inside = record { page = page; row = cs; here = v .children; ends = omega arith; deep = omega arith; low = omega arith };
-        after = record { page = page; row = rest; here = subst (λ (n : ℕ). Here img page n rest) z (v .after); ends = omega arith; deep = omega arith; low = l };
-        text = rw (v .label);
+span-first : (r : Row) → 0 < size r → (1 ≤ span r) × (span (restOf r) ≤ span r)
+span-first nil h = absurd (omega arith)
+span-first (agg k cs rest) h = (omega arith, omega arith)
+span-first (lit k c rest) h = (omega arith, omega arith)
+span-first (rec p s r rest) h = (omega arith, omega arith)
+
+module _ {img : List ℕ} {i next end level depth : ℕ} (a : At img i next end level depth) where
+  page : ℕ
+  page = a .lined .page
+
+  low : level + depth ≤ 4294967296
+  low = a .lined .low
+
+  -- the row behind it
+  abbrev behind : (row : Row) → Here img page i row → end ≡ i + size row → span row ≤ depth → Lined img next end level depth
+  behind row h e d =
+      let some : 0 < size row = omega (arith, a .some) in
+      let v = view h some in
+      let n = span-first row some in
+      let z : i + sizeOf row ≡ next = omega (arith, a .long, v .size-is) in
+      record {
+        page = page;
+        row = restOf row;
+        here = subst (λ (n : ℕ). Here img page n (restOf row)) z (v .after);
+        ends = omega (arith, v .total);
+        deep = omega arith;
+        low = low;
       }
-  step-row page (lit k c rest) h e d l =
-      let v = lit-view img page i k c rest h in
-      let z : i + (6 + length c) ≡ next = omega (arith, v .long) in
-      let n : next - (i + 6) ≡ length c = omega arith in
-      rw (v .kind) record {
-        more = omega (arith, v .long);
-        within = omega (arith, v .long);
-        room = omega (arith, h .room, h .on .inside);
-        small = omega (arith, h .room, h .on .high);
+
+  lines-by : (row : Row) → Here img page i row → end ≡ i + size row → span row ≤ depth
+      → NodeLines img i next end level depth (insideOf img i next level) (ownOf img i next level) row
+  unfolding rowText
+  lines-by nil h e d = absurd (omega (arith, a .some))
+  lines-by (agg k cs rest) h e d =
+      let v = view h (omega arith) in
+      let label : headAt img i .label ≡ k .label = ap (λ (h : Head). h .label) (v .head-is) in
+      rw (v .kind-is) record {
         below = omega arith;
-        sum = l;
-        names = λ y. absurd (omega (arith, v .kind));
-        inside = record {
-          page = page;
-          row = nil;
-          here = nil-here;
-          ends = omega arith;
-          deep = omega arith;
-          low = omega arith;
-        };
-        after = record { page = page; row = rest; here = subst (λ (n : ℕ). Here img page n rest) z (v .after); ends = omega arith; deep = omega arith; low = l };
-        text = rw (v .label, n, v .content, append-nil);
+        names = λ y. absurd (omega (arith, v .kind-is));
+        inside = record { page = page; row = cs; here = v .children; ends = omega (arith, a .long, v .size-is); deep = omega arith; low = omega (arith, low) };
+        after = behind (agg k cs rest) h e d;
+        text = rw label;
+      }
+  lines-by (lit k c rest) h e d =
+      let v = view h (omega arith) in
+      let label : headAt img i .label ≡ k .label = ap (λ (h : Head). h .label) (v .head-is) in
+      let n : next - (i + 6) ≡ length c = omega (arith, a .long, v .size-is) in
+      rw (v .kind-is) record {
+        below = omega arith;
+        names = λ y. absurd (omega (arith, v .kind-is));
+        inside = record { page = page; row = nil; here = none; ends = omega arith; deep = omega arith; low = omega (arith, low) };
+        after = behind (lit k c rest) h e d;
+        text = rw (label, n, v .content, append-nil);
       }
     where
-      nil-here : Here img page next nil
-      nil-here =
-          let v = lit-view img page i k c rest h in
-          let z : i + (6 + length c) ≡ next = omega (arith, v .long) in
-          record {
-            post = drop next img;
-            is = refl;
-            on = h .on;
-            start = omega (arith, h .start);
-            room = omega (arith, h .room);
-            fits = tt;
-            stored = tt;
-            names = λ q y. absurd (omega arith);
-          }
-  step-row page (rec p s r rest) h e d l =
-      let v = rec-view img page i p s r rest h in
+      none : Here img page next nil
+      none =
+          let n = node-fits a in
+          let at : RowAt img next nil = record { post = drop next img; is = refl } in
+          record
+          { at = at; on = h .on; start = omega (arith, h .start); room = omega (arith, h .room); fits = tt; stored = tt; names = λ q y. absurd (omega arith) }
+  lines-by (rec p s r rest) h e d =
+      let v = view h (omega arith) in
       let u = v .under in
-      let z : i + 8 ≡ next = omega (arith, v .long) in
-      let a : startOn img (nameAt img i) ≡ pageSize * p + base r = ap (startOn img) (v .name) ∙ ap (λ (n : ℕ). pageSize * p + n) (u .first) in
-      let b : endOn img (nameAt img i) ≡ pageSize * p + (base r + size r) = ap (endOn img) (v .name) ∙ ap (λ (n : ℕ). pageSize * p + n) (u .used) in
-      rw (v .kind) record {
-        more = omega (arith, v .long);
-        within = omega (arith, v .long);
-        room = omega (arith, h .room, h .on .inside);
-        small = omega (arith, h .room, h .on .high);
+      let name = v .name-is refl in
+      let x : startOn img (nameAt img i) ≡ pageSize * p + base r = ap (startOn img) name ∙ ap (λ (n : ℕ). pageSize * p + n) (u .first) in
+      let y : endOn img (nameAt img i) ≡ pageSize * p + (base r + size r) = ap (endOn img) name ∙ ap (λ (n : ℕ). pageSize * p + n) (u .used) in
+      rw (v .kind-is) record {
         below = omega arith;
-        sum = l;
-        names = λ y. (subst (PageIn img) (sym (v .name)) (u .here .on), omega arith);
-        inside = record { page = p; row = r; here = subst (λ (n : ℕ). Here img p n r) (sym a) (u .here); ends = omega (arith, a, b); deep = omega arith; low = omega arith };
-        after = record { page = page; row = rest; here = subst (λ (n : ℕ). Here img page n rest) z (v .after); ends = omega arith; deep = omega arith; low = l };
+        names = λ _. (subst (PageIn img) (sym name) (u .here .on), omega (arith, a .long, v .size-is));
+        inside =
+            record { page = p; row = r; here = rw x (u .here); ends = omega (arith, x, y); deep = omega arith; low = omega (arith, low) };
+        after = behind (rec p s r rest) h e d;
         text = refl;
       }
 
-pub step : {img : List ℕ} {i next end level depth : ℕ} → (a : At img i next end level depth)
-    → Step img i next end level depth (insideOf img i next level) (ownOf img i next level) (a .lined .row)
-step {img} {i} {next} {end} {level} {depth} a =
-    let w = a .lined in
-    step-row img i next end level depth (a .some) (a .long) (w .page) (w .row) (w .here) (w .ends) (w .deep) (w .low)
+  pub node-lines : NodeLines img i next end level depth (insideOf img i next level) (ownOf img i next level) (a .lined .row)
+  unfolding page
+  node-lines = lines-by (a .lined .row) (a .lined .here) (a .lined .ends) (a .lined .deep)
 
 -- ── a walk ──
 
@@ -219,32 +222,34 @@ pub record Fitting (img : List ℕ) (pos end level depth at : ℕ) (out : List �
   pub room : Room (rowText level (lined .row)) at out
 
 -- They are written.
-pub record Texted {img : List ℕ} {pos end level depth at : ℕ} {out : List ℕ} (w : Fitting img pos end level depth at out) (after : List ℕ) (n : ℕ) : Type 0 where
+pub record Texted {img : List ℕ} {pos end level depth at : ℕ} {out : List ℕ} (w : Fitting img pos end level depth at out) (after : List ℕ)
+    (n : ℕ) : Type 0 where
   pub wrote : Wrote (rowText level (w .lined .row)) at out after n
 
 -- Of the whole text t, what stands before node i is written, and the row from i on is left.
-pub record Going (img : List ℕ) (i end level depth at n : ℕ) (before now : List ℕ) (t : List ℕ) : Type 0 where
+pub record Underway (img : List ℕ) (i end level depth at n : ℕ) (before now : List ℕ) (t : List ℕ) : Type 0 where
   pub done : List ℕ
   pub rest : Lined img i end level depth
   pub wrote : Wrote done at before now n
   pub whole : t ≡ done ++ rowText level (rest .row)
   pub room : Room t at before
 
-pub going-start : {img : List ℕ} {pos end level depth at : ℕ} {out : List ℕ} → (w : Fitting img pos end level depth at out)
-    → Going img pos end level depth at at out out (rowText level (w .lined .row))
-going-start {img} {pos} {end} {level} {depth} {at} {out} w =
+pub underway-start : {img : List ℕ} {pos end level depth at : ℕ} {out : List ℕ} → (w : Fitting img pos end level depth at out)
+    → Underway img pos end level depth at at out out (rowText level (w .lined .row))
+underway-start {img} {pos} {end} {level} {depth} {at} {out} w =
     record { done = []; rest = w .lined; wrote = nothing at out (omega (arith, w .room .fits)); whole = refl; room = w .room }
 
-abbrev pub at-node : {img : List ℕ} {i end level depth : ℕ} (len : ℕ) → Lined img i end level depth → i < end → len ≡ sizeAt img i → At img i (i + len) end level depth
+abbrev pub at-node : {img : List ℕ} {i end level depth : ℕ} (len : ℕ) → Lined img i end level depth → i < end → len ≡ sizeAt img i
+    → At img i (i + len) end level depth
 at-node {img} {i} len w h e = record { lined = w; some = h; long = ap (λ (n : ℕ). i + n) e }
 
-pub step-at : {img : List ℕ} {i next end level depth : ℕ} → (a : At img i next end level depth) → (x : RowAt) → x ≡ insideOf img i next level
-    → Step img i next end level depth x (ownOf img i next level) (a .lined .row)
-step-at {img} {i} {next} {end} {level} {depth} a x e =
-    subst (λ (y : RowAt). Step img i next end level depth y (ownOf img i next level) (a .lined .row)) (sym e) (step a)
+pub lines-at : {img : List ℕ} {i next end level depth : ℕ} → (a : At img i next end level depth) → (x : Extent) → x ≡ insideOf img i next level
+    → NodeLines img i next end level depth x (ownOf img i next level) (a .lined .row)
+lines-at {img} {i} {next} {end} {level} {depth} a x e =
+    subst (λ (y : Extent). NodeLines img i next end level depth y (ownOf img i next level) (a .lined .row)) (sym e) (node-lines a)
 
-module _ {img : List ℕ} {i next end level depth at n : ℕ} {before now t own : List ℕ} {x : RowAt} (g : Going img i end level depth at n before now t)
-    (s : Step img i next end level depth x own (g .rest .row)) where
+module _ {img : List ℕ} {i next end level depth at n : ℕ} {before now t own : List ℕ} {x : Extent} (g : Underway img i end level depth at n before now t)
+    (s : NodeLines img i next end level depth x own (g .rest .row)) where
   total : length t ≡ length (g .done) + (length own + length (rowText (x .level) (s .inside .row)) + length (rowText level (s .after .row)))
   total = ap length (g .whole ∙ ap (λ (l : List ℕ). g .done ++ l) (s .text)) ∙ simp length-append
 
@@ -252,11 +257,13 @@ module _ {img : List ℕ} {i next end level depth at n : ℕ} {before now t own 
   own-room = record { fits = omega (arith, total, g .room .fits, g .wrote .ends, g .wrote .same) }
 
   pub inside-fitting : {m : ℕ} {mid : List ℕ} → Wrote own n now mid m → Fitting img (x .start) (x .stop) (x .level) (depth - 1) m mid
-  inside-fitting w = record { lined = s .inside; room = record { fits = omega (arith, total, g .room .fits, g .wrote .ends, g .wrote .same, w .ends, w .same) } }
+  inside-fitting w =
+      record { lined = s .inside; room = record { fits = omega (arith, total, g .room .fits, g .wrote .ends, g .wrote .same, w .ends, w .same) } }
 
-  pub going-on : {m k : ℕ} {mid after : List ℕ} → (w : Wrote own n now mid m) → Texted (inside-fitting w) after k → Going img next end level depth at k before after t
+  pub underway-on : {m k : ℕ} {mid after : List ℕ} → (w : Wrote own n now mid m) → Texted (inside-fitting w) after k
+      → Underway img next end level depth at k before after t
   unfolding inside-fitting
-  going-on w v = record {
+  underway-on w v = record {
     done = g .done ++ own ++ rowText (x .level) (s .inside .row);
     rest = s .after;
     wrote = then (then (g .wrote) w) (v .wrote);
@@ -264,9 +271,10 @@ module _ {img : List ℕ} {i next end level depth at n : ℕ} {before now t own 
     room = g .room;
   }
 
-pub going-end : {img : List ℕ} {i end level depth at n : ℕ} {before now t : List ℕ} → Going img i end level depth at n before now t → end ≤ i → Wrote t at before now n
+pub underway-end : {img : List ℕ} {i end level depth at n : ℕ} {before now t : List ℕ} → Underway img i end level depth at n before now t → end ≤ i
+    → Wrote t at before now n
 unfolding rowText
-going-end {img} {i} {end} {level} {depth} {at} {n} {before} {now} {t} g h = go (g .rest .row) (g .rest .ends) (g .whole)
+underway-end {img} {i} {end} {level} {depth} {at} {n} {before} {now} {t} g h = go (g .rest .row) (g .rest .ends) (g .whole)
   where
     go : (row : Row) → end ≡ i + size row → t ≡ g .done ++ rowText level row → Wrote t at before now n
     go nil e w = same-text (sym (w ∙ append-nil (g .done))) (g .wrote)
@@ -277,25 +285,25 @@ going-end {img} {i} {end} {level} {depth} {at} {n} {before} {now} {t} g h = go (
 -- ── a node by its kind ──
 
 module _ (img : List ℕ) (i next level : ℕ) where
-  pub inside-aggregate : getD img i 0 ≡ 1 → record { start = i + 6; stop = next; level = level + 1 } ≡ insideOf img i next level
-  inside-aggregate k = rw (eq-eqb (getD img i 0) 1 k)
+  pub inside-aggregate : kindAt img i ≡ 1 → record { start = i + 6; stop = next; level = level + 1 } ≡ insideOf img i next level
+  inside-aggregate k = rw (eq-eqb (kindAt img i) 1 k)
 
-  pub inside-proxy : (p a b : ℕ) → (getD img i 0 ≡ 1 → ⊥) → getD img i 0 ≡ 3 → p ≡ nameAt img i → a ≡ startOn img p → b ≡ endOn img p
+  pub inside-proxy : (p a b : ℕ) → (kindAt img i ≡ 1 → ⊥) → kindAt img i ≡ 3 → p ≡ nameAt img i → a ≡ startOn img p → b ≡ endOn img p
       → record { start = a; stop = b; level = level } ≡ insideOf img i next level
-  inside-proxy p a b k m e f g = rw (ne-eqb (getD img i 0) 1 k, eq-eqb (getD img i 0) 3 m, f, g, e)
+  inside-proxy p a b k m e f g = rw (ne-eqb (kindAt img i) 1 k, eq-eqb (kindAt img i) 3 m, f, g, e)
 
-  pub inside-none : (getD img i 0 ≡ 1 → ⊥) → (getD img i 0 ≡ 3 → ⊥) → record { start = next; stop = next; level = level } ≡ insideOf img i next level
-  inside-none k m = rw (ne-eqb (getD img i 0) 1 k, ne-eqb (getD img i 0) 3 m)
+  pub inside-none : (kindAt img i ≡ 1 → ⊥) → (kindAt img i ≡ 3 → ⊥) → record { start = next; stop = next; level = level } ≡ insideOf img i next level
+  inside-none k m = rw (ne-eqb (kindAt img i) 1 k, ne-eqb (kindAt img i) 3 m)
 
-  pub own-aggregate : (label : ℕ) → getD img i 0 ≡ 1 → label ≡ twoAt img (i + 2) → ownOf img i next level ≡ lineOf level 65 label []
-  own-aggregate label k e = rw (eq-eqb (getD img i 0) 1 k, e)
+  pub own-aggregate : (label : ℕ) → kindAt img i ≡ 1 → label ≡ headAt img i .label → ownOf img i next level ≡ lineOf level 65 label []
+  own-aggregate label k e = rw (eq-eqb (kindAt img i) 1 k, e)
 
-  pub own-literal : (label : ℕ) → (getD img i 0 ≡ 1 → ⊥) → getD img i 0 ≡ 2 → label ≡ twoAt img (i + 2)
+  pub own-literal : (label : ℕ) → (kindAt img i ≡ 1 → ⊥) → kindAt img i ≡ 2 → label ≡ headAt img i .label
       → ownOf img i next level ≡ lineOf level 76 label (take (next - (i + 6)) (drop (i + 6) img))
-  own-literal label k m e = rw (ne-eqb (getD img i 0) 1 k, eq-eqb (getD img i 0) 2 m, e)
+  own-literal label k m e = rw (ne-eqb (kindAt img i) 1 k, eq-eqb (kindAt img i) 2 m, e)
 
-  pub own-none : (getD img i 0 ≡ 1 → ⊥) → (getD img i 0 ≡ 2 → ⊥) → ownOf img i next level ≡ []
-  own-none k m = rw (ne-eqb (getD img i 0) 1 k, ne-eqb (getD img i 0) 2 m)
+  pub own-none : (kindAt img i ≡ 1 → ⊥) → (kindAt img i ≡ 2 → ⊥) → ownOf img i next level ≡ []
+  own-none k m = rw (ne-eqb (kindAt img i) 1 k, ne-eqb (kindAt img i) 2 m)
 
-pub named-page : {img : List ℕ} {i next end level depth : ℕ} (p : ℕ) → At img i next end level depth → getD img i 0 ≡ 3 → p ≡ nameAt img i → PageIn img p
-named-page {img} p a k e = subst (PageIn img) (sym e) (step a .names k .0)
+pub named-page : {img : List ℕ} {i next end level depth : ℕ} (p : ℕ) → At img i next end level depth → kindAt img i ≡ 3 → p ≡ nameAt img i → PageIn img p
+named-page {img} p a k e = subst (PageIn img) (sym e) (node-lines a .names k .0)

@@ -1,6 +1,8 @@
 // The text that the listing program prints for an input, written to a lent buffer.
+use base_layout::label_at;
+use base_layout::name_at;
+use base_layout::size_at;
 use base_numbers::copy_in;
-use base_numbers::two;
 use base_numbers::wide;
 use model::Settings;
 use read_find::row_end;
@@ -133,33 +135,33 @@ pub fn refused(number: usize, out: &mut [u8], at: usize) -> usize
 // ── the walk ──
 
 // The row that a node holds: where it starts and ends, and the level of its nodes.
-pub struct RowAt {
+pub struct Extent {
     pub start: usize,
     pub stop: usize,
     pub level: usize,
 }
 
 // An aggregate holds its children, one level down; a proxy stands for its record's row; a literal holds none.
-fn inside(image: &[u8], i: usize, next: usize, end: usize, level: usize, depth: usize) -> RowAt
+fn inside(image: &[u8], i: usize, next: usize, end: usize, level: usize, depth: usize) -> Extent
     requires { ⌜ At (now image) i next end level depth ⌝ }
     ensures { λ r. ⌜ r ≡ insideOf (now (image .entry)) i next level ⌝ }
 {
     if image[i] == 1 {
-        return RowAt {
+        return Extent {
             start: i + 6,
             stop: next,
             level: level + 1,
         };
     }
     if image[i] == 3 {
-        let p = two(image, i + 6);
-        return RowAt {
+        let p = name_at(image, i);
+        return Extent {
             start: row_start(image, p),
             stop: row_end(image, p),
             level: level,
         };
     }
-    RowAt {
+    Extent {
         start: next,
         stop: next,
         level: level,
@@ -181,7 +183,7 @@ fn own(
     requires { ⌜ Room (ownOf (now image) i next level) at (now out) ⌝ }
     ensures { λ r. ⌜ Wrote (ownOf (now (image .entry)) i next level) at (now (out .entry)) (now (out .exit)) r ⌝ }
 {
-    let label = two(image, i + 2);
+    let label = label_at(image, i);
     if image[i] == 1 {
         return line(level, b'A', label, &image[0..0], out, at);
     }
@@ -208,7 +210,7 @@ fn walk(
     let mut i = pos;
     let mut n = at;
     while i < end {
-        let next = i + two(image, i + 4);
+        let next = i + size_at(image, i);
         let x = inside(image, i, next, end, level, depth);
         let m = own(image, i, next, end, level, depth, out, n);
         n = walk(image, x.start, x.stop, x.level, depth - 1, out, m);

@@ -1,12 +1,10 @@
 -- From a record up to the root: the state of a climb, and the path that it ends with.
 use mathlib.Core.Path.{_≡_, refl, sym, ap, subst, _∙_}
-use mathlib.Core.Bool.{cond}
 use mathlib.Core.List.{List, [], _∷_, _++_}
 use mathlib.Core.Option.{some}
 use Prim.Native.Nat.{ℕ, suc, _+_, _*_, _-_, _/_, _≤_}
 use native.Mathlib.Omega.{arith}
-use lib.ListN.{length, getD, drop, length-append, drop-of-length-le}
-use lib.Dec.{eqb}
+use lib.ListN.{length, drop, length-append, drop-of-length-le}
 use Rattle.model.specs.Limits.{mostPages, pageSize, mostBytes, longestPath}
 use Rattle.model.specs.Row.{Row, base, Config}
 use Rattle.model.specs.Tree.{width, placeAt, placeOf}
@@ -20,7 +18,7 @@ use Rattle.theory_places.specs.Order.{lone-root, one-root}
 use Rattle.theory_layout.specs.Here.{OnPage}
 use Rattle.theory_layout.specs.Items.{Item, node, proxy, items, In, top, sub}
 use Rattle.theory_layout.specs.Order as order
-use Rattle.read_find.specs.Rowed.{width-steps}
+use Rattle.read_find.specs.Rowed.{startOn, width-steps}
 use Rattle.read_next.specs.Scan.{HeldBy, NodeAt}
 use Rattle.read_climb.specs.Route.{Has, has-split, number, way, Under, Finds, finds, place-levels, Within, lower}
 use Rattle.read_climb.specs.Search.{Tracing, wayOf, numberOf, Wrote}
@@ -49,7 +47,8 @@ pub record Parent (root : Row) (page : ℕ) (row : Row) (depth holder : ℕ) : T
   pub split : items (pageSize * holder + base whole) whole ≡ xs ++ proxy pos page row ∷ ys
   pub fewer : depth ≡ suc less
 
-pub parent : {root row : Row} {page holder : ℕ} {before after : List ℕ} {depth : ℕ} → In root page holder row before after depth → (page ≡ 1 → ⊥) → Parent root page row depth holder
+pub parent : {root row : Row} {page holder : ℕ} {before after : List ℕ} {depth : ℕ} → In root page holder row before after depth → (page ≡ 1 → ⊥)
+    → Parent root page row depth holder
 parent top k = absurd (k refl)
 parent (sub {holder = holder} {row = row} {before = before} {after = after} {depth = depth} i xs ys pos p r e) k = record {
   above = holder;
@@ -66,7 +65,8 @@ parent (sub {holder = holder} {row = row} {before = before} {after = after} {dep
 }
 
 -- What the search for that proxy asks.
-abbrev pub held : (img : List ℕ) (st : Config) (root : Row) → Reads img st root → (page : ℕ) (row : Row) (depth holder : ℕ) → Parent root page row depth holder → HeldBy img holder page
+abbrev pub held : (img : List ℕ) (st : Config) (root : Row) → Reads img st root → (page : ℕ) (row : Row) (depth holder : ℕ) → Parent root page row depth holder
+    → HeldBy img holder page
 held img st root reads page row depth holder p = record {
   above = record {
     settings = st;
@@ -123,7 +123,8 @@ pathBytes-++ : (a b : List ℕ) → pathBytes (a ++ b) ≡ pathBytes a ++ pathBy
 pathBytes-++ [] b = refl
 pathBytes-++ (n ∷ a) b = rw (pathBytes-++ a b)
 
-at-root : (root row : Row) (page at n : ℕ) (path : List ℕ) (x : Place) → page ≡ 1 → at ≡ 0 → n ≡ 0 → row ≡ root → placeAt page at n path row ≡ some x → placeOf root path ≡ some x
+at-root : (root row : Row) (page at n : ℕ) (path : List ℕ) (x : Place) → page ≡ 1 → at ≡ 0 → n ≡ 0 → row ≡ root → placeAt page at n path row ≡ some x
+    → placeOf root path ≡ some x
 at-root root row page at n path x a b c d e = sym (λ i. placeAt (a i) (b i) (c i) path (d i)) ∙ e
 
 module _ (img : List ℕ) (st : Config) (root : Row) (reads : Reads img st root) (x : Place) (page target carry at left : ℕ) (path : List ℕ)
@@ -147,7 +148,7 @@ module _ (img : List ℕ) (st : Config) (root : Row) (reads : Reads img st root)
   above holder p = omega (arith, c .shallow, p .fewer)
 
   -- What is asked of the trace of the record's row,
-  pub started : (start : ℕ) → start ≡ pageSize * page + cond (eqb (getD img (pageSize * page) 0) 4) 6 0
+  pub started : (start : ℕ) → start ≡ startOn img page
       → Started img start target carry at (number carry (c .has)) (way carry (c .has))
   started start e =
       let v = reads-valid img st root reads in
@@ -168,11 +169,12 @@ module _ (img : List ℕ) (st : Config) (root : Row) (reads : Reads img st root)
         high = omega (arith, c .ends);
         small = c .small;
       } in
-      subst (λ (z : ℕ). Started img z target carry at (number carry (c .has)) (way carry (c .has))) (sym (e ∙ ap (λ (n : ℕ). pageSize * page + n) (on-page .first)))
+      subst (λ (z : ℕ). Started img z target carry at (number carry (c .has)) (way carry (c .has)))
+      (sym (e ∙ ap (λ (n : ℕ). pageSize * page + n) (on-page .first)))
       (record { trace = t; number-is = refl; way-is = refl })
 
   -- and what it leaves: the number and path of x in the record's row.
-  module _ (start : ℕ) (e : start ≡ pageSize * page + cond (eqb (getD img (pageSize * page) 0) 4) 6 0) (index to : ℕ) (new : List ℕ)
+  module _ (start : ℕ) (e : start ≡ startOn img page) (index to : ℕ) (new : List ℕ)
       (t : Wrote (numberOf (started start e .trace)) (wayOf (started start e .trace)) at index to new path) where
     names : List ℕ
     names = way carry (c .has) ++ c .tail
@@ -187,14 +189,16 @@ module _ (img : List ℕ) (st : Config) (root : Row) (reads : Reads img st root)
     bytes : drop to new ≡ pathBytes names
     unfolding names
     bytes =
-        t .bytes ∙ ap (λ (z : List ℕ). pathBytes z ++ drop at path) (started start e .way-is) ∙ ap (λ (z : List ℕ). pathBytes (way carry (c .has)) ++ z) (c .bytes)
+        t .bytes ∙ ap (λ (z : List ℕ). pathBytes z ++ drop at path) (started start e .way-is)
+        ∙ ap (λ (z : List ℕ). pathBytes (way carry (c .has)) ++ z) (c .bytes)
         ∙ sym (pathBytes-++ (way carry (c .has)) (c .tail))
 
     pub rise-end : page ≡ 1 → Rose root x to new
     unfolding names
     rise-end one =
         let v = reads-valid img st root reads in
-        let here : In root 1 (c .holder) (c .row) (c .before) (c .after) (c .depth) = subst (λ (q : ℕ). In root q (c .holder) (c .row) (c .before) (c .after) (c .depth)) one (c .is) in
+        let here : In root 1 (c .holder) (c .row) (c .before) (c .after) (c .depth) =
+        subst (λ (q : ℕ). In root q (c .holder) (c .row) (c .before) (c .after) (c .depth)) one (c .is) in
         let whole : c .row ≡ root = order.same-row img st root reads here top in
         let low : base (c .row) ≡ 0 = ap base whole ∙ rw (lone-root st root v) in
         let single : width (c .row) ≡ 1 = ap width whole ∙ sym (breadth-shown root) ∙ one-root st root v in
@@ -231,10 +235,11 @@ module _ (img : List ℕ) (st : Config) (root : Row) (reads : Reads img st root)
 abbrev pub placeAtByte : (pos : ℕ) → Place
 placeAtByte pos = record { page = pos / pageSize; offset = pos - pageSize * (pos / pageSize) }
 
-pub rise-start : (img : List ℕ) (pos page : ℕ) (path : List ℕ) (w : NodeAt img pos) → page ≡ pos / pageSize → length path ≡ longestPath → Climb (w .root) (placeAtByte pos) page pos 0 longestPath mostPages path
+pub rise-start : (img : List ℕ) (pos page : ℕ) (path : List ℕ) (w : NodeAt img pos) → page ≡ pos / pageSize → length path ≡ longestPath
+    → Climb (w .root) (placeAtByte pos) page pos 0 longestPath mostPages path
 rise-start img pos page path w e n =
     let s = w .spot in
-    let h = order.spot-header img (w .settings) (w .root) (w .reads) pos s in
+    let h = order.node-header img (w .settings) (w .root) (w .reads) pos s in
     let same : s .page ≡ page = omega (arith, h .low, h .room) in
     let r : Climb (w .root) (placeAtByte pos) (s .page) pos 0 longestPath mostPages path = record {
       holder = s .holder;

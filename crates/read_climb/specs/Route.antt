@@ -1,5 +1,5 @@
 -- The way from a row to a node or a proxy in its record: its number in the row, and the child numbers from there on.
-use mathlib.Core.Path.{_≡_, sym, subst}
+use mathlib.Core.Path.{_≡_, sym, subst, refl, ap}
 use mathlib.Core.Bool.{Bool}
 use mathlib.Core.List.{List, [], _∷_, _++_, List·Memᴰ, List·Memᴰ·append-cases, List·Memᴰ·cases-cons, List·Memᴰ·not-nil}
 use mathlib.Core.Logic.{⊎-elim}
@@ -9,6 +9,8 @@ use native.Mathlib.Omega.{arith}
 use borrow.Author.Tests.{lt-ltb, le-ltb}
 use lib.ListN.{length}
 use lib.Dec.{ltb}
+use Rattle.theory_layout.specs.Widths.{firstWidth}
+use Rattle.theory_row_bytes.specs.RowAt.{sizeOf, restOf}
 use Rattle.model.specs.Limits.{pageSize}
 use Rattle.model.specs.Row.{Head, Row, nil, agg, lit, rec, size, base, height}
 use Rattle.model.specs.Tree.{width, placeAt}
@@ -32,7 +34,8 @@ pub has-item : (item : Item) (pos : ℕ) (row : Row) → List·Memᴰ item (item
 has-item item pos nil m = absurd (List·Memᴰ·not-nil m)
 has-item item pos (agg h cs rest) m =
     ⊎-elim agg-here
-    (λ n. ⊎-elim (λ a. agg-in (has-item item (pos + 6) cs a)) (λ b. agg-past (has-item item (pos + (6 + size cs)) rest b)) (List·Memᴰ·append-cases (items (pos + 6) cs) n))
+    (λ n. ⊎-elim (λ a. agg-in (has-item item (pos + 6) cs a)) (λ b. agg-past (has-item item (pos + (6 + size cs)) rest b))
+    (List·Memᴰ·append-cases (items (pos + 6) cs) n))
     (List·Memᴰ·cases-cons m)
 has-item item pos (lit h c rest) m = ⊎-elim lit-here (λ n. lit-past (has-item item (pos + (6 + length c)) rest n)) (List·Memᴰ·cases-cons m)
 has-item item pos (rec p s r rest) m = ⊎-elim rec-here (λ n. rec-past (has-item item (pos + 8) rest n)) (List·Memᴰ·cases-cons m)
@@ -111,6 +114,26 @@ module _ {item : Item} where
   spot-low pos (rec p s r rest) (rec-here e) = omega arith
   spot-low pos (rec p s r rest) (rec-past b) = omega (arith, spot-low (pos + 8) rest b)
 
+  -- It is past the row's first node, or there.
+  pub has-past : (pos : ℕ) (row : Row) (h : Has item pos row) → pos + sizeOf row ≤ order.at item
+      → (b : Has item (pos + sizeOf row) (restOf row)) × (spot b ≡ spot h) × (firstWidth row + before b ≡ before h)
+  has-past pos (agg h cs rest) (agg-here e) k = absurd (omega (arith, ap order.at e))
+  has-past pos (agg h cs rest) (agg-in b) k = absurd (omega (arith, has-high (pos + 6) cs b))
+  has-past pos (agg h cs rest) (agg-past b) k = (b, refl, omega arith)
+  has-past pos (lit h c rest) (lit-here e) k = absurd (omega (arith, ap order.at e))
+  has-past pos (lit h c rest) (lit-past b) k = (b, refl, omega arith)
+  has-past pos (rec p s r rest) (rec-here e) k = absurd (omega (arith, ap order.at e))
+  has-past pos (rec p s r rest) (rec-past b) k = (b, refl, refl)
+
+  pub has-first : (pos : ℕ) (row : Row) (h : Has item pos row) → order.at item < pos + sizeOf row → (spot h ≡ pos) × (before h ≡ 0)
+  has-first pos (agg h cs rest) (agg-here e) k = (refl, refl)
+  has-first pos (agg h cs rest) (agg-in b) k = (refl, refl)
+  has-first pos (agg h cs rest) (agg-past b) k = absurd (omega (arith, has-low (pos + (6 + size cs)) rest b))
+  has-first pos (lit h c rest) (lit-here e) k = (refl, refl)
+  has-first pos (lit h c rest) (lit-past b) k = absurd (omega (arith, has-low (pos + (6 + length c)) rest b))
+  has-first pos (rec p s r rest) (rec-here e) k = (refl, refl)
+  has-first pos (rec p s r rest) (rec-past b) k = absurd (omega (arith, has-low (pos + 8) rest b))
+
 -- ── what it finds ──
 
 -- Node `carry` of what an item of the record of `page` shows, with the path `tail` from there on, stands at x.
@@ -124,13 +147,15 @@ pub record Finds (page at : ℕ) (row : Row) (i : ℕ) (path : List ℕ) (x : Pl
   pub place : placeAt page at i path row ≡ some x
 
 module _ (page carry : ℕ) (tail : List ℕ) (x : Place) where
-  here : (at pos : ℕ) → pos ≡ pageSize * page + at → Under page (node pos) carry tail x → (carry ≡ 0) × (tail ≡ []) × (some (record { page = page; offset = at }) ≡ some x)
+  here : (at pos : ℕ) → pos ≡ pageSize * page + at → Under page (node pos) carry tail x
+      → (carry ≡ 0) × (tail ≡ []) × (some (record { page = page; offset = at }) ≡ some x)
   here at pos p u =
       let o : at ≡ x .offset = omega (arith, u .3) in
       (u .0, u .1, λ i. some (record { page = sym (u .2) i; offset = o i }))
 
   -- The number and way of an item lead to what the item leads to.
-  pub finds : (item : Item) (pos : ℕ) (row : Row) (h : Has item pos row) (at : ℕ) → pos ≡ pageSize * page + at → Under page item carry tail x → Finds page at row (number carry h) (way carry h ++ tail) x
+  pub finds : (item : Item) (pos : ℕ) (row : Row) (h : Has item pos row) (at : ℕ) → pos ≡ pageSize * page + at → Under page item carry tail x
+      → Finds page at row (number carry h) (way carry h ++ tail) x
   unfolding placeAt
   finds item pos (agg l cs rest) (agg-here e) at p u =
       let k = here at pos p (subst (λ (z : Item). Under page z carry tail x) e u) in

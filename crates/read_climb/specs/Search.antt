@@ -8,16 +8,18 @@ use lib.Seq.{drop-at, length-take-le}
 use Rattle.model.specs.Limits.{mostBytes, longestPath}
 use Rattle.model.specs.Row.{Row, nil, agg, lit, rec, size}
 use Rattle.model.specs.Tree.{width}
-use Rattle.model.specs.Reading.{sizeAt, nameAt}
+use Rattle.model.specs.Reading.{sizeAt, nameAt, kindAt}
 use Rattle.model.specs.Calls.{four, pathBytes}
 use Rattle.theory_decoding.specs.Steps.{steps}
 use Rattle.base_numbers.specs.Over.{over, over-is, length-over}
-use Rattle.theory_layout.specs.Here.{PageIn, Here, agg-view, lit-view, rec-view}
-use Rattle.theory_layout.specs.Widths.{Widths}
+use Rattle.theory_row_bytes.specs.RowAt.{sizeOf, restOf}
+use Rattle.theory_layout.specs.Here.{parts-less, PageIn, Here, View, view}
+use Rattle.theory_layout.specs.Widths.{Widths, firstWidth, plain-width}
 use Rattle.theory_layout.specs.Items.{Item}
 use Rattle.theory_layout.specs.Order as order
 use Rattle.read_find.specs.Rowed.{width-steps}
-use Rattle.read_climb.specs.Route.{Has, agg-here, agg-in, agg-past, lit-here, lit-past, rec-here, rec-past, spot, before, number, way, has-low, has-high, spot-low}
+use Rattle.read_climb.specs.Route.{Has, agg-here, agg-in, agg-past, lit-here, lit-past, rec-here, rec-past, spot, before, number, way, has-low}
+use Rattle.read_climb.specs.Route.{spot-low, has-past, has-first}
 
 -- ── a node of the row ──
 
@@ -29,58 +31,41 @@ pub record Standing (img : List ℕ) (i : ℕ) : Type 0 where
   pub some : 6 ≤ size row
   pub few : steps row ≤ mostBytes
 
--- How many nodes the first of a row shows.
-abbrev pub first : Row → ℕ
-first nil = 0
-first (agg h cs rest) = 1
-first (lit h c rest) = 1
-first (rec p s r rest) = width r
-
 pub header-inside : (img : List ℕ) (i : ℕ) → Standing img i → (i + 6 ≤ length img) × (i < mostBytes)
 header-inside img i w =
     let h = w .here in
     let p = h .on in
     omega (arith, w .some, h .room)
 
-long-row : (img : List ℕ) (i page : ℕ) (row : Row) → Here img page i row → 6 ≤ size row → 6 ≤ sizeAt img i
-long-row img i page nil h n = absurd (omega arith)
-long-row img i page (agg l cs rest) h n = omega (arith, agg-view img page i l cs rest h .long)
-long-row img i page (lit l c rest) h n = omega (arith, lit-view img page i l c rest h .long)
-long-row img i page (rec p s r rest) h n = omega (arith, rec-view img page i p s r rest h .long)
-
 pub header-long : (img : List ℕ) (i : ℕ) → Standing img i → 6 ≤ sizeAt img i
-header-long img i w = long-row img i (w .page) (w .row) (w .here) (w .some)
+header-long img i w = let v = view (w .here) (omega (arith, w .some)) in omega (arith, v .size-is, v .more)
 
-plain-row : (img : List ℕ) (i page : ℕ) (row : Row) → Here img page i row → 6 ≤ size row → (getD img i 0 ≡ 3 → ⊥) → 1 ≡ first row
-plain-row img i page nil h n k = absurd (omega arith)
-plain-row img i page (agg l cs rest) h n k = refl
-plain-row img i page (lit l c rest) h n k = refl
-plain-row img i page (rec p s r rest) h n k = absurd (k (rec-view img page i p s r rest h .kind))
-
-pub plain : (img : List ℕ) (i : ℕ) (w : Standing img i) → (getD img i 0 ≡ 3 → ⊥) → 1 ≡ first (w .row)
-plain img i w k = plain-row img i (w .page) (w .row) (w .here) (w .some) k
+pub plain : (img : List ℕ) (i : ℕ) (w : Standing img i) → (kindAt img i ≡ 3 → ⊥) → 1 ≡ firstWidth (w .row)
+plain img i w k =
+    let h : 0 < size (w .row) = omega (arith, w .some) in
+    sym (plain-width (w .row) h (λ e. k (view (w .here) h .kind-is ∙ e)))
 
 -- A proxy: the page that it names, and how many nodes the table has for it.
-pub record Proxied (img : List ℕ) (p n : ℕ) : Type 0 where
+pub record RecordTold (img : List ℕ) (p n : ℕ) : Type 0 where
   pub on : PageIn img p
   pub few : n ≤ mostBytes
   pub told : (c : List ℕ) → Widths img c → getD c p 0 ≡ n
 
-proxied-row : (img : List ℕ) (i p page : ℕ) (row : Row) → p ≡ nameAt img i → Here img page i row → 6 ≤ size row → steps row ≤ mostBytes → getD img i 0 ≡ 3 → Proxied img p (first row)
-proxied-row img i p page nil named h n f k = absurd (omega arith)
-proxied-row img i p page (agg l cs rest) named h n f k = absurd (omega (arith, agg-view img page i l cs rest h .kind))
-proxied-row img i p page (lit l c rest) named h n f k = absurd (omega (arith, lit-view img page i l c rest h .kind))
-proxied-row img i p page (rec q s r rest) named h n f k =
-    let v = rec-view img page i q s r rest h in
-    let same : p ≡ q = named ∙ v .name in
-    record {
-      on = subst (PageIn img) (sym same) (v .under .here .on);
-      few = omega (arith, width-steps r);
-      told = λ c t. ap (λ (m : ℕ). getD c m 0) same ∙ t .told q page r (h .on .low) (v .under);
-    }
-
-pub proxied : (img : List ℕ) (i p : ℕ) (w : Standing img i) → p ≡ nameAt img i → getD img i 0 ≡ 3 → Proxied img p (first (w .row))
-proxied img i p w named k = proxied-row img i p (w .page) (w .row) named (w .here) (w .some) (w .few) k
+pub record-told : (img : List ℕ) (i p : ℕ) (w : Standing img i) → p ≡ nameAt img i → kindAt img i ≡ 3 → RecordTold img p (firstWidth (w .row))
+record-told img i p w named k = go (w .row) (w .here) (w .some) (w .few)
+  where
+    go : (row : Row) → Here img (w .page) i row → 6 ≤ size row → steps row ≤ mostBytes → RecordTold img p (firstWidth row)
+    go nil h n f = absurd (omega arith)
+    go (agg l cs rest) h n f = absurd (omega (arith, view h (omega arith) .kind-is))
+    go (lit l c rest) h n f = absurd (omega (arith, view h (omega arith) .kind-is))
+    go (rec q s r rest) h n f =
+        let v = view h (omega arith) in
+        let same : p ≡ q = named ∙ v .name-is refl in
+        record {
+          on = subst (PageIn img) (sym same) (v .under .here .on);
+          few = omega (arith, width-steps r);
+          told = λ c t. ap (λ (m : ℕ). getD c m 0) same ∙ t .told q (w .page) r (h .on .low) (v .under);
+        }
 
 -- ── along the row ──
 
@@ -115,77 +100,44 @@ pub record Turned (img : List ℕ) (i n target : ℕ) (at passed fst : ℕ) : Ty
   pub same : spot (after .has) ≡ at
   pub counts : fst + before (after .has) ≡ passed
 
-module _ (img : List ℕ) (i n target : ℕ) (long : n ≡ sizeAt img i) where
-  module _ (item : Item) (starts : order.at item ≡ target) where
-    turn-row : i + n ≤ target → (page : ℕ) (row : Row) → Here img page i row → (b : Has item i row) → steps row ≤ mostBytes
-        → Turned img i n target (spot b) (before b) (first row)
-    turn-row on page (agg l cs rest) h (agg-here e) f = let v = agg-view img page i l cs rest h in absurd (omega (arith, ap order.at e, v .long))
-    turn-row on page (agg l cs rest) h (agg-in b) f = let v = agg-view img page i l cs rest h in absurd (omega (arith, has-high (i + 6) cs b, v .long))
-    turn-row on page (agg l cs rest) h (agg-past b) f =
-        let v = agg-view img page i l cs rest h in
-        let z : 6 + size cs ≡ n = omega (arith, v .long) in
-        subst (λ (m : ℕ). Turned img i m target (spot b) (suc (before b)) 1) z (record {
-          more = omega arith;
-          after = record { page = page; row = rest; here = v .after; item = item; starts = starts; has = b; few = omega arith };
-          same = refl;
-          counts = omega arith;
-        })
-    turn-row on page (lit l c rest) h (lit-here e) f = let v = lit-view img page i l c rest h in absurd (omega (arith, ap order.at e, v .long))
-    turn-row on page (lit l c rest) h (lit-past b) f =
-        let v = lit-view img page i l c rest h in
-        let z : 6 + length c ≡ n = omega (arith, v .long) in
-        subst (λ (m : ℕ). Turned img i m target (spot b) (suc (before b)) 1) z (record {
-          more = omega arith;
-          after = record { page = page; row = rest; here = v .after; item = item; starts = starts; has = b; few = omega arith };
-          same = refl;
-          counts = omega arith;
-        })
-    turn-row on page (rec p s r rest) h (rec-here e) f = let v = rec-view img page i p s r rest h in absurd (omega (arith, ap order.at e, v .long))
-    turn-row on page (rec p s r rest) h (rec-past b) f =
-        let v = rec-view img page i p s r rest h in
-        let z : 8 ≡ n = omega (arith, v .long) in
-        subst (λ (m : ℕ). Turned img i m target (spot b) (width r + before b) (width r)) z (record {
-          more = omega arith;
-          after = record { page = page; row = rest; here = v .after; item = item; starts = starts; has = b; few = omega arith };
-          same = refl;
-          counts = refl;
-        })
+module _ (img : List ℕ) (i n target : ℕ) (long : n ≡ sizeAt img i) (w : Search img i target) where
+  seen : View img (w .page) i (w .row)
+  seen = view (w .here) (omega (arith, has-some i (w .row) (w .has)))
 
-    stop-row : target < i + n → (page : ℕ) (row : Row) → Here img page i row → (b : Has item i row) → (spot b ≡ i) × (before b ≡ 0)
-    stop-row off page (agg l cs rest) h (agg-here e) = (refl, refl)
-    stop-row off page (agg l cs rest) h (agg-in b) = (refl, refl)
-    stop-row off page (agg l cs rest) h (agg-past b) =
-        let v = agg-view img page i l cs rest h in
-        absurd (omega (arith, has-low (i + (6 + size cs)) rest b, v .long))
-    stop-row off page (lit l c rest) h (lit-here e) = (refl, refl)
-    stop-row off page (lit l c rest) h (lit-past b) =
-        let v = lit-view img page i l c rest h in
-        absurd (omega (arith, has-low (i + (6 + length c)) rest b, v .long))
-    stop-row off page (rec p s r rest) h (rec-here e) = (refl, refl)
-    stop-row off page (rec p s r rest) h (rec-past b) =
-        let v = rec-view img page i p s r rest h in
-        absurd (omega (arith, has-low (i + 8) rest b, v .long))
+  n-is : n ≡ sizeOf (w .row)
+  unfolding seen
+  n-is = long ∙ seen .size-is
 
-  pub turn : (w : Search img i target) → i + n ≤ target → Turned img i n target (spot (w .has)) (before (w .has)) (first (w .row))
-  turn w on = turn-row (w .item) (w .starts) on (w .page) (w .row) (w .here) (w .has) (w .few)
+  pub turn : i + n ≤ target → Turned img i n target (spot (w .has)) (before (w .has)) (firstWidth (w .row))
+  turn on =
+      let (b, e, f) = has-past i (w .row) (w .has) (omega (arith, n-is, w .starts)) in
+      let l = parts-less (w .row) (omega (arith, has-some i (w .row) (w .has))) in
+      rw n-is (record {
+        more = seen .more;
+        after = record { page = w .page; row = restOf (w .row); here = seen .after; item = w .item; starts = w .starts; has = b; few = omega (arith, w .few) };
+        same = e;
+        counts = f;
+      })
 
   -- or ends at it.
-  pub stop : (w : Search img i target) → target < i + n → (spot (w .has) ≡ i) × (before (w .has) ≡ 0)
-  stop w off = stop-row (w .item) (w .starts) off (w .page) (w .row) (w .here) (w .has)
+  pub stop : target < i + n → (spot (w .has) ≡ i) × (before (w .has) ≡ 0)
+  stop off = has-first i (w .row) (w .has) (omega (arith, n-is, w .starts))
 
 -- What the search has found after some turns: it goes on at i, with n nodes passed.
-pub record Going (img : List ℕ) (target i n at passed : ℕ) : Type 0 where
+pub record Searching (img : List ℕ) (target i n at passed : ℕ) : Type 0 where
   pub now : Search img i target
   pub same : spot (now .has) ≡ at
   pub counts : n + before (now .has) ≡ passed
 
-pub go-on : (img : List ℕ) (target i n at passed len k : ℕ) → (g : Going img target i n at passed) → len ≡ sizeAt img i → i + len ≤ target → k ≡ first (g .now .row)
-    → Going img target (i + len) (n + k) at passed
+pub go-on : (img : List ℕ) (target i n at passed len k : ℕ) → (g : Searching img target i n at passed) → len ≡ sizeAt img i → i + len ≤ target
+    → k ≡ firstWidth (g .now .row)
+    → Searching img target (i + len) (n + k) at passed
 go-on img target i n at passed len k g long on e =
     let t = turn img i len target long (g .now) on in
     record { now = t .after; same = t .same ∙ g .same; counts = omega (arith, t .counts, g .counts) }
 
-pub go-end : (img : List ℕ) (target i n at passed len : ℕ) → (g : Going img target i n at passed) → len ≡ sizeAt img i → target < i + len → (i ≡ at) × (n ≡ passed)
+pub go-end : (img : List ℕ) (target i n at passed len : ℕ) → (g : Searching img target i n at passed) → len ≡ sizeAt img i → target < i + len
+    → (i ≡ at) × (n ≡ passed)
 go-end img target i n at passed len g long off =
     let s = stop img i len target long (g .now) off in
     (sym (s .0) ∙ g .same, omega (arith, s .1, g .counts))
@@ -216,7 +168,7 @@ module _ (img : List ℕ) (target carry : ℕ) (item : Item) (starts : order.at 
       → Below img target carry (spot b) (number carry b) (before b) (way carry b)
   below-row page pos (agg l cs rest) h (agg-here e) f k = absurd (k (ap order.at (sym e) ∙ starts))
   below-row page pos (agg l cs rest) h (agg-in b) f k =
-      let v = agg-view img page pos l cs rest h in
+      let v = view h (omega arith) in
       record {
         under = record { page = page; row = cs; here = v .children; item = item; starts = starts; has = b; few = omega arith };
         lower = omega (arith, has-low (pos + 6) cs b);
@@ -224,17 +176,17 @@ module _ (img : List ℕ) (target carry : ℕ) (item : Item) (starts : order.at 
         leads = refl;
       }
   below-row page pos (agg l cs rest) h (agg-past b) f k =
-      let v = agg-view img page pos l cs rest h in
+      let v = view h (omega arith) in
       let u = below-row page (pos + (6 + size cs)) rest (v .after) b (omega arith) k in
       record { under = u .under; lower = u .lower; same = ap suc (u .same); leads = u .leads }
   below-row page pos (lit l c rest) h (lit-here e) f k = absurd (k (ap order.at (sym e) ∙ starts))
   below-row page pos (lit l c rest) h (lit-past b) f k =
-      let v = lit-view img page pos l c rest h in
+      let v = view h (omega arith) in
       let u = below-row page (pos + (6 + length c)) rest (v .after) b (omega arith) k in
       record { under = u .under; lower = u .lower; same = ap suc (u .same); leads = u .leads }
   below-row page pos (rec p s r rest) h (rec-here e) f k = absurd (k (ap order.at (sym e) ∙ starts))
   below-row page pos (rec p s r rest) h (rec-past b) f k =
-      let v = rec-view img page pos p s r rest h in
+      let v = view h (omega arith) in
       let u = below-row page (pos + 8) rest (v .after) b (omega arith) k in
       record { under = u .under; lower = u .lower; same = ap (λ (n : ℕ). width r + n) (u .same); leads = u .leads }
 
@@ -275,7 +227,8 @@ drop-over at xs l h = ap (drop at) (over-is at xs l) ∙ drop-at (take at l) (xs
 
 module _ (img : List ℕ) (pos target carry at : ℕ) (w : Tracing img pos target carry at) (c : ℕ) (found : c ≡ spot (w .search .has)) where
   -- The item is at its node's start,
-  pub wrote-here : (passed : ℕ) (path : List ℕ) → passed ≡ before (w .search .has) → c ≡ target → length path ≡ longestPath → Wrote (numberOf w) (wayOf w) at (passed + carry) at path path
+  pub wrote-here : (passed : ℕ) (path : List ℕ) → passed ≡ before (w .search .has) → c ≡ target → length path ≡ longestPath
+      → Wrote (numberOf w) (wayOf w) at (passed + carry) at path path
   wrote-here passed path e k n =
       let s = w .search in
       let r = at-row img target carry (s .item) (s .starts) pos (s .row) (s .has) (sym found ∙ k) in

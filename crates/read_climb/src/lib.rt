@@ -1,7 +1,9 @@
 // The path of a node, from its place up to the root.
+use base_layout::back_at;
+use base_layout::name_at;
+use base_layout::size_at;
 use base_numbers::copy_in;
 use base_numbers::put32;
-use base_numbers::two;
 use model::Place;
 use model::Settings;
 use model::WriteAnswer;
@@ -13,21 +15,21 @@ ghost use Prim.Native.Nat.{_+_, _<_};
 ghost use lib.ListN.{length};
 ghost use Rattle.model.specs.Limits.{longestPath};
 ghost use Rattle.model.specs.Calls.{checkOf, climbOf};
-ghost use Rattle.theory_layout.specs.Widths.{Widths};
+ghost use Rattle.theory_layout.specs.Widths.{Widths, firstWidth};
 ghost use Rattle.read_next.specs.Scan.{NodeAt};
 ghost use Rattle.read_climb.specs.Route.{spot, before};
 ghost use Rattle.read_climb.specs.Rise.{Rose, placeAtByte};
-ghost use Rattle.read_climb.specs.Search.{Standing, first, Search, Tracing, numberOf, wayOf, Wrote};
+ghost use Rattle.read_climb.specs.Search.{Standing, Search, Tracing, numberOf, wayOf, Wrote};
 
 // How many nodes the one at byte i shows: a proxy as many as its record, which `widths` has.
 fn nodes_in(image: &[u8], widths: &[u32; Settings::PAGES], i: usize) -> usize
     requires { ⌜ Standing (now image) i × Widths (now image) (now widths) ⌝ }
-    ensures { λ r. ⌜ ((w : Standing (now (image .entry)) i) → r ≡ first (w .row)) ⌝ }
+    ensures { λ r. ⌜ ((w : Standing (now (image .entry)) i) → r ≡ firstWidth (w .row)) ⌝ }
 {
     if image[i] != 3 {
         return 1;
     }
-    let p = two(image, i + 6);
+    let p = name_at(image, i);
     widths[p] as usize
 }
 
@@ -44,9 +46,9 @@ fn child_at(image: &[u8], widths: &[u32; Settings::PAGES], pos: usize, target: u
 {
     let mut i = pos;
     let mut n = 0;
-    while i + two(image, i + 4) <= target {
+    while i + size_at(image, i) <= target {
         n = n + nodes_in(image, widths, i);
-        i = i + two(image, i + 4);
+        i = i + size_at(image, i);
     }
     Child { at: i, before: n }
 }
@@ -117,7 +119,7 @@ fn climb_path(
         if page == 1 {
             return at;
         }
-        let holder = two(image, Settings::PAGE * page + 4084);
+        let holder = back_at(image, Settings::PAGE * page);
         target = find_proxy(image, holder, page);
         page = holder;
         left = left - 1;

@@ -6,12 +6,12 @@ use mathlib.Core.Option.{Option, none, some}
 use Prim.Native.Nat.{ℕ, zero, suc, _+_, _*_, _-_, _/_, _%_, _≤_, _<_}
 use native.Mathlib.Omega.{arith}
 use borrow.Author.Tests.{ltb-true, ltb-false, lt-ltb, le-ltb}
-use lib.ListN.{length, getD, drop, drop-of-length-le}
+use lib.ListN.{length, drop, drop-of-length-le}
 use lib.Dec.{ltb}
 use Rattle.model.specs.Limits.{mostPages, pageSize, mostBytes, longestPath}
 use Rattle.model.specs.Row.{Row, nil, agg, lit, rec, size, base, isAgg, Config}
 use Rattle.model.specs.Tree.{shown, width, Node, named, placeAt, placeOf}
-use Rattle.model.specs.Reading.{Reads, sizeAt}
+use Rattle.model.specs.Reading.{Reads, sizeAt, kindAt}
 use Rattle.model.specs.Answers.{findRefused}
 use Rattle.model.specs.Calls.{entries, namedIf, orEmpty, isNone, findIn, findOf, checkOf}
 use Rattle.model.specs.declared.Place.{Place}
@@ -20,10 +20,10 @@ use Rattle.theory_decoding.specs.Steps.{steps, few-steps}
 use Rattle.theory_decoding.specs.Reading.{reads-valid}
 use Rattle.theory_places.specs.Named.{named-place, unnamed-place}
 use Rattle.theory_calls.specs.Open.{opens, passing}
-use Rattle.theory_layout.specs.Here.{nesting, Here, agg-view, lit-view, rec-view, root-here, root-nesting}
+use Rattle.theory_layout.specs.Here.{nesting, Here, view, root-here, root-nesting}
 use Rattle.read_find.specs.declared.NthNode.{NthNode}
 use Rattle.read_find.specs.Nth.{nthOf, nth-none, nth-inside, nth-after, place-past}
-use Rattle.read_find.specs.Rowed.{Rowed}
+use Rattle.read_find.specs.Rowed.{Rowed, children-of}
 use Rattle.read_find.specs.Entries.{fourAt, never, whole, broken, NextEntry, next-entry}
 
 -- The place of byte pos of the image, and the answer that names it.
@@ -61,13 +61,13 @@ reach img page pos off k path nil h e d f y = absurd (false≢true y)
 reach img page pos off zero path (agg l cs rest) h e d f y =
     record { page = page; off = off; row = agg l cs rest; here = h; at = e; node = refl; deep = d; few = f; to = refl }
 reach img page pos off (suc k) path (agg l cs rest) h e d f y =
-    reach img page (pos + (6 + size cs)) (off + 6 + size cs) k path rest (agg-view img page pos l cs rest h .after) (omega arith) (omega arith) (omega arith) y
+    reach img page (pos + (6 + size cs)) (off + 6 + size cs) k path rest (view h (omega arith) .after) (omega arith) (omega arith) (omega arith) y
 reach img page pos off zero path (lit l c rest) h e d f y =
     record { page = page; off = off; row = lit l c rest; here = h; at = e; node = refl; deep = d; few = f; to = refl }
 reach img page pos off (suc k) path (lit l c rest) h e d f y =
-    reach img page (pos + (6 + length c)) (off + 6 + length c) k path rest (lit-view img page pos l c rest h .after) (omega arith) d (omega arith) y
+    reach img page (pos + (6 + length c)) (off + 6 + length c) k path rest (view h (omega arith) .after) (omega arith) d (omega arith) y
 reach img page pos off k path (rec p s r rest) h e d f y =
-    let v = rec-view img page pos p s r rest h in
+    let v = view h (omega arith) in
     go (ltb k (width r)) refl
     (reach img p (pageSize * p + base r) (base r) k path r (v .under .here) refl (omega arith) (omega arith))
     (reach img page (pos + 8) (off + 8) (k - width r) path rest (v .after) (omega arith) (omega arith) (omega arith))
@@ -81,7 +81,8 @@ reach img page pos off k path (rec p s r rest) h e d f y =
         subst (λ (x : NthNode). Leads img (x .at) path (placeAt p (base r) k path r)) (sym g) (within (ap (λ (x : NthNode). x .found) (sym g) ∙ y))
     go false b within beyond =
         let g = nth-after pos p s r rest k (ltb-false k (width r) b) in
-        subst (λ (x : NthNode). Leads img (x .at) path (placeAt page (off + 8) (k - width r) path rest)) (sym g) (beyond (ap (λ (x : NthNode). x .found) (sym g) ∙ y))
+        subst (λ (x : NthNode). Leads img (x .at) path (placeAt page (off + 8) (k - width r) path rest)) (sym g)
+        (beyond (ap (λ (x : NthNode). x .found) (sym g) ∙ y))
 
 -- ── the whole path ──
 
@@ -105,35 +106,36 @@ no-entry page off (agg l cs rest) n = refl
 no-entry page off (lit l c rest) n = refl
 no-entry page off (rec p s r rest) n = absurd (false≢true n)
 
-literal : (img : List ℕ) (page pos off j : ℕ) (path : List ℕ) (row : Row) → Here img page pos row → isNode row ≡ true → (getD img pos 0 ≡ 1 → ⊥)
+literal : (img : List ℕ) (page pos off j : ℕ) (path : List ℕ) (row : Row) → Here img page pos row → isNode row ≡ true → (kindAt img pos ≡ 1 → ⊥)
     → placeAt page off 0 (j ∷ path) row ≡ none
 unfolding placeAt
 literal img page pos off j path nil h n k = absurd (false≢true n)
-literal img page pos off j path (agg l cs rest) h n k = absurd (k (agg-view img page pos l cs rest h .kind))
+literal img page pos off j path (agg l cs rest) h n k = absurd (k (view h (omega arith) .kind-is))
 literal img page pos off j path (lit l c rest) h n k = refl
 literal img page pos off j path (rec p s r rest) h n k = absurd (false≢true n)
 
 module _ (img bytes : List ℕ) (page pos off i len k : ℕ) (path : List ℕ) (t : Option Place) (a : pos ≡ pageSize * page + off)
-    (kind : getD img pos 0 ≡ 1) (long : len ≡ sizeAt img pos) (spelled : entries (drop (i + 4) bytes) ≡ some path) where
+    (kind : kindAt img pos ≡ 1) (long : len ≡ sizeAt img pos) (spelled : entries (drop (i + 4) bytes) ≡ some path) where
   into : (row : Row) → Here img page pos row → isNode row ≡ true → nesting row ≤ mostPages → steps row ≤ mostBytes
       → placeAt page off 0 (k ∷ path) row ≡ t → Down img bytes pos i len k t
   unfolding placeAt
   into nil h n d f y = absurd (false≢true n)
   into (agg l cs rest) h n d f y =
-      let v = agg-view img page pos l cs rest h in
+      let v = view h (omega arith) in
       record {
-        kids = record { page = page; row = cs; here = v .children; ends = omega (arith, v .long); deep = omega arith; few = omega arith };
+        kids = children-of h refl d f len long;
         found = λ r e g. record {
           path = path;
           spelled = spelled;
           leads =
               subst (λ (x : NthNode). Leads img (x .at) path t) (sym e)
               (subst (Leads img (nthOf (pos + 6) cs k .at) path) y
-              (reach img page (pos + 6) (off + 6) k path cs (v .children) (omega arith) (omega arith) (omega arith) (ap (λ (x : NthNode). x .found) (sym e) ∙ g)));
+              (reach img page (pos + 6) (off + 6) k path cs (v .children) (omega arith) (omega arith) (omega arith)
+              (ap (λ (x : NthNode). x .found) (sym e) ∙ g)));
         };
         missing = λ r e g. sym y ∙ place-past page (off + 6) k path cs (nth-none (pos + 6) cs k (ap (λ (x : NthNode). x .found) (sym e) ∙ g));
       }
-  into (lit l c rest) h n d f y = absurd (omega (arith, lit-view img page pos l c rest h .kind))
+  into (lit l c rest) h n d f y = absurd (omega (arith, view h (omega arith) .kind-is))
   into (rec p s r rest) h n d f y = absurd (false≢true n)
 
 module _ (img bytes : List ℕ) (pos i : ℕ) (t : Option Place) (w : Finds img bytes pos i t) where
@@ -163,10 +165,10 @@ module _ (img bytes : List ℕ) (pos i : ℕ) (t : Option Place) (w : Finds img 
     onward = ap (λ (x : List ℕ). placeAt (w .leads .page) (w .leads .off) 0 x (w .leads .row)) (sym (entry .is)) ∙ w .leads .to
 
     -- A literal has no children.
-    pub ends-here : (getD img pos 0 ≡ 1 → ⊥) → t ≡ none
+    pub ends-here : (kindAt img pos ≡ 1 → ⊥) → t ≡ none
     ends-here k = let g = w .leads in sym onward ∙ literal img (g .page) pos (g .off) (fourAt bytes i) (entry .rest) (g .row) (g .here) (g .node) k
 
-    pub down : (len k : ℕ) → getD img pos 0 ≡ 1 → len ≡ sizeAt img pos → k ≡ fourAt bytes i → Down img bytes pos i len k t
+    pub down : (len k : ℕ) → kindAt img pos ≡ 1 → len ≡ sizeAt img pos → k ≡ fourAt bytes i → Down img bytes pos i len k t
     down len k kind long e =
         let g = w .leads in
         into img bytes (g .page) pos (g .off) i len k (entry .rest) t (g .at) kind long (entry .more) (g .row) (g .here) (g .node) (g .deep) (g .few)
@@ -186,7 +188,8 @@ unnamed root (some p) e = go (named (shown root) p) refl
     go none f = refl
     go (some n) f = never (sym e ∙ named-place root p n f .1)
 
-is-named : (root : Row) (o : Option (List ℕ)) (x : Place) → placeIf root o ≡ some x → (isNone (namedIf (shown root) o) ≡ false) × (placeOf root (orEmpty o) ≡ some x)
+is-named : (root : Row) (o : Option (List ℕ)) (x : Place) → placeIf root o ≡ some x
+    → (isNone (namedIf (shown root) o) ≡ false) × (placeOf root (orEmpty o) ≡ some x)
 is-named root none x e = never e
 is-named root (some p) x e = go (named (shown root) p) refl
   where

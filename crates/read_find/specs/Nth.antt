@@ -9,6 +9,7 @@ use native.Mathlib.Nat.{sub-zero, suc-sub-suc}
 use borrow.Author.Tests.{le-ltb, ltb-true, ltb-false}
 use lib.ListN.{length}
 use lib.Dec.{ltb}
+use Rattle.theory_row_bytes.specs.RowAt.{kindOf, sizeOf, restOf}
 use Rattle.model.specs.Limits.{pageSize}
 use Rattle.model.specs.Row.{Row, nil, agg, lit, rec, size, base}
 use Rattle.model.specs.Tree.{width, placeAt}
@@ -70,6 +71,15 @@ nth-none pos row k e = go (ltb k (width row)) refl
     go : (b : Bool) → ltb k (width row) ≡ b → width row ≤ k
     go true f = absurd (true≢false (sym (nth-found pos row k (ltb-true k (width row) f)) ∙ e))
     go false f = ltb-false k (width row) f
+
+-- A node is the first, and behind it they go on.
+pub nth-first : (pos : ℕ) (row : Row) → 0 < size row → (kindOf row ≡ 3 → ⊥)
+    → (foundAt pos ≡ nthOf pos row 0) × ((k : ℕ) → nthOf (pos + sizeOf row) (restOf row) k ≡ nthOf pos row (suc k))
+unfolding nthOf
+nth-first pos nil h k = absurd (omega arith)
+nth-first pos (agg l cs rest) h k = (refl, λ _. refl)
+nth-first pos (lit l c rest) h k = (refl, λ _. refl)
+nth-first pos (rec p s r rest) h k = absurd (k refl)
 
 -- In a record, or behind its proxy.
 module _ (pos p : ℕ) (s : Bool) (r rest : Row) (k : ℕ) where

@@ -1,29 +1,29 @@
 // Down the tree of an image that passes the check: how many nodes a row shows, the k-th of them, and the node that a path names.
+use base_layout::name_at;
+use base_layout::size_at;
+use base_layout::used_at;
 use base_numbers::two;
 use model::FindAnswer;
 use model::Place;
 use model::Settings;
 ghost use mathlib.Core.Path.{_≡_};
-ghost use mathlib.Core.Bool.{cond};
 ghost use Prim.Native.Nat.{_+_, _*_, _<_};
 ghost use lib.ListN.{length, getD};
-ghost use lib.Dec.{eqb};
 ghost use Rattle.model.specs.Limits.{mostPages, pageSize};
-ghost use Rattle.model.specs.Reading.{twoAt};
 ghost use Rattle.model.specs.Tree as tree;
 ghost use Rattle.model.specs.Answers.{findRefused};
 ghost use Rattle.model.specs.Calls.{checkOf, findOf};
 ghost use Rattle.theory_layout.specs.Here.{PageIn};
 ghost use Rattle.theory_layout.specs.Widths.{Widths};
 ghost use Rattle.read_find.specs.Nth.{nthOf};
-ghost use Rattle.read_find.specs.Rowed.{Rowed};
+ghost use Rattle.read_find.specs.Rowed.{startOn, endOn, Rowed};
 ghost use Rattle.read_find.specs.Entries.{fourAt};
 ghost use Rattle.read_find.specs.Find.{foundOn};
 
 // Where the row of the record on page p starts: past the helper's header, if there is a helper.
 pub fn row_start(image: &[u8], p: usize) -> usize
     requires { ⌜ PageIn (now image) p ⌝ }
-    ensures { λ r. ⌜ r ≡ pageSize * p + cond (eqb (getD (now (image .entry)) (pageSize * p) 0) 4) 6 0 ⌝ }
+    ensures { λ r. ⌜ r ≡ startOn (now (image .entry)) p ⌝ }
 {
     let a = Settings::PAGE * p;
     if image[a] == 4 { a + 6 } else { a }
@@ -32,10 +32,10 @@ pub fn row_start(image: &[u8], p: usize) -> usize
 // Where it ends.
 pub fn row_end(image: &[u8], p: usize) -> usize
     requires { ⌜ PageIn (now image) p ⌝ }
-    ensures { λ r. ⌜ r ≡ pageSize * p + twoAt (now (image .entry)) (pageSize * p + 4082) ⌝ }
+    ensures { λ r. ⌜ r ≡ endOn (now (image .entry)) p ⌝ }
 {
     let a = Settings::PAGE * p;
-    a + two(image, a + 4082)
+    a + used_at(image, a)
 }
 
 // How many nodes the row from pos to end shows. `widths` has how many each record shows.
@@ -46,9 +46,9 @@ pub fn width(image: &[u8], widths: &[u32; Settings::PAGES], pos: usize, end: usi
     let mut n = 0;
     let mut i = pos;
     while i < end {
-        let next = i + two(image, i + 4);
+        let next = i + size_at(image, i);
         if image[i] == 3 {
-            let p = two(image, i + 6);
+            let p = name_at(image, i);
             n = n + widths[p] as usize;
         } else {
             n = n + 1;
@@ -82,7 +82,7 @@ pub fn nth(
     let mut deep = depth;
     while i < stop {
         if image[i] == 3 {
-            let p = two(image, i + 6);
+            let p = name_at(image, i);
             let n = widths[p] as usize;
             if n <= left {
                 left = left - n;
@@ -96,7 +96,7 @@ pub fn nth(
             return NthNode { found: true, at: i };
         } else {
             left = left - 1;
-            i = i + two(image, i + 4);
+            i = i + size_at(image, i);
         }
     }
     NthNode {
@@ -152,7 +152,7 @@ pub fn find_in(image: &[u8], widths: &[u32; Settings::PAGES], path: &[u8]) -> Fi
             return refused(7);
         }
         let k = four(path, i);
-        let end = pos + two(image, pos + 4);
+        let end = pos + size_at(image, pos);
         let r = nth(image, widths, pos + 6, end, k, Settings::PAGES);
         if !r.found {
             return refused(7);

@@ -1,33 +1,33 @@
 -- The next node in document order: past the end of a record the nodes go on behind its proxy, and a proxy's nodes are its record's.
 use mathlib.Core.Path.{_≡_, refl, sym, ap, subst, _∙_}
-use mathlib.Core.Bool.{cond}
 use mathlib.Core.List.{List, [], _∷_, _++_, append-assoc}
-use mathlib.Core.Logic.{_⊎_, inl, inr}
 use mathlib.Core.Option.{some}
 use Prim.Native.Nat.{ℕ, suc, _+_, _*_, _-_, _/_, _%_, _≤_, _<_}
 use native.Mathlib.Omega.{arith}
-use lib.ListN.{length, getD}
-use lib.Dec.{eqb}
+use lib.ListN.{length}
+use Rattle.read_find.specs.Rowed.{startOn, endOn}
 use Rattle.model.specs.Limits.{mostPages, pageSize, mostBytes}
 use Rattle.model.specs.Row.{Row, nil, agg, lit, rec, size, base, Config}
-use Rattle.model.specs.Reading.{Reads, nameAt, usedAt, backAt}
+use Rattle.model.specs.Reading.{Reads, nameAt, backAt, kindAt}
 use Rattle.model.specs.Tree.{Node, shown, nodes, placeOf}
 use Rattle.model.specs.Answers.{nextRefused}
 use Rattle.model.specs.Calls.{checkOf, nextOf, kindOf}
 use Rattle.model.specs.declared.Place.{Place}
 use Rattle.model.specs.declared.Kind.{Kind}
+use Rattle.model.specs.declared.NextAnswer.{NextAnswer}
 use Rattle.model.specs.declared.Next.the-variants as next-is
 use Rattle.theory_calls.specs.Navigate.{next-stray, next-follows, next-last}
 use Rattle.theory_layout.specs.Here.{PageIn}
 use Rattle.theory_layout.specs.Items.{Item, node, proxy, items, spots, expand, In, top, sub}
-use Rattle.theory_layout.specs.Order.{at, Stood, step, Flat, node-kind, proxy-of, which, flat-end, item-at, in-page, in-deep, last-page, expand-items, spot-header, spot-split, spot-of, split-mem}
+use Rattle.theory_layout.specs.Order.{at, Stood, step, Flat, proxy-of, is-proxy, is-node, flat-end, item-at, in-page, in-deep, last-page, expand-items}
+use Rattle.theory_layout.specs.Order.{node-header, node-split, node-in, split-mem}
 use Rattle.theory_layout.specs.Nodes.{All, read-kind, PlacedAt, Both, nodes-split, place-at}
-use Rattle.read_next.specs.Scan.{OnRecord, view, known, all, close, flat-all, Head, head-of, HeldBy, NodeAt, NodeOf, Located, store-of}
+use Rattle.read_next.specs.Scan.{OnRecord, view, known, all, close, flat-all, HeaderRoom, head-of, HeldBy, NodeAt, NodeOf, Located, store-of, record-of}
 
 -- ── where the nodes after a node begin ──
 
 -- After the node at pos come, in the record of `page`, the items from n on, then what is behind that record.
-pub record Going (img : List ℕ) (pos page n : ℕ) : Type 0 where
+pub record ItemsFrom (img : List ℕ) (pos page n : ℕ) : Type 0 where
   pub on : OnRecord img page
   pub left : List Item
   pub right : List Item
@@ -68,65 +68,70 @@ pub record Ahead (img : List ℕ) (pos n : ℕ) : Type 0 where
 -- ── up ──
 
 -- The state of the climb: `left` bounds the record's depth.
-pub record Climb (img : List ℕ) (pos page n left : ℕ) : Type 0 where
-  pub going : Going img pos page n
-  pub deep : going .on .depth ≤ left
+pub record Upward (img : List ℕ) (pos page n left : ℕ) : Type 0 where
+  pub from : ItemsFrom img pos page n
+  pub deep : from .on .depth ≤ left
 
-pub record Climbed (img : List ℕ) (pos r : ℕ) : Type 0 where
+pub record ItemAfter (img : List ℕ) (pos r : ℕ) : Type 0 where
   pub stop : r ≡ 0 → Last img pos
   pub more : 1 ≤ r → Ahead img pos r
 
 -- Where a node stands.
-pub node-head : {img : List ℕ} {pos : ℕ} (a : NodeAt img pos) → Head img (a .spot .page) pos
+pub node-head : {img : List ℕ} {pos : ℕ} (a : NodeAt img pos) → HeaderRoom img (a .spot .page) pos
 node-head {img} {pos} a =
     let s = a .spot in
     head-of img (s .page) pos (node pos)
-    (item-at img (s .page) (pageSize * s .page + base (s .row)) (s .row) (in-page img (a .settings) (a .root) (a .reads) (s .within) .here) (s .left) (s .right) (node pos) (s .split) .0)
+    (item-at img (s .page) (pageSize * s .page + base (s .row)) (s .row) (in-page img (a .settings) (a .root) (a .reads) (s .within) .here) (s .left) (s .right)
+    (node pos) (s .split) .0)
 
-pub climb-start : {img : List ℕ} {pos : ℕ} (a : NodeAt img pos) (page n : ℕ) → page ≡ pos / pageSize → n ≡ step img pos → Climb img pos page n mostPages
-climb-start {img} {pos} a page n p e =
+pub upward-start : {img : List ℕ} {pos : ℕ} (a : NodeAt img pos) (page n : ℕ) → page ≡ pos / pageSize → n ≡ step img pos → Upward img pos page n mostPages
+upward-start {img} {pos} a page n p e =
     let s = a .spot in
     let st = a .settings in
     let root = a .root in
     let r = a .reads in
-    let h = spot-header img st root r pos s in
+    let h = node-header img st root r pos s in
     let same : s .page ≡ page = omega (arith, h .low, h .room) in
-    let on : OnRecord img (s .page) = record { settings = st; root = root; reads = r; holder = s .holder; row = s .row; before = s .before; after = s .after; depth = s .depth; within = s .within } in
-    let f = item-at img (s .page) (pageSize * s .page + base (s .row)) (s .row) (in-page img st root r (s .within) .here) (s .left) (s .right) (node pos) (s .split) .1 in
-    let g : Going img pos (s .page) n = record {
+    let on : OnRecord img (s .page) = record-of r s in
+    let f =
+    item-at img (s .page) (pageSize * s .page + base (s .row)) (s .row) (in-page img st root r (s .within) .here) (s .left) (s .right) (node pos)
+    (s .split) .1 in
+    let g : ItemsFrom img pos (s .page) n = record {
       on = on;
       left = s .left ++ node pos ∷ [];
       right = s .right;
       split = s .split ∙ sym (append-assoc (s .left) (node pos ∷ []) (s .right));
       flat = subst (λ (k : ℕ). Flat img (s .page) k (close on) (s .right)) (sym e) f;
       seen = s .before ++ expand (s .left);
-      order = spot-split s;
+      order = node-split s;
     } in
-    subst (λ (q : ℕ). Climb img pos q n mostPages) same (record { going = g; deep = in-deep img st root r (s .within) })
+    subst (λ (q : ℕ). Upward img pos q n mostPages) same (record { from = g; deep = in-deep img st root r (s .within) })
 
-module _ {img : List ℕ} {pos page n left : ℕ} (c : Climb img pos page n left) where
+module _ {img : List ℕ} {pos page n left : ℕ} (c : Upward img pos page n left) where
   -- Where the record's end is not reached, an item comes next,
-  pub climb-ahead : (n ≡ pageSize * page + usedAt img (pageSize * page) → ⊥) → Ahead img pos n
-  climb-ahead f = go (c .going .right) (c .going .split) (c .going .flat) (c .going .order)
+  pub upward-ahead : (n ≡ endOn img page → ⊥) → Ahead img pos n
+  upward-ahead f = go (c .from .right) (c .from .split) (c .from .flat) (c .from .order)
     where
       on : OnRecord img page
-      on = c .going .on
+      on = c .from .on
 
-      go : (right : List Item) → all on ≡ c .going .left ++ right → Flat img page n (close on) right → spots (pageSize + base (on .root)) (on .root) ≡ c .going .seen ++ pos ∷ (expand right ++ on .after) → Ahead img pos n
+      go : (right : List Item) → all on ≡ c .from .left ++ right → Flat img page n (close on) right
+          → spots (pageSize + base (on .root)) (on .root) ≡ c .from .seen ++ pos ∷ (expand right ++ on .after) → Ahead img pos n
       go [] q g o = absurd (f (g ∙ sym (known on .end)))
-      go (i ∷ right) q g o = record { page = page; on = on; first = i; left = c .going .left; right = right; split = q; flat = g; seen = c .going .seen; order = o }
+      go (i ∷ right) q g o =
+          record { page = page; on = on; first = i; left = c .from .left; right = right; split = q; flat = g; seen = c .from .seen; order = o }
 
-  none-right : n ≡ pageSize * page + usedAt img (pageSize * page) → c .going .right ≡ []
+  none-right : n ≡ endOn img page → c .from .right ≡ []
   none-right e =
-      let on = c .going .on in
-      flat-end img page (c .going .right) n (close on) (c .going .flat) (omega (arith, known on .end))
+      let on = c .from .on in
+      flat-end img page (c .from .right) n (close on) (c .from .flat) (omega (arith, known on .end))
 
   -- at the end of page 1's record nothing does,
-  pub climb-last : n ≡ pageSize * page + usedAt img (pageSize * page) → page ≡ 1 → Last img pos
-  climb-last e p =
-      let on = c .going .on in
+  pub upward-last : n ≡ endOn img page → page ≡ 1 → Last img pos
+  upward-last e p =
+      let on = c .from .on in
       let a = last-page img (on .settings) (on .root) (on .reads) (on .within) p in
-      record { settings = on .settings; root = on .root; reads = on .reads; seen = c .going .seen; order = c .going .order ∙ rw (none-right e, a) }
+      record { settings = on .settings; root = on .root; reads = on .reads; seen = c .from .seen; order = c .from .order ∙ rw (none-right e, a) }
 
 -- and at the end of another's it goes on behind its proxy.
 pub record Above (img : List ℕ) (pos page n left : ℕ) : Type 0 where
@@ -135,19 +140,21 @@ pub record Above (img : List ℕ) (pos page n left : ℕ) : Type 0 where
   pub held : HeldBy img holder page
   pub small : held .pos < mostBytes
   pub some : 1 ≤ left
-  pub up : (m : ℕ) → m ≡ held .pos + 8 → (l : ℕ) → l ≡ left - 1 → Climb img pos holder m l
+  pub up : (m : ℕ) → m ≡ held .pos + 8 → (l : ℕ) → l ≡ left - 1 → Upward img pos holder m l
 
-pub climb-above : {img : List ℕ} {pos page n left : ℕ} (c : Climb img pos page n left) → n ≡ pageSize * page + usedAt img (pageSize * page) → (page ≡ 1 → ⊥) → Above img pos page n left
-climb-above {img} {pos} {page} {n} {left} c e f =
-    let on = c .going .on in
-    go (on .settings) (on .root) (on .reads) (on .within) (view on .back) (c .deep) (c .going .seen)
-    (c .going .order ∙ ap (λ (l : List Item). c .going .seen ++ pos ∷ (expand l ++ on .after)) (none-right c e)) f
+pub upward-above : {img : List ℕ} {pos page n left : ℕ} (c : Upward img pos page n left) → n ≡ endOn img page → (page ≡ 1 → ⊥) → Above img pos page n left
+upward-above {img} {pos} {page} {n} {left} c e f =
+    let on = c .from .on in
+    go (on .settings) (on .root) (on .reads) (on .within) (view on .back) (c .deep) (c .from .seen)
+    (c .from .order ∙ ap (λ (l : List Item). c .from .seen ++ pos ∷ (expand l ++ on .after)) (none-right c e)) f
   where
     go : (st : Config) (root : Row) (r : Reads img st root) {q holder : ℕ} {row : Row} {before after : List ℕ} {d : ℕ} → In root q holder row before after d
-        → backAt img (pageSize * q) ≡ holder → d ≤ left → (seen : List ℕ) → spots (pageSize + base root) root ≡ seen ++ pos ∷ after → (q ≡ 1 → ⊥) → Above img pos q n left
+        → backAt img (pageSize * q) ≡ holder → d ≤ left → (seen : List ℕ) → spots (pageSize + base root) root ≡ seen ++ pos ∷ after → (q ≡ 1 → ⊥)
+        → Above img pos q n left
     go st root r top b k seen o f = absurd (f refl)
     go st root r (sub {page = page} {holder = over} {row = row} {before = before} {after = after} {depth = d} w xs ys at p x e) b k seen o f =
-        let on : OnRecord img page = record { settings = st; root = root; reads = r; holder = over; row = row; before = before; after = after; depth = d; within = w } in
+        let on : OnRecord img page =
+        record { settings = st; root = root; reads = r; holder = over; row = row; before = before; after = after; depth = d; within = w } in
         let i = item-at img page (pageSize * page + base row) row (view on .here) xs ys (proxy at p x) e in
         let y = proxy-of img page at at p x (i .0) in
         let h = head-of img page at (proxy at p x) (i .0) in
@@ -158,7 +165,7 @@ climb-above {img} {pos} {page} {n} {left} c e f =
           small = h .small;
           some = omega arith;
           up = λ m q l z. record {
-            going = record {
+            from = record {
               on = on;
               left = xs ++ proxy at p x ∷ [];
               right = ys;
@@ -172,28 +179,29 @@ climb-above {img} {pos} {page} {n} {left} c e f =
         }
 
 -- The same, as the code finds it: h is the page in the back link, and p where the proxy is found.
-module _ {img : List ℕ} {pos page n left : ℕ} (c : Climb img pos page n left) (e : n ≡ pageSize * page + usedAt img (pageSize * page)) (f : page ≡ 1 → ⊥) (h : ℕ) (b : h ≡ backAt img (pageSize * page)) where
+module _ {img : List ℕ} {pos page n left : ℕ} (c : Upward img pos page n left) (e : n ≡ endOn img page) (f : page ≡ 1 → ⊥) (h : ℕ)
+    (b : h ≡ backAt img (pageSize * page)) where
   above : Above img pos page n left
-  above = climb-above c e f
+  above = upward-above c e f
 
   its-holder : above .holder ≡ h
   its-holder = sym (b ∙ above .back)
 
-  pub climb-held : HeldBy img h page
-  climb-held = subst (λ (q : ℕ). HeldBy img q page) its-holder (above .held)
+  pub upward-held : HeldBy img h page
+  upward-held = subst (λ (q : ℕ). HeldBy img q page) its-holder (above .held)
 
-  pub climb-some : 1 ≤ left
-  climb-some = above .some
+  pub upward-some : 1 ≤ left
+  upward-some = above .some
 
   module _ (p : ℕ) (at : (w : HeldBy img h page) → p ≡ w .pos) where
     its-proxy : p ≡ above .held .pos
     its-proxy = subst (λ (q : ℕ). ((w : HeldBy img q page) → p ≡ w .pos) → p ≡ above .held .pos) its-holder (λ g. g (above .held)) at
 
-    pub climb-small : p < mostBytes
-    climb-small = rw its-proxy (above .small)
+    pub upward-small : p < mostBytes
+    upward-small = rw its-proxy (above .small)
 
-    pub climb-up : (m l : ℕ) → m ≡ p + 8 → l ≡ left - 1 → Climb img pos h m l
-    climb-up m l u v = subst (λ (q : ℕ). Climb img pos q m l) its-holder (above .up m (u ∙ ap (λ (k : ℕ). k + 8) its-proxy) l v)
+    pub upward-on : (m l : ℕ) → m ≡ p + 8 → l ≡ left - 1 → Upward img pos h m l
+    upward-on m l u v = subst (λ (q : ℕ). Upward img pos q m l) its-holder (above .up m (u ∙ ap (λ (k : ℕ). k + 8) its-proxy) l v)
 
 -- ── down ──
 
@@ -201,23 +209,19 @@ pub record Enter (img : List ℕ) (pos n left : ℕ) : Type 0 where
   pub ahead : Ahead img pos n
   pub deep : mostPages ≤ ahead .on .depth + left
 
-pub ahead-head : {img : List ℕ} {pos n : ℕ} (a : Ahead img pos n) → Head img (a .page) n
+pub ahead-head : {img : List ℕ} {pos n : ℕ} (a : Ahead img pos n) → HeaderRoom img (a .page) n
 ahead-head {img} {pos} {n} a = head-of img (a .page) n (a .first) (a .flat .0)
 
 -- Another kind than 3 is a node.
-pub ahead-node : {img : List ℕ} {pos n : ℕ} (a : Ahead img pos n) → (getD img n 0 ≡ 3 → ⊥) → Follows img pos n
-ahead-node {img} {pos} {n} a f = go (which img (a .page) n (a .first) (a .flat .0))
-  where
-    go : (a .first ≡ node n) ⊎ ((p : ℕ) × (r : Row) × (a .first ≡ proxy n p r)) → Follows img pos n
-    go (inl q) = record {
-      settings = a .on .settings;
-      root = a .on .root;
-      reads = a .on .reads;
-      seen = a .seen;
-      later = expand (a .right) ++ a .on .after;
-      order = a .order ∙ ap (λ (i : Item). a .seen ++ pos ∷ (expand (i ∷ a .right) ++ a .on .after)) q;
-    }
-    go (inr q) = absurd (f (proxy-of img (a .page) n n (q .0) (q .1) (subst (Stood img (a .page) n) (q .2) (a .flat .0)) .kind))
+pub ahead-node : {img : List ℕ} {pos n : ℕ} (a : Ahead img pos n) → (kindAt img n ≡ 3 → ⊥) → Follows img pos n
+ahead-node {img} {pos} {n} a f = record {
+  settings = a .on .settings;
+  root = a .on .root;
+  reads = a .on .reads;
+  seen = a .seen;
+  later = expand (a .right) ++ a .on .after;
+  order = a .order ∙ ap (λ (i : Item). a .seen ++ pos ∷ (expand (i ∷ a .right) ++ a .on .after)) (is-node img (a .page) n (a .first) (a .flat .0) f);
+}
 
 -- A proxy's nodes are those of its record.
 pub record Under (img : List ℕ) (pos n left : ℕ) : Type 0 where
@@ -225,7 +229,7 @@ pub record Under (img : List ℕ) (pos n left : ℕ) : Type 0 where
   pub name : nameAt img n ≡ page
   pub on : PageIn img page
   pub some : 1 ≤ left
-  pub down : (m : ℕ) → m ≡ pageSize * page + cond (eqb (getD img (pageSize * page) 0) 4) 6 0 → (l : ℕ) → l ≡ left - 1 → Enter img pos m l
+  pub down : (m : ℕ) → m ≡ startOn img page → (l : ℕ) → l ≡ left - 1 → Enter img pos m l
 
 -- a row that is not empty has a first item
 first-of : (pos : ℕ) (row : Row) → 1 ≤ size row → (i : Item) × (is : List Item) × (items pos row ≡ i ∷ is)
@@ -234,8 +238,8 @@ first-of pos (agg h cs rest) k = (_, _, refl)
 first-of pos (lit h c rest) k = (_, _, refl)
 first-of pos (rec p s r rest) k = (_, _, refl)
 
-pub enter-under : {img : List ℕ} {pos n left : ℕ} (c : Enter img pos n left) → getD img n 0 ≡ 3 → Under img pos n left
-enter-under {img} {pos} {n} {left} c k = go (which img (a .page) n (a .first) (a .flat .0))
+pub enter-under : {img : List ℕ} {pos n left : ℕ} (c : Enter img pos n left) → kindAt img n ≡ 3 → Under img pos n left
+enter-under {img} {pos} {n} {left} c k = go (is-proxy img (a .page) n (a .first) (a .flat .0) k)
   where
     a : Ahead img pos n
     a = c .ahead
@@ -243,13 +247,8 @@ enter-under {img} {pos} {n} {left} c k = go (which img (a .page) n (a .first) (a
     on : OnRecord img (a .page)
     on = a .on
 
-    kinds : (getD img n 0 ≡ 1) ⊎ (getD img n 0 ≡ 2) → ⊥
-    kinds (inl e) = omega arith
-    kinds (inr e) = omega arith
-
-    go : (a .first ≡ node n) ⊎ ((p : ℕ) × (r : Row) × (a .first ≡ proxy n p r)) → Under img pos n left
-    go (inl q) = absurd (kinds (node-kind img (a .page) n n (subst (Stood img (a .page) n) q (a .flat .0))))
-    go (inr q) =
+    go : (p : ℕ) × (r : Row) × (a .first ≡ proxy n p r) → Under img pos n left
+    go q =
         let p = q .0 in
         let r = q .1 in
         let y = proxy-of img (a .page) n n p r (subst (Stood img (a .page) n) (q .2) (a .flat .0)) in
@@ -281,10 +280,14 @@ enter-under {img} {pos} {n} {left} c k = go (which img (a .page) n (a .first) (a
               left = [];
               right = f .1;
               split = f .2;
-              flat = subst (λ (k : ℕ). Flat img p k (close new) (f .0 ∷ f .1)) (sym (e ∙ known new .start)) (subst (Flat img p (pageSize * p + base r) (close new)) (f .2) (flat-all new));
+              flat =
+                  subst (λ (k : ℕ). Flat img p k (close new) (f .0 ∷ f .1)) (sym (e ∙ known new .start))
+                  (subst (Flat img p (pageSize * p + base r) (close new)) (f .2) (flat-all new));
               seen = a .seen;
               order = a .order ∙ ap (λ (i : Item). a .seen ++ pos ∷ (expand (i ∷ a .right) ++ on .after)) (q .2)
-                  ∙ ap (λ (k : List ℕ). a .seen ++ pos ∷ k) (append-assoc (spots (pageSize * p + base r) r) (expand (a .right)) (on .after) ∙ ap (λ (k : List ℕ). k ++ (expand (a .right) ++ on .after)) shown-all);
+                  ∙ ap (λ (k : List ℕ). a .seen ++ pos ∷ k)
+                  (append-assoc (spots (pageSize * p + base r) r) (expand (a .right)) (on .after)
+                  ∙ ap (λ (k : List ℕ). k ++ (expand (a .right) ++ on .after)) shown-all);
             };
             deep = omega (arith, c .deep);
           };
@@ -294,7 +297,7 @@ pub ahead-low : {img : List ℕ} {pos n : ℕ} → Ahead img pos n → 1 ≤ n
 ahead-low a = omega (arith, ahead-head a .low, known (a .on) .on .low)
 
 -- The same, as the code finds it: q is the page that the proxy names.
-module _ {img : List ℕ} {pos n left : ℕ} (c : Enter img pos n left) (k : getD img n 0 ≡ 3) (q : ℕ) (e : q ≡ nameAt img n) where
+module _ {img : List ℕ} {pos n left : ℕ} (c : Enter img pos n left) (k : kindAt img n ≡ 3) (q : ℕ) (e : q ≡ nameAt img n) where
   under : Under img pos n left
   under = enter-under c k
 
@@ -307,10 +310,14 @@ module _ {img : List ℕ} {pos n left : ℕ} (c : Enter img pos n left) (k : get
   pub enter-some : 1 ≤ left
   enter-some = under .some
 
-  pub enter-down : (m l : ℕ) → m ≡ pageSize * q + cond (eqb (getD img (pageSize * q) 0) 4) 6 0 → l ≡ left - 1 → Enter img pos m l
-  enter-down m l = subst (λ (q : ℕ). m ≡ pageSize * q + cond (eqb (getD img (pageSize * q) 0) 4) 6 0 → l ≡ left - 1 → Enter img pos m l) its-page (λ u v. under .down m u l v)
+  pub enter-down : (m l : ℕ) → m ≡ startOn img q → l ≡ left - 1 → Enter img pos m l
+  enter-down m l = subst (λ (q : ℕ). m ≡ startOn img q → l ≡ left - 1 → Enter img pos m l) its-page (λ u v. under .down m u l v)
 
 -- ── the answers ──
+
+-- The answer that names the node at byte n.
+abbrev pub nextAt : (n : ℕ) → Kind → NextAnswer
+nextAt n k = record { number = 0; next = next-is.Node (record { place = record { page = n / pageSize; offset = n % pageSize }; kind = k }) }
 
 -- The next node, or 0 at the end.
 pub record Nexted (img : List ℕ) (pos r : ℕ) : Type 0 where
@@ -330,19 +337,20 @@ module _ (img : List ℕ) (x : Place) (pos : ℕ) (a : NodeOf img (x .page) (x .
       let s = nodes-split img (l .settings) (l .root) (l .reads) (l .seen) (pos ∷ []) (l .order) in
       go (s .0) (s .1) (s .2) (s .3)
     where
-      go : (xs ys : List Node) → nodes (shown (l .root)) ≡ xs ++ ys → All (Both img (l .root)) ys (pos ∷ []) → nextOf img x ≡ record { number = 0; next = next-is.End }
+      go : (xs ys : List Node) → nodes (shown (l .root)) ≡ xs ++ ys → All (Both img (l .root)) ys (pos ∷ [])
+          → nextOf img x ≡ record { number = 0; next = next-is.End }
       go xs [] e b = absurd b
       go xs (n ∷ []) e b = next-last img (l .settings) (l .root) (l .reads) xs n x e (its-place (l .settings) (l .root) (l .reads) n (b .0 .1))
       go xs (n ∷ m ∷ ys) e b = absurd (b .1)
 
   pub answer-node : (n : ℕ) → Follows img pos n
-      → nextOf img x ≡ record { number = 0; next = next-is.Node (record { place = record { page = n / pageSize; offset = n % pageSize }; kind = kindOf (getD img n 0) }) }
+      → nextOf img x ≡ nextAt n (kindOf (kindAt img n))
   answer-node n l =
       let s = nodes-split img (l .settings) (l .root) (l .reads) (l .seen) (pos ∷ n ∷ l .later) (l .order) in
       go (s .0) (s .1) (s .2) (s .3)
     where
       go : (xs ys : List Node) → nodes (shown (l .root)) ≡ xs ++ ys → All (Both img (l .root)) ys (pos ∷ n ∷ l .later)
-          → nextOf img x ≡ record { number = 0; next = next-is.Node (record { place = record { page = n / pageSize; offset = n % pageSize }; kind = kindOf (getD img n 0) }) }
+          → nextOf img x ≡ nextAt n (kindOf (kindAt img n))
       go xs [] e b = absurd b
       go xs (k ∷ []) e b = absurd (b .1)
       go xs (k ∷ m ∷ ys) e b =
@@ -358,11 +366,13 @@ answer-stray img x r z l e =
 -- A node that follows is in the image.
 pub follows-inside : {img : List ℕ} {pos n : ℕ} → Follows img pos n → n < length img
 follows-inside {img} {pos} {n} l =
-    let m = split-mem n (spots (pageSize + base (l .root)) (l .root)) (l .seen ++ pos ∷ []) (l .later) (l .order ∙ sym (append-assoc (l .seen) (pos ∷ []) (n ∷ l .later))) in
-    let h = spot-header img (l .settings) (l .root) (l .reads) n (spot-of (l .root) n m) in
+    let m =
+    split-mem n (spots (pageSize + base (l .root)) (l .root)) (l .seen ++ pos ∷ []) (l .later)
+    (l .order ∙ sym (append-assoc (l .seen) (pos ∷ []) (n ∷ l .later))) in
+    let h = node-header img (l .settings) (l .root) (l .reads) n (node-in (l .root) n m) in
     omega (arith, h .room, h .on .inside)
 
 -- The answer with the kind that is read.
-pub answer-kind : (img : List ℕ) (x : Place) (pos n : ℕ) (k : Kind) → NodeOf img (x .page) (x .offset) pos → Follows img pos n → k ≡ kindOf (getD img n 0)
-    → record { number = 0; next = next-is.Node (record { place = record { page = n / pageSize; offset = n % pageSize }; kind = k }) } ≡ nextOf img x
+pub answer-kind : (img : List ℕ) (x : Place) (pos n : ℕ) (k : Kind) → NodeOf img (x .page) (x .offset) pos → Follows img pos n → k ≡ kindOf (kindAt img n)
+    → nextAt n k ≡ nextOf img x
 answer-kind img x pos n k a f e = rw e (sym (answer-node img x pos a n f))

@@ -1,46 +1,46 @@
 -- What Read tells of the node at a byte.
-use mathlib.Core.Path.{_≡_, sym, subst, _∙_}
-use mathlib.Core.Bool.{cond}
+use mathlib.Core.Path.{_≡_, sym, subst, _∙_, refl}
+use mathlib.Core.Bool.{cond, true}
 use mathlib.Core.List.{List, [], _∷_, _++_}
 use mathlib.Core.Option.{some}
-use Prim.Native.Nat.{ℕ, _+_, _-_, _≤_}
+use Prim.Native.Nat.{ℕ, _+_, _-_, _≤_, _<_}
 use native.Mathlib.Omega.{arith}
-use lib.ListN.{length, getD}
+use lib.ListN.{length}
 use lib.Dec.{eqb}
 use Rattle.model.specs.Limits.{mostPages, mostBytes}
-use Rattle.model.specs.Row.{Row, nil, agg, lit, rec, size, Config}
-use Rattle.model.specs.Reading.{Reads, twoAt, sizeAt}
+use Rattle.model.specs.Row.{Row, nil, agg, lit, rec, size, Config, isAgg}
+use Rattle.model.specs.Reading.{Reads, sizeAt, kindAt, headAt}
 use Rattle.model.specs.Tree.{Node, shown, nodes, placeOf, fromPlace, width}
 use Rattle.model.specs.Answers.{readRefused}
 use Rattle.model.specs.Calls.{checkOf, readOf, readIn, asRead}
 use Rattle.model.specs.declared.Place.{Place}
 use Rattle.model.specs.declared.ReadNode.{ReadNode}
 use Rattle.theory_decoding.specs.Reading.{reads-valid, unique}
-use Rattle.theory_decoding.specs.Steps.{steps}
 use Rattle.theory_places.specs.From.{from-split}
 use Rattle.theory_calls.specs.Open.{opens}
 use Rattle.theory_calls.specs.Navigate.{read-stray}
-use Rattle.theory_layout.specs.Here.{nesting, Here, agg-view, lit-view}
+use Rattle.theory_row_bytes.specs.RowAt.{kindOf, headOf, bodyOf, kidsOf}
+use Rattle.theory_layout.specs.Here.{View, view}
 use Rattle.theory_layout.specs.Items.{expand}
-use Rattle.theory_layout.specs.Order.{Spot, spot-split}
-use Rattle.theory_layout.specs.Nodes.{All, Leads, ReadAt, Both, nodes-split}
-use Rattle.read_find.specs.Rowed.{Rowed, width-steps}
+use Rattle.theory_layout.specs.Order.{NodeIn, node-split}
+use Rattle.theory_layout.specs.Nodes.{All, ReadAt, Both, nodes-split}
+use Rattle.read_find.specs.Rowed.{Rowed, children-of, width-steps}
 use Rattle.read_next.specs.Scan.{NodeAt, NodeOf, Located, store-of}
 use Rattle.read_next.specs.Follow.{its-place}
 
 -- ── what a place finds ──
 
 -- The node at a byte is one of whatever store the image is read as.
-spot-any : (img : List ℕ) (pos : ℕ) → NodeAt img pos → (st : Config) (root : Row) → Reads img st root → Spot root pos
+spot-any : (img : List ℕ) (pos : ℕ) → NodeAt img pos → (st : Config) (root : Row) → Reads img st root → NodeIn root pos
 spot-any img pos a st root r =
-    subst (λ (s : Config × Row). Spot (s .1) pos) (unique img (a .settings, a .root) (st, root) (a .reads) r) (a .spot)
+    subst (λ (s : Config × Row). NodeIn (s .1) pos) (unique img (a .settings, a .root) (st, root) (a .reads) r) (a .spot)
 
 -- and else the place finds the node that is read there.
 pub some-from : (img : List ℕ) (x : Place) (pos : ℕ) → NodeOf img (x .page) (x .offset) pos → (st : Config) (root : Row) → Reads img st root
     → (n : Node) × (ms : List Node) × (fromPlace (placeOf root) x (nodes (shown root)) ≡ n ∷ ms) × ReadAt img n pos × (placeOf root (n .path) ≡ some x)
 some-from img x pos a st root r =
     let s = spot-any img pos (a .node) st root r in
-    let k = nodes-split img st root r (s .before ++ expand (s .left)) (pos ∷ (expand (s .right) ++ s .after)) (spot-split s) in
+    let k = nodes-split img st root r (s .before ++ expand (s .left)) (pos ∷ (expand (s .right) ++ s .after)) (node-split s) in
     go (k .0) (k .1) (expand (s .right) ++ s .after) (k .2) (k .3)
   where
     go : (xs ys : List Node) (later : List ℕ) → nodes (shown root) ≡ xs ++ ys → All (Both img root) ys (pos ∷ later)
@@ -74,10 +74,12 @@ told-stray img x r z l e =
 -- ── an aggregate, a literal ──
 
 abbrev pub aggRead : (img : List ℕ) (pos : ℕ) → Row → ReadNode
-aggRead img pos row = record { number = 0; kind = 1; label = twoAt img (pos + 2); children = width row; start = 0; len = 0 }
+aggRead img pos row = record { number = 0; kind = 1; label = headAt img pos .label; children = width row; start = 0; len = 0 }
 
 abbrev pub litRead : (img : List ℕ) (pos : ℕ) → ReadNode
-litRead img pos = record { number = 0; kind = 2; label = twoAt img (pos + 2); children = 0; start = cond (eqb (sizeAt img pos - 6) 0) 0 (pos + 6); len = sizeAt img pos - 6 }
+litRead img pos =
+    let n = sizeAt img pos - 6 in
+    record { number = 0; kind = 2; label = headAt img pos .label; children = 0; start = cond (eqb n 0) 0 (pos + 6); len = n }
 
 -- The row of an aggregate's children.
 abbrev pub Inner : (img : List ℕ) (pos : ℕ) → Type 0
@@ -91,38 +93,43 @@ pub record LitTold (img : List ℕ) (x : Place) (pos : ℕ) : Type 0 where
   pub long : 6 ≤ sizeAt img pos
   pub is : litRead img pos ≡ readOf img x
 
-module _ (img : List ℕ) (x : Place) (pos : ℕ) (a : NodeOf img (x .page) (x .offset) pos) where
+module _ (img : List ℕ) (x : Place) (pos : ℕ) (i : NodeOf img (x .page) (x .offset) pos) where
   t : Told img x pos
-  t = node-told img x pos a
+  t = node-told img x pos i
 
-  pub agg-told : getD img pos 0 ≡ 1 → AggTold img x pos
-  agg-told k = go (t .read .row) (t .read .here) (t .read .leads) (t .read .deep) (t .read .few)
-    where
-      go : (row : Row) → Here img (t .read .page) pos row → Leads row (t .node) → nesting row ≤ mostPages → steps row ≤ mostBytes → AggTold img x pos
-      go nil v l d f = absurd l
-      go (agg h cs rest) v l d f =
-          let w = agg-view img (t .read .page) pos h cs rest v in
-          record {
-            inner = record { page = t .read .page; row = cs; here = w .children; ends = omega (arith, w .long); deep = omega arith; few = omega arith };
-            is = sym (t .is ∙ rw (l .0, l .1, l .2, l .3, w .label));
-          }
-      go (lit h c rest) v l d f = absurd (omega (arith, lit-view img (t .read .page) pos h c rest v .kind))
-      go (rec p s r rest) v l d f = absurd l
+  r : ReadAt img (t .node) pos
+  r = t .read
 
-  pub lit-told : (getD img pos 0 ≡ 1 → ⊥) → LitTold img x pos
-  lit-told k = go (t .read .row) (t .read .here) (t .read .leads)
+  v : View img (r .page) pos (r .row)
+  v = view (r .here) (r .some)
+
+  pub agg-told : kindAt img pos ≡ 1 → AggTold img x pos
+  unfolding v r
+  agg-told k =
+      let e : kindOf (r .row) ≡ 1 = sym (v .kind-is) ∙ k in
+      record {
+        inner = children-of (r .here) e (r .deep) (r .few) _ refl;
+        is = sym (t .is ∙ rw (r .kind-is, r .head-is, r .content-is, r .children-is, ← v .kind-is, ← v .head-is, k, is-agg (r .row) e));
+      }
     where
-      go : (row : Row) → Here img (t .read .page) pos row → Leads row (t .node) → LitTold img x pos
-      go nil v l = absurd l
-      go (agg h cs rest) v l = absurd (k (agg-view img (t .read .page) pos h cs rest v .kind))
-      go (lit h c rest) v l =
-          let w = lit-view img (t .read .page) pos h c rest v in
-          let z : 6 + length c - 6 ≡ length c = omega arith in
-          record {
-            long = omega (arith, w .long);
-            is = sym (t .is ∙ rw (l .0, l .1, l .2, l .3, w .label, w .long, z, ← a .is));
-          }
-      go (rec p s r rest) v l = absurd l
+      is-agg : (row : Row) → kindOf row ≡ 1 → isAgg row ≡ true
+      is-agg nil e = absurd (omega arith)
+      is-agg (agg h cs rest) e = refl
+      is-agg (lit h c rest) e = absurd (omega arith)
+      is-agg (rec p s x rest) e = absurd (omega arith)
+
+  pub lit-told : (kindAt img pos ≡ 1 → ⊥) → LitTold img x pos
+  unfolding v r
+  lit-told k = go (r .row) (r .some) v (r .plain) (r .kind-is) (r .head-is) (r .content-is) (r .children-is)
+    where
+      go : (row : Row) → 0 < size row → View img (r .page) pos row → (kindOf row ≡ 3 → ⊥) → t .node .kind ≡ kindOf row → t .node .head ≡ headOf row
+          → t .node .content ≡ cond (isAgg row) [] (bodyOf row) → t .node .children ≡ width (kidsOf row) → LitTold img x pos
+      go nil h w p a b c d = absurd (omega arith)
+      go (agg hd cs rest) h w p a b c d = absurd (k (w .kind-is))
+      go (lit hd s rest) h w p a b c d =
+          let z : 6 + length s - 6 ≡ length s = omega arith in
+          record { long = omega (arith, w .size-is); is = sym (t .is ∙ rw (a, b, c, d, ← w .head-is, w .size-is, z, ← i .is)) }
+      go (rec q s y rest) h w p a b c d = absurd (p refl)
 
 -- The children's row, with an end that is read.
 abbrev pub inner-to : (img : List ℕ) (pos end : ℕ) → end ≡ pos + sizeAt img pos → Inner img pos → Rowed img (pos + 6) end mostPages
@@ -132,10 +139,10 @@ pub inner-few : (img : List ℕ) (pos : ℕ) (w : Inner img pos) → width (w .r
 inner-few img pos w = omega (arith, width-steps (w .row), w .few)
 
 -- The answers with the numbers that are read.
-pub agg-is : (img : List ℕ) (pos label n : ℕ) (row : Row) → label ≡ twoAt img (pos + 2) → n ≡ width row
+pub agg-is : (img : List ℕ) (pos label n : ℕ) (row : Row) → label ≡ headAt img pos .label → n ≡ width row
     → record { number = 0; kind = 1; label = label; children = n; start = 0; len = 0 } ≡ aggRead img pos row
 agg-is img pos label n row e f = rw (e, f)
 
-pub lit-is : (img : List ℕ) (pos label size start : ℕ) → label ≡ twoAt img (pos + 2) → size ≡ sizeAt img pos → start ≡ cond (eqb (size - 6) 0) 0 (pos + 6)
+pub lit-is : (img : List ℕ) (pos label size start : ℕ) → label ≡ headAt img pos .label → size ≡ sizeAt img pos → start ≡ cond (eqb (size - 6) 0) 0 (pos + 6)
     → record { number = 0; kind = 2; label = label; children = 0; start = start; len = size - 6 } ≡ litRead img pos
 lit-is img pos label size start e f g = rw (e, g, f)

@@ -1,5 +1,9 @@
 // Moving about in an image that passes the check: the node of a place, and the next one in document order.
-use base_numbers::two;
+use base_layout::back_at;
+use base_layout::label_at;
+use base_layout::name_at;
+use base_layout::size_at;
+use base_layout::used_at;
 use model::Kind;
 use model::Next;
 use model::NextAnswer;
@@ -15,14 +19,15 @@ ghost use mathlib.Core.Bool.{false, cond};
 ghost use Prim.Native.Nat.{ℕ, _+_, _*_, _≤_, _<_};
 ghost use lib.ListN.{length, getD};
 ghost use lib.Dec.{eqb};
-ghost use Rattle.model.specs.Limits.{pageSize, mostBytes};
-ghost use Rattle.model.specs.Reading.{sizeAt, usedAt};
+ghost use Rattle.model.specs.Limits.{mostBytes};
+ghost use Rattle.model.specs.Reading.{sizeAt};
 ghost use Rattle.model.specs.Calls.{checkOf, kindOf, nextOf, readOf};
+ghost use Rattle.read_find.specs.Rowed.{endOn};
 ghost use Rattle.theory_layout.specs.Order.{step};
 ghost use Rattle.theory_layout.specs.Widths.{Widths};
 ghost use Rattle.read_next.specs.Scan.{OnRecord, Reached, Standing, Located, HeldBy, NodeAt, names as namesPage};
 ghost use Rattle.read_next.specs.Read.{Inner, aggRead, litRead};
-ghost use Rattle.read_next.specs.Follow.{Climbed, Ahead, Follows, Nexted};
+ghost use Rattle.read_next.specs.Follow.{ItemAfter, Ahead, Follows, Nexted};
 
 // Where the header after the one at pos stands.
 fn flat(image: &[u8], pos: usize) -> usize
@@ -32,14 +37,14 @@ fn flat(image: &[u8], pos: usize) -> usize
     if image[pos] == 1 {
         return pos + 6;
     }
-    pos + two(image, pos + 4)
+    pos + size_at(image, pos)
 }
 
 // ── a place ──
 
 // The first header of a record from the target on, which is before the record's end.
 fn reach(image: &[u8], page: usize, target: usize) -> usize
-    requires { ⌜ OnRecord (now image) page × (target < pageSize * page + usedAt (now image) (pageSize * page)) ⌝ }
+    requires { ⌜ OnRecord (now image) page × (target < endOn (now image) page) ⌝ }
     ensures { λ r. ⌜ Reached (now (image .entry)) page target r ⌝ }
 {
     let mut pos = row_start(image, page);
@@ -51,7 +56,7 @@ fn reach(image: &[u8], page: usize, target: usize) -> usize
 
 // The target if a node stands there, else 0.
 fn standing(image: &[u8], page: usize, target: usize) -> usize
-    requires { ⌜ OnRecord (now image) page × (target < pageSize * page + usedAt (now image) (pageSize * page)) ⌝ }
+    requires { ⌜ OnRecord (now image) page × (target < endOn (now image) page) ⌝ }
     ensures { λ r. ⌜ Standing (now (image .entry)) page target r ⌝ }
 {
     let pos = reach(image, page, target);
@@ -79,7 +84,7 @@ pub fn node_at(image: &[u8], page: usize, offset: usize) -> usize
     if image[a + Settings::CAPACITY] != 1 {
         return 0;
     }
-    if two(image, a + 4082) <= offset {
+    if used_at(image, a) <= offset {
         return 0;
     }
     standing(image, page, a + offset)
@@ -93,7 +98,7 @@ fn names(image: &[u8], pos: usize, page: usize) -> bool
     ensures { λ r. ⌜ r ≡ namesPage (now (image .entry)) pos page ⌝ }
 {
     if image[pos] == 3 {
-        return two(image, pos + 6) == page;
+        return name_at(image, pos) == page;
     }
     false
 }
@@ -111,9 +116,9 @@ pub fn find_proxy(image: &[u8], holder: usize, page: usize) -> usize
 }
 
 // The next item after a node, which past the end of a record stands behind the record's proxy; 0 at the end.
-fn climb(image: &[u8], pos: usize) -> usize
+fn item_after(image: &[u8], pos: usize) -> usize
     requires { ⌜ NodeAt (now image) pos ⌝ }
-    ensures { λ r. ⌜ Climbed (now (image .entry)) pos r ⌝ }
+    ensures { λ r. ⌜ ItemAfter (now (image .entry)) pos r ⌝ }
 {
     let mut page = pos / Settings::PAGE;
     let mut at = flat(image, pos);
@@ -122,7 +127,7 @@ fn climb(image: &[u8], pos: usize) -> usize
         if page == 1 {
             return 0;
         }
-        let holder = two(image, Settings::PAGE * page + 4084);
+        let holder = back_at(image, Settings::PAGE * page);
         at = find_proxy(image, holder, page) + 8;
         page = holder;
         left = left - 1;
@@ -138,7 +143,7 @@ fn enter(image: &[u8], item: usize) -> usize
     let mut at = item;
     let mut left: usize = Settings::PAGES;
     while image[at] == 3 {
-        at = row_start(image, two(image, at + 6));
+        at = row_start(image, name_at(image, at));
         left = left - 1;
     }
     at
@@ -149,7 +154,7 @@ pub fn next_in(image: &[u8], pos: usize) -> usize
     requires { ⌜ NodeAt (now image) pos ⌝ }
     ensures { λ r. ⌜ Nexted (now (image .entry)) pos r ⌝ }
 {
-    let item = climb(image, pos);
+    let item = item_after(image, pos);
     if item == 0 {
         return 0;
     }
@@ -206,8 +211,8 @@ fn read_agg(image: &[u8], widths: &[u32; Settings::PAGES], pos: usize) -> ReadNo
     requires { ⌜ (pos + 5 < length (now image)) × (pos < mostBytes) × Inner (now image) pos × Widths (now image) (now widths) ⌝ }
     ensures { λ r. ⌜ ((w : Inner (now (image .entry)) pos) → r ≡ aggRead (now (image .entry)) pos (w .row)) ⌝ }
 {
-    let label = two(image, pos + 2);
-    let end = pos + two(image, pos + 4);
+    let label = label_at(image, pos);
+    let end = pos + size_at(image, pos);
     let n = width(image, widths, pos + 6, end);
     ReadNode {
         number: 0,
@@ -234,8 +239,8 @@ fn read_lit(image: &[u8], pos: usize) -> ReadNode
     requires { ⌜ (pos + 5 < length (now image)) × (pos < mostBytes) × (6 ≤ sizeAt (now image) pos) ⌝ }
     ensures { λ r. ⌜ r ≡ litRead (now (image .entry)) pos ⌝ }
 {
-    let label = two(image, pos + 2);
-    let len = two(image, pos + 4) - 6;
+    let label = label_at(image, pos);
+    let len = size_at(image, pos) - 6;
     let start = content_at(pos, len);
     ReadNode {
         number: 0,

@@ -2,5 +2,4 @@ pub mod Valid
 pub mod Length
 pub mod Steps
 pub mod Decode
-pub mod At
 pub mod Reading

@@ -12,7 +12,7 @@ use Rattle.model.specs.Reading.{Reads, pageOf}
 use Rattle.theory_rows.specs.Image.{Stored}
 use Rattle.theory_decoding.specs.Decode.{stored-image}
 use Rattle.theory_decoding.specs.Reading.{reads-valid}
-use Rattle.theory_layout.specs.Here.{Here, OnPage, agg-view, lit-view, rec-view, root-page}
+use Rattle.theory_layout.specs.Here.{Here, OnPage, view, root-page}
 use Rattle.theory_insert_point.specs.Chain.{Spot, here, inside, fill, before, Chain, top, below, lastPage, lastSettled, lastHolder, whole}
 use Rattle.theory_insert_point.specs.Taking.{Taking, taking, taking-whole}
 
@@ -33,19 +33,19 @@ module _ (img : List ℕ) where
   here-⊹ page pos nil b v = let z : pos ≡ pos + 0 = omega arith in subst (λ (n : ℕ). Here img page n b) z v
   here-⊹ page pos (agg h cs rest) b v =
       let z : pos + (6 + size cs) + size rest ≡ pos + (6 + size cs + size rest) = omega arith in
-      subst (λ (n : ℕ). Here img page n b) z (here-⊹ page (pos + (6 + size cs)) rest b (agg-view img page pos h cs (rest ⊹ b) v .after))
+      subst (λ (n : ℕ). Here img page n b) z (here-⊹ page (pos + (6 + size cs)) rest b (view v (omega arith) .after))
   here-⊹ page pos (lit h c rest) b v =
       let z : pos + (6 + length c) + size rest ≡ pos + (6 + length c + size rest) = omega arith in
-      subst (λ (n : ℕ). Here img page n b) z (here-⊹ page (pos + (6 + length c)) rest b (lit-view img page pos h c (rest ⊹ b) v .after))
+      subst (λ (n : ℕ). Here img page n b) z (here-⊹ page (pos + (6 + length c)) rest b (view v (omega arith) .after))
   here-⊹ page pos (rec p s r rest) b v =
       let z : pos + 8 + size rest ≡ pos + (8 + size rest) = omega arith in
-      subst (λ (n : ℕ). Here img page n b) z (here-⊹ page (pos + 8) rest b (rec-view img page pos p s r (rest ⊹ b) v .after))
+      subst (λ (n : ℕ). Here img page n b) z (here-⊹ page (pos + 8) rest b (view v (omega arith) .after))
 
   -- What fills a spot stands there,
   pub here-fill : (page pos : ℕ) (s : Spot) (x : Row) → Here img page pos (fill s x) → Here img page (pos + before s) x
   here-fill page pos (here left) x v = here-⊹ page pos left x v
   here-fill page pos (inside left h rest s) x v =
-      let g = agg-view img page (pos + size left) h (fill s x) rest (here-⊹ page pos left (agg h (fill s x) rest) v) in
+      let g = view (here-⊹ page pos left (agg h (fill s x) rest) v) (omega arith) in
       let z : pos + size left + 6 + before s ≡ pos + (size left + 6 + before s) = omega arith in
       subst (λ (n : ℕ). Here img page n x) z (here-fill page (pos + size left + 6) s x (g .children))
 
@@ -56,7 +56,7 @@ module _ (img : List ℕ) where
   page-in : (c : Chain) (row : Row) → OnPage img 1 0 (whole c row) → OnPage img (lastPage c) (lastHolder c) row
   page-in top row v = v
   page-in (below c s q b rest) row v =
-      rec-view img (lastPage c) (proxyAt c s q b rest row) q b row rest (proxy-in c s q b rest row (page-in c (fill s (rec q b row rest)) v)) .under
+      view (proxy-in c s q b rest row (page-in c (fill s (rec q b row rest)) v)) (omega arith) .under
 
   module _ (st : Config) (root : Row) (r : Reads img st root) where
     -- The last record of a chain of the root record stands on its page,
@@ -80,4 +80,5 @@ module _ (img : List ℕ) where
         → Here img (lastPage (t .chain)) (pageSize * lastPage (t .chain) + base (fill (t .spot) (t .rest)) + before (t .spot)) (t .rest)
     taking-here path k t e =
         let row = fill (t .spot) (t .rest) in
-        here-fill (lastPage (t .chain)) (pageSize * lastPage (t .chain) + base row) (t .spot) (t .rest) (chain-page (t .chain) row (taking-whole root path k t e) .here)
+        here-fill (lastPage (t .chain)) (pageSize * lastPage (t .chain) + base row) (t .spot) (t .rest)
+        (chain-page (t .chain) row (taking-whole root path k t e) .here)

@@ -3,6 +3,7 @@ use mathlib.Core.Path.{_≡_, refl, sym, ap, _∙_}
 use mathlib.Core.Bool.{Bool, true, false, true≢false, false≢true}
 use Prim.Native.Nat.{ℕ, suc, _+_, _≤_}
 use native.Mathlib.Omega.{arith}
+use Rattle.theory_insert_point.specs.Parts.{part-fill, nesting-part}
 use Rattle.model.specs.Row.{Row, nil, agg, lit, rec, _⊹_, lone, height, Config}
 use Rattle.model.specs.Tree.{Tree, branch, _⊞_, shown}
 use Rattle.model.specs.Growth.{Out, onRow, rootRow, close}
@@ -95,16 +96,6 @@ abbrev pub chainLength : Chain → ℕ
 chainLength top = 0
 chainLength (below c s q b rest) = suc (chainLength c)
 
-nesting-⊹ : (a b : Row) → nesting b ≤ nesting (a ⊹ b)
-nesting-⊹ nil b = omega arith
-nesting-⊹ (agg h cs rest) b = omega (arith, nesting-⊹ rest b)
-nesting-⊹ (lit h c rest) b = nesting-⊹ rest b
-nesting-⊹ (rec p s r rest) b = omega (arith, nesting-⊹ rest b)
-
-nesting-fill : (s : Spot) (x : Row) → nesting x ≤ nesting (fill s x)
-nesting-fill (here left) x = nesting-⊹ left x
-nesting-fill (inside left h rest s) x = omega (arith, nesting-⊹ left (agg h (fill s x) rest), nesting-fill s x)
-
 pub chain-nesting : (c : Chain) (x : Row) → chainLength c + nesting x ≤ nesting (whole c x)
 chain-nesting top x = omega arith
-chain-nesting (below c s q b rest) x = omega (arith, chain-nesting c (fill s (rec q b x rest)), nesting-fill s (rec q b x rest))
+chain-nesting (below c s q b rest) x = omega (arith, chain-nesting c (fill s (rec q b x rest)), part-fill nesting nesting-part s (rec q b x rest))

@@ -3,6 +3,8 @@ use mathlib.Core.Bool.{Bool}
 use mathlib.Core.List.{List}
 use Prim.Native.Nat.{ℕ, _≤_}
 use native.Mathlib.Omega.{arith}
+use Rattle.theory_decoding.specs.Steps.{steps}
+use Rattle.theory_layout.specs.Here.{nesting}
 use Rattle.model.specs.Row.{Head, Row, nil, agg, lit, rec, _⊹_, count}
 use Rattle.theory_insert_point.specs.Chain.{Spot, here, inside, fill, Chain, top, below, whole}
 
@@ -30,9 +32,27 @@ module _ (f : Row → ℕ) (p : Part f) where
   part-whole (below c s q b rest) row =
       omega (arith, p .under q b row rest, part-fill s (rec q b row rest), part-whole c (fill s (rec q b row rest)))
 
--- How often a page is named is one.
+-- How often a page is named is one, how far records are nested, and the steps of a decoding.
 pub count-part : (q : ℕ) → Part (count q)
 count-part q = record {
+  children = λ h cs rest. omega arith;
+  after-agg = λ h cs rest. omega arith;
+  after-lit = λ h c rest. omega arith;
+  under = λ p b r rest. omega arith;
+  after-rec = λ p b r rest. omega arith;
+}
+
+pub nesting-part : Part nesting
+nesting-part = record {
+  children = λ h cs rest. omega arith;
+  after-agg = λ h cs rest. omega arith;
+  after-lit = λ h c rest. omega arith;
+  under = λ p b r rest. omega arith;
+  after-rec = λ p b r rest. omega arith;
+}
+
+pub steps-part : Part steps
+steps-part = record {
   children = λ h cs rest. omega arith;
   after-agg = λ h cs rest. omega arith;
   after-lit = λ h c rest. omega arith;

@@ -2,12 +2,13 @@
 use mathlib.Core.Path.{_≡_, refl, sym, ap, subst, _∙_}
 use mathlib.Core.List.{List, [], _∷_, _++_, map, nil≢cons, head-eq-of-cons-eq, tail-eq-of-cons-eq, List·Memᴰ, List·Memᴰ·head, List·Memᴰ·tail}
 use mathlib.Core.Option.{some, Option·some-injective}
-use Prim.Native.Nat.{ℕ, _+_, _*_, _/_, _%_, _≤_}
+use Prim.Native.Nat.{ℕ, _+_, _*_, _/_, _%_, _≤_, _<_}
 use native.Mathlib.Omega.{arith}
-use lib.ListN.{length, getD}
+use lib.ListN.{length}
+use mathlib.Core.Bool.{cond}
 use Rattle.model.specs.Limits.{mostPages, pageSize, mostBytes}
-use Rattle.model.specs.Row.{Row, nil, agg, lit, rec, size, base, Config}
-use Rattle.model.specs.Reading.{Reads}
+use Rattle.model.specs.Row.{Row, nil, agg, lit, rec, size, base, Config, Head, isAgg}
+use Rattle.model.specs.Reading.{Reads, kindAt}
 use Rattle.model.specs.Tree.{shown, breadth, width, Node, below, further, nodes, places, placeOf}
 use Rattle.model.specs.declared.Place.{Place}
 use Rattle.theory_rows.specs.Laws.{breadth-shown}
@@ -16,7 +17,8 @@ use Rattle.theory_decoding.specs.Steps.{steps, few-steps}
 use Rattle.theory_places.specs.Member.{Mem}
 use Rattle.theory_places.specs.Order.{lone-root, place-root, nodes-⊞}
 use Rattle.theory_places.specs.Inside.{Inside, place-inside}
-use Rattle.theory_layout.specs.Here.{nesting, Here, agg-view, lit-view, rec-view, root-here, root-nesting}
+use Rattle.theory_row_bytes.specs.RowAt.{kindOf, headOf, bodyOf, kidsOf}
+use Rattle.theory_layout.specs.Here.{nesting, Here, view, root-here, root-nesting}
 use Rattle.theory_layout.specs.Items.{spots}
 use Rattle.theory_layout.specs.Order.{addr, spots-places}
 
@@ -56,69 +58,74 @@ all-both R S (n ∷ ns) (s ∷ ss) a b = ((a .0, b .0), all-both R S ns ss (a .1
 
 -- ── what is read at a node ──
 
--- The row's first node is this one.
-abbrev pub Leads : Row → Node → Type 0
-Leads nil n = ⊥
-Leads (agg h cs rest) n = (n .kind ≡ 1) × (n .head ≡ h) × (n .content ≡ []) × (n .children ≡ width cs)
-Leads (lit h c rest) n = (n .kind ≡ 2) × (n .head ≡ h) × (n .content ≡ c) × (n .children ≡ 0)
-Leads (rec p s r rest) n = ⊥
-
-pub record ReadAt (img : List ℕ) (n : Node) (pos : ℕ) : Type 0 where
+-- A row whose first node has this kind, head and content, and shows so many children, stands at pos.
+pub record NodeRead (img : List ℕ) (kind : ℕ) (head : Head) (content : List ℕ) (children pos : ℕ) : Type 0 where
   pub page : ℕ
   pub row : Row
   pub here : Here img page pos row
-  pub leads : Leads row n
+  pub some : 0 < size row
+  pub plain : kindOf row ≡ 3 → ⊥
+  pub kind-is : kind ≡ kindOf row
+  pub head-is : head ≡ headOf row
+  pub content-is : content ≡ cond (isAgg row) [] (bodyOf row)
+  pub children-is : children ≡ width (kidsOf row)
   pub deep : nesting row ≤ mostPages
   pub few : steps row ≤ mostBytes
 
-leads-as : (row : Row) (m n : Node) → n .kind ≡ m .kind → n .head ≡ m .head → n .content ≡ m .content → n .children ≡ m .children → Leads row m → Leads row n
-leads-as nil m n a b c d h = h
-leads-as (agg l cs rest) m n a b c d h = (a ∙ h .0, b ∙ h .1, c ∙ h .2, d ∙ h .3)
-leads-as (lit l x rest) m n a b c d h = (a ∙ h .0, b ∙ h .1, c ∙ h .2, d ∙ h .3)
-leads-as (rec p s r rest) m n a b c d h = h
+abbrev pub ReadAt : (img : List ℕ) → Node → (pos : ℕ) → Type 0
+ReadAt img n pos = NodeRead img (n .kind) (n .head) (n .content) (n .children) pos
 
 module _ (img : List ℕ) where
-  read-below : (n : Node) (s : ℕ) → ReadAt img n s → ReadAt img (below n) s
-  read-below n s r = record { page = r .page; row = r .row; here = r .here; leads = leads-as (r .row) n (below n) refl refl refl refl (r .leads); deep = r .deep; few = r .few }
+  abbrev read-first : (page pos : ℕ) (row : Row) → Here img page pos row → 0 < size row → (kindOf row ≡ 3 → ⊥) → nesting row ≤ mostPages → steps row ≤ mostBytes
+      → {n : ℕ} → n ≡ width (kidsOf row) → NodeRead img (kindOf row) (headOf row) (cond (isAgg row) [] (bodyOf row)) n pos
+  read-first page pos row v h k d f e = record {
+    page = page;
+    row = row;
+    here = v;
+    some = h;
+    plain = k;
+    kind-is = refl;
+    head-is = refl;
+    content-is = refl;
+    children-is = e;
+    deep = d;
+    few = f;
+  }
 
-  read-further : (k : ℕ) (n : Node) (s : ℕ) → ReadAt img n s → ReadAt img (further k n) s
-  read-further k n s r = record { page = r .page; row = r .row; here = r .here; leads = leads-as (r .row) n (further k n) refl refl refl refl (r .leads); deep = r .deep; few = r .few }
-
-  pub read-all : (page pos : ℕ) (row : Row) → Here img page pos row → nesting row ≤ mostPages → steps row ≤ mostBytes → All (ReadAt img) (nodes (shown row)) (spots pos row)
+  pub read-all : (page pos : ℕ) (row : Row) → Here img page pos row → nesting row ≤ mostPages → steps row ≤ mostBytes
+      → All (ReadAt img) (nodes (shown row)) (spots pos row)
   read-all page pos nil v d f = tt
   read-all page pos (agg h cs rest) v d f =
-      let w = agg-view img page pos h cs rest v in
+      let some : 0 < size (agg h cs rest) = omega arith in
+      let w = view v some in
       let R = ReadAt img in
       let us = nodes (shown cs) in
       let vs = nodes (shown rest) in (
-        record { page = page; row = agg h cs rest; here = v; leads = (refl, refl, refl, breadth-shown cs); deep = d; few = f },
+        read-first page pos (agg h cs rest) v some (λ k. omega arith) d f (breadth-shown cs),
         all-++ R (map below us) (map (further 1) vs) (spots (pos + 6) cs) (spots (pos + (6 + size cs)) rest)
-            (all-map R below read-below us (spots (pos + 6) cs) (read-all page (pos + 6) cs (w .children) (omega arith) (omega arith)))
-            (all-map R (further 1) (read-further 1) vs (spots (pos + (6 + size cs)) rest) (read-all page (pos + (6 + size cs)) rest (w .after) (omega arith) (omega arith))),
+            (all-map R below (λ n s r. r) us (spots (pos + 6) cs) (read-all page (pos + 6) cs (w .children) (omega arith) (omega arith)))
+            (all-map R (further 1) (λ n s r. r) vs (spots (pos + (6 + size cs)) rest)
+            (read-all page (pos + (6 + size cs)) rest (w .after) (omega arith) (omega arith))),
       )
   read-all page pos (lit h c rest) v d f =
-      let w = lit-view img page pos h c rest v in (
-        record { page = page; row = lit h c rest; here = v; leads = (refl, refl, refl, refl); deep = d; few = f },
-        all-map (ReadAt img) (further 1) (read-further 1) (nodes (shown rest)) (spots (pos + (6 + length c)) rest) (read-all page (pos + (6 + length c)) rest (w .after) (omega arith) (omega arith)),
+      let some : 0 < size (lit h c rest) = omega arith in
+      let w = view v some in (
+        read-first page pos (lit h c rest) v some (λ k. omega arith) d f refl,
+        all-map (ReadAt img) (further 1) (λ n s r. r) (nodes (shown rest)) (spots (pos + (6 + length c)) rest)
+            (read-all page (pos + (6 + length c)) rest (w .after) (omega arith) (omega arith)),
       )
   read-all page pos (rec p s r rest) v d f =
-      let w = rec-view img page pos p s r rest v in
+      let w = view v (omega arith) in
       let R = ReadAt img in
       let k = breadth (shown r) in
       rw (nodes-⊞ (shown r) (shown rest))
       (all-++ R (nodes (shown r)) (map (further k) (nodes (shown rest))) (spots (pageSize * p + base r) r) (spots (pos + 8) rest)
       (read-all p (pageSize * p + base r) r (w .under .here) (omega arith) (omega arith))
-      (all-map R (further k) (read-further k) (nodes (shown rest)) (spots (pos + 8) rest) (read-all page (pos + 8) rest (w .after) (omega arith) (omega arith))))
+      (all-map R (further k) (λ n s r. r) (nodes (shown rest)) (spots (pos + 8) rest) (read-all page (pos + 8) rest (w .after) (omega arith) (omega arith))))
 
   -- The kind's byte is the node's.
-  pub read-kind : (n : Node) (s : ℕ) → ReadAt img n s → getD img s 0 ≡ n .kind
-  read-kind n s r = go (r .row) (r .here) (r .leads)
-    where
-      go : (row : Row) → Here img (r .page) s row → Leads row n → getD img s 0 ≡ n .kind
-      go nil v l = absurd l
-      go (agg h cs rest) v l = agg-view img (r .page) s h cs rest v .kind ∙ sym (l .0)
-      go (lit h c rest) v l = lit-view img (r .page) s h c rest v .kind ∙ sym (l .0)
-      go (rec p b x rest) v l = absurd l
+  pub read-kind : (n : Node) (s : ℕ) → ReadAt img n s → kindAt img s ≡ n .kind
+  read-kind n s r = view (r .here) (r .some) .kind-is ∙ sym (r .kind-is)
 
 -- ── the places ──
 
@@ -132,7 +139,8 @@ pub record PlacedAt (root : Row) (n : Node) (pos : ℕ) : Type 0 where
 abbrev pub Both : List ℕ → Row → Node → ℕ → Type 0
 Both img root n s = ReadAt img n s × PlacedAt root n s
 
-placed-all : (root : Row) (ns : List Node) (ps : List Place) (ss : List ℕ) → map (λ (n : Node). placeOf root (n .path)) ns ≡ map some ps → ss ≡ map addr ps → All (PlacedAt root) ns ss
+placed-all : (root : Row) (ns : List Node) (ps : List Place) (ss : List ℕ) → map (λ (n : Node). placeOf root (n .path)) ns ≡ map some ps → ss ≡ map addr ps
+    → All (PlacedAt root) ns ss
 placed-all root [] [] [] e f = tt
 placed-all root [] [] (s ∷ ss) e f = absurd (nil≢cons (sym f))
 placed-all root [] (p ∷ ps) ss e f = absurd (nil≢cons e)
@@ -156,11 +164,13 @@ module _ (img : List ℕ) (st : Config) (root : Row) (r : Reads img st root) whe
       let z : pageSize + base root ≡ pageSize = omega (arith, root-base) in
       let v = reads-valid img st root r in
       rw z
-      (all-both (ReadAt img) (PlacedAt root) (nodes (shown root)) (spots pageSize root) (read-all img 1 pageSize root (root-here img st root r) (root-nesting img st root r) (omega (arith, few-steps st root v, v .ranges .many)))
-      (placed-all root (nodes (shown root)) (places 1 0 root) (spots pageSize root) (place-root root (lone-root st root (reads-valid img st root r))) (spots-places 1 0 root)))
+      (all-both (ReadAt img) (PlacedAt root) (nodes (shown root)) (spots pageSize root)
+      (read-all img 1 pageSize root (root-here img st root r) (root-nesting img st root r) (omega (arith, few-steps st root v, v .ranges .many)))
+      (placed-all root (nodes (shown root)) (places 1 0 root) (spots pageSize root) (place-root root (lone-root st root v)) (spots-places 1 0 root)))
 
   -- A position splits the nodes as it splits the positions.
-  pub nodes-split : (before after : List ℕ) → spots (pageSize + base root) root ≡ before ++ after → (xs ys : List Node) × (nodes (shown root) ≡ xs ++ ys) × All (Both img root) ys after
+  pub nodes-split : (before after : List ℕ) → spots (pageSize + base root) root ≡ before ++ after
+      → (xs ys : List Node) × (nodes (shown root) ≡ xs ++ ys) × All (Both img root) ys after
   nodes-split before after e = all-split (Both img root) (nodes (shown root)) before after (subst (All (Both img root) (nodes (shown root))) e nodes-all)
 
   -- What is read at a node's place.
@@ -170,11 +180,13 @@ module _ (img : List ℕ) (st : Config) (root : Row) (r : Reads img st root) whe
       subst (ReadAt img n) (sym (b .2 .1 .is) ∙ ap addr (Option·some-injective _ _ (sym (b .2 .1 .has) ∙ e))) (b .2 .0)
 
   -- A node's place is one of the positions, and on its page.
-  pub node-spot : (n : Node) → Mem n (nodes (shown root)) → (x : Place) → placeOf root (n .path) ≡ some x → List·Memᴰ (addr x) (spots (pageSize + base root) root) × Inside st x
+  pub node-spot : (n : Node) → Mem n (nodes (shown root)) → (x : Place) → placeOf root (n .path) ≡ some x
+      → List·Memᴰ (addr x) (spots (pageSize + base root) root) × Inside st x
   node-spot n m x e =
       let b = mem-all (Both img root) (nodes (shown root)) (spots (pageSize + base root) root) nodes-all n m in
       let same : b .2 .1 .place ≡ x = Option·some-injective _ _ (sym (b .2 .1 .has) ∙ e) in
-      (subst (λ (s : ℕ). List·Memᴰ s (spots (pageSize + base root) root)) (sym (b .2 .1 .is) ∙ ap addr same) (b .1), place-inside st root (reads-valid img st root r) (n .path) x e)
+      let at = subst (λ (s : ℕ). List·Memᴰ s (spots (pageSize + base root) root)) (sym (b .2 .1 .is) ∙ ap addr same) (b .1) in
+      (at, place-inside st root (reads-valid img st root r) (n .path) x e)
 
   -- The place of a node at a position is that position's.
   pub place-at : (n : Node) (s : ℕ) → PlacedAt root n s → placeOf root (n .path) ≡ some (record { page = s / pageSize; offset = s % pageSize })

@@ -1,7 +1,8 @@
 -- The items of a record against the image's bytes and the document order.
 use mathlib.Core.Path.{_≡_, refl, sym, ap, ap₂, subst, _∙_}
 use mathlib.Core.Bool.{Bool, true, false, cond, false≢true}
-use mathlib.Core.List.{List, [], _∷_, _++_, map, map-append, append-assoc, append-nil, List·Memᴰ, List·Memᴰ·head, List·Memᴰ·tail, List·Memᴰ·append-cases, List·Memᴰ·cases-cons, List·Memᴰ·not-nil, Memᴰ·append-left, Memᴰ·append-right}
+use mathlib.Core.List.{List, [], _∷_, _++_, map, map-append, append-assoc, append-nil, List·Memᴰ, List·Memᴰ·head, List·Memᴰ·tail, List·Memᴰ·append-cases}
+use mathlib.Core.List.{List·Memᴰ·cases-cons, List·Memᴰ·not-nil, Memᴰ·append-left, Memᴰ·append-right}
 use mathlib.Core.Logic.{_⊎_, inl, inr}
 use Prim.Native.Nat.{ℕ, suc, _+_, _*_, _≤_, _<_}
 use native.Mathlib.Omega.{arith}
@@ -10,8 +11,8 @@ use lib.ListN.{length, getD, drop}
 use lib.Seq.{getD-drop, getD-take}
 use lib.Dec.{eqb}
 use Rattle.model.specs.Limits.{mostPages, pageSize, capacity}
-use Rattle.model.specs.Row.{Head, Row, nil, agg, lit, rec, store, size, base, Held, records, recordPage, pageAt, count, outside, Config, recordOn}
-use Rattle.model.specs.Reading.{Reads, pageOf, sizeAt, nameAt, stateAt}
+use Rattle.model.specs.Row.{Head, Row, nil, agg, lit, rec, store, size, base, Held, records, recordPage, pageAt, count, outside, Config, recordOn, isAgg}
+use Rattle.model.specs.Reading.{Reads, pageOf, sizeAt, nameAt, stateAt, kindAt}
 use Rattle.model.specs.Tree.{places}
 use Rattle.model.specs.Calls.{times}
 use Rattle.model.specs.declared.Place.{Place}
@@ -20,7 +21,9 @@ use Rattle.theory_rows.specs.Laws.{cond-case}
 use Rattle.theory_rows.specs.Image.{image-page}
 use Rattle.theory_decoding.specs.Reading.{reads-valid}
 use Rattle.theory_places.specs.Pages.{pages-once}
-use Rattle.theory_layout.specs.Here.{nesting, PageIn, Here, agg-view, lit-view, OnPage, rec-view, root-page, root-nesting}
+use Rattle.theory_places.specs.Member.{mem-split}
+use Rattle.theory_row_bytes.specs.RowAt.{kindOf, sizeOf}
+use Rattle.theory_layout.specs.Here.{nesting, PageIn, Here, OnPage, view, root-page, root-nesting}
 use Rattle.theory_layout.specs.Items.{Item, node, proxy, items, spots, shows, expand, In, top, sub}
 
 -- ── the items show the nodes ──
@@ -32,7 +35,8 @@ expand-++ (i ∷ a) b = rw (expand-++ a b) (sym (append-assoc (shows i) (expand 
 pub expand-items : (pos : ℕ) (row : Row) → expand (items pos row) ≡ spots pos row
 expand-items pos nil = refl
 expand-items pos (agg h cs rest) =
-    ap (_∷_ pos) (expand-++ (items (pos + 6) cs) (items (pos + (6 + size cs)) rest) ∙ ap₂ _++_ (expand-items (pos + 6) cs) (expand-items (pos + (6 + size cs)) rest))
+    ap (_∷_ pos)
+    (expand-++ (items (pos + 6) cs) (items (pos + (6 + size cs)) rest) ∙ ap₂ _++_ (expand-items (pos + 6) cs) (expand-items (pos + (6 + size cs)) rest))
 expand-items pos (lit h c rest) = ap (_∷_ pos) (expand-items (pos + (6 + length c)) rest)
 expand-items pos (rec p s r rest) = ap (λ (l : List ℕ). spots (pageSize * p + base r) r ++ l) (expand-items (pos + 8) rest)
 
@@ -69,33 +73,28 @@ abbrev pub at : Item → ℕ
 at (node q) = q
 at (proxy q p r) = q
 
-pub mem-split : {A : Type 0} (a : A) (l : List A) → List·Memᴰ a l → (xs ys : List A) × (l ≡ xs ++ a ∷ ys)
-mem-split a (b ∷ l) (List·Memᴰ·head e) = ([], l, ap (λ x. x ∷ l) (sym e))
-mem-split a (b ∷ l) (List·Memᴰ·tail i) =
-    let s = mem-split a l i in
-    (b ∷ s .0, s .1, ap (_∷_ b) (s .2))
-
 pub split-mem : {A : Type 0} (a : A) (l xs ys : List A) → l ≡ xs ++ a ∷ ys → List·Memᴰ a l
 split-mem a l xs ys e = rw e (Memᴰ·append-right xs (List·Memᴰ·head refl))
 
 -- ── what is read at an item ──
 
 -- The row's first item.
-abbrev pub First : Row → Item → ℕ → Type 0
-First nil i pos = ⊥
-First (agg h cs rest) i pos = i ≡ node pos
-First (lit h c rest) i pos = i ≡ node pos
-First (rec p s r rest) i pos = i ≡ proxy pos p r
+abbrev pub firstItem : (pos : ℕ) → Row → Item
+firstItem pos nil = node pos
+firstItem pos (agg h cs rest) = node pos
+firstItem pos (lit h c rest) = node pos
+firstItem pos (rec p s r rest) = proxy pos p r
 
 -- A row stands at pos, in the record of `page`, whose first item this is.
 pub record Stood (img : List ℕ) (page pos : ℕ) (i : Item) : Type 0 where
   pub row : Row
   pub here : Here img page pos row
-  pub first : First row i pos
+  pub some : 0 < size row
+  pub first : i ≡ firstItem pos row
 
 -- Where the header after the one at pos stands: behind an aggregate's header, and past a literal or a proxy.
 unfoldable pub step : (img : List ℕ) → (pos : ℕ) → ℕ
-step img pos = cond (eqb (getD img pos 0) 1) (pos + 6) (pos + sizeAt img pos)
+step img pos = cond (eqb (kindAt img pos) 1) (pos + 6) (pos + sizeAt img pos)
 
 -- Header after header, these items stand from pos to end.
 abbrev pub Flat : (img : List ℕ) (page pos end : ℕ) → List Item → Type 0
@@ -103,41 +102,47 @@ Flat img page pos end [] = pos ≡ end
 Flat img page pos end (i ∷ is) = Stood img page pos i × Flat img page (step img pos) end is
 
 module _ (img : List ℕ) (page : ℕ) where
-  step-agg : (pos : ℕ) (h : Head) (cs rest : Row) → Here img page pos (agg h cs rest) → step img pos ≡ pos + 6
-  unfolding step
-  step-agg pos h cs rest v = rw (agg-view img page pos h cs rest v .kind)
+  -- how far on that is
+  abbrev onward : Row → ℕ
+  onward row = cond (isAgg row) 6 (sizeOf row)
 
-  step-lit : (pos : ℕ) (h : Head) (c : List ℕ) (rest : Row) → Here img page pos (lit h c rest) → step img pos ≡ pos + (6 + length c)
+  step-is : {pos : ℕ} {row : Row} → Here img page pos row → 0 < size row → step img pos ≡ pos + onward row
   unfolding step
-  step-lit pos h c rest v = let w = lit-view img page pos h c rest v in rw (w .kind, w .long)
+  step-is {pos} {row} v h = rw (view v h .kind-is, view v h .size-is) (go row)
+    where
+      go : (row : Row) → cond (eqb (kindOf row) 1) (pos + 6) (pos + sizeOf row) ≡ pos + onward row
+      go nil = refl
+      go (agg l cs rest) = refl
+      go (lit l c rest) = refl
+      go (rec p s r rest) = refl
 
-  step-rec : (pos p : ℕ) (s : Bool) (r rest : Row) → Here img page pos (rec p s r rest) → step img pos ≡ pos + 8
-  unfolding step
-  step-rec pos p s r rest v = let w = rec-view img page pos p s r rest v in rw (w .kind, w .long)
+  onward-fits : (row : Row) → 6 ≤ sizeOf row → (6 ≤ onward row) × (onward row ≤ sizeOf row)
+  onward-fits row h = cond-case (λ (n : ℕ). (6 ≤ n) × (n ≤ sizeOf row)) (isAgg row) (λ _. (omega arith, h)) (λ _. (h, omega arith))
 
   pub flat-here : (pos : ℕ) (row : Row) → Here img page pos row → (end : ℕ) (ys : List Item) → Flat img page (pos + size row) end ys
       → Flat img page pos end (items pos row ++ ys)
   flat-here pos nil v end ys f = let z : pos + 0 ≡ pos = omega arith in rw z at f
   flat-here pos (agg h cs rest) v end ys f =
-      let w = agg-view img page pos h cs rest v in
+      let some : 0 < size (agg h cs rest) = omega arith in
+      let w = view v some in
       let z : pos + (6 + size cs + size rest) ≡ pos + (6 + size cs) + size rest = omega arith in
       let y : pos + (6 + size cs) ≡ pos + 6 + size cs = omega arith in
       let later = flat-here (pos + (6 + size cs)) rest (w .after) end ys (subst (λ (n : ℕ). Flat img page n end ys) z f) in
       let inner = flat-here (pos + 6) cs (w .children) end (items (pos + (6 + size cs)) rest ++ ys)
       (subst (λ (n : ℕ). Flat img page n end (items (pos + (6 + size cs)) rest ++ ys)) y later) in (
-        record { row = agg h cs rest; here = v; first = refl },
-        rw (step-agg pos h cs rest v, append-assoc (items (pos + 6) cs) (items (pos + (6 + size cs)) rest) ys) inner,
+        record { row = agg h cs rest; here = v; some = some; first = refl },
+        rw (step-is v some, append-assoc (items (pos + 6) cs) (items (pos + (6 + size cs)) rest) ys) inner,
       )
   flat-here pos (lit h c rest) v end ys f =
-      let w = lit-view img page pos h c rest v in
+      let some : 0 < size (lit h c rest) = omega arith in
       let z : pos + (6 + length c + size rest) ≡ pos + (6 + length c) + size rest = omega arith in
-      let later = flat-here (pos + (6 + length c)) rest (w .after) end ys (subst (λ (n : ℕ). Flat img page n end ys) z f) in
-      (record { row = lit h c rest; here = v; first = refl }, rw (step-lit pos h c rest v) later)
+      let later = flat-here (pos + (6 + length c)) rest (view v some .after) end ys (subst (λ (n : ℕ). Flat img page n end ys) z f) in
+      (record { row = lit h c rest; here = v; some = some; first = refl }, rw (step-is v some) later)
   flat-here pos (rec p s r rest) v end ys f =
-      let w = rec-view img page pos p s r rest v in
+      let some : 0 < size (rec p s r rest) = omega arith in
       let z : pos + (8 + size rest) ≡ pos + 8 + size rest = omega arith in
-      let later = flat-here (pos + 8) rest (w .after) end ys (subst (λ (n : ℕ). Flat img page n end ys) z f) in
-      (record { row = rec p s r rest; here = v; first = refl }, rw (step-rec pos p s r rest v) later)
+      let later = flat-here (pos + 8) rest (view v some .after) end ys (subst (λ (n : ℕ). Flat img page n end ys) z f) in
+      (record { row = rec p s r rest; here = v; some = some; first = refl }, rw (step-is v some) later)
 
   pub flat-row : (pos : ℕ) (row : Row) → Here img page pos row → Flat img page pos (pos + size row) (items pos row)
   flat-row pos row v = rw (append-nil (items pos row)) at (flat-here pos row v (pos + size row) [] refl)
@@ -152,79 +157,84 @@ module _ (img : List ℕ) (page : ℕ) where
     pub within : step img pos ≤ pageSize * page + capacity
 
   pub header-of : (pos : ℕ) (i : Item) → Stood img page pos i → Header pos i
-  header-of pos i s = go (s .row) (s .here) (s .first)
+  header-of pos i s =
+      let v = s .here in
+      let w = view v (s .some) in
+      let e = step-is v (s .some) in
+      let o = onward-fits (s .row) (w .more) in
+      record {
+        is-at = ap at (s .first) ∙ first-at pos (s .row);
+        low = v .start;
+        room = omega (arith, v .room, w .total);
+        on = v .on;
+        further = omega arith;
+        within = omega (arith, v .room, w .total);
+      }
     where
-      go : (row : Row) → Here img page pos row → First row i pos → Header pos i
-      go nil v f = absurd f
-      go (agg h cs rest) v f =
-          let e = step-agg pos h cs rest v in
-          record { is-at = ap at f; low = v .start; room = omega (arith, v .room); on = v .on; further = omega arith; within = omega (arith, v .room) }
-      go (lit h c rest) v f =
-          let e = step-lit pos h c rest v in
-          record { is-at = ap at f; low = v .start; room = omega (arith, v .room); on = v .on; further = omega arith; within = omega (arith, v .room) }
-      go (rec p b r rest) v f =
-          let e = step-rec pos p b r rest v in
-          record { is-at = ap at f; low = v .start; room = omega (arith, v .room); on = v .on; further = omega arith; within = omega (arith, v .room) }
-
-  -- A node's kind is 1 or 2.
-  pub node-kind : (pos q : ℕ) → Stood img page pos (node q) → (getD img pos 0 ≡ 1) ⊎ (getD img pos 0 ≡ 2)
-  node-kind pos q s = go (s .row) (s .here) (s .first)
-    where
-      go : (row : Row) → Here img page pos row → First row (node q) pos → (getD img pos 0 ≡ 1) ⊎ (getD img pos 0 ≡ 2)
-      go nil v f = absurd f
-      go (agg h cs rest) v f = inl (agg-view img page pos h cs rest v .kind)
-      go (lit h c rest) v f = inr (lit-view img page pos h c rest v .kind)
-      go (rec p b r rest) v f = let z : _≡_ {A = ℕ} 0 1 = cc in absurd (omega arith)
+      first-at : (pos : ℕ) (row : Row) → at (firstItem pos row) ≡ pos
+      first-at pos nil = refl
+      first-at pos (agg h cs rest) = refl
+      first-at pos (lit h c rest) = refl
+      first-at pos (rec p s r rest) = refl
 
   -- What is read at a proxy; the record that it stands for is not empty.
   pub record Proxy (pos p : ℕ) (r : Row) : Type 0 where
-    pub kind : getD img pos 0 ≡ 3
+    pub kind : kindAt img pos ≡ 3
     pub name : nameAt img pos ≡ p
     pub next : step img pos ≡ pos + 8
     pub under : OnPage img p page r
     pub some : 1 ≤ size r
 
-  filled : (s : Bool) (r : Row) → Shape s r → 1 ≤ size r
-  filled s r h = go r h
-    where
-      go : {b : Bool} (r : Row) → Shape b r → 1 ≤ size r
-      go nil h = absurd (none h)
-        where
-          none : {b : Bool} → Shape b nil → ⊥
-          none (one e) = false≢true e
-          none (more r k) = omega arith
-      go (agg h cs rest) k = omega arith
-      go (lit h c rest) k = omega arith
-      go (rec p s r rest) k = omega arith
+  filled : {b : Bool} (r : Row) → Shape b r → 1 ≤ size r
+  filled nil (one e) = absurd (false≢true e)
+  filled nil (more r k) = absurd (omega arith)
+  filled (agg h cs rest) k = omega arith
+  filled (lit h c rest) k = omega arith
+  filled (rec p s r rest) k = omega arith
 
   pub proxy-of : (pos q p : ℕ) (r : Row) → Stood img page pos (proxy q p r) → Proxy pos p r
-  proxy-of pos q p r s = go (s .row) (s .here) (s .first)
+  proxy-of pos q p r s = go (s .row) (s .here) (s .some) (s .first)
     where
-      go : (row : Row) → Here img page pos row → First row (proxy q p r) pos → Proxy pos p r
-      go nil v f = absurd f
-      go (agg h cs rest) v f = let z : _≡_ {A = ℕ} 0 1 = cc in absurd (omega arith)
-      go (lit h c rest) v f = let z : _≡_ {A = ℕ} 0 1 = cc in absurd (omega arith)
-      go (rec p₁ b r₁ rest) v f =
-          let w = rec-view img page pos p₁ b r₁ rest v in
+      go : (row : Row) → Here img page pos row → 0 < size row → proxy q p r ≡ firstItem pos row → Proxy pos p r
+      go nil v h f = absurd (omega arith)
+      go (agg l cs rest) v h f = let z : _≡_ {A = ℕ} 0 1 = cc in absurd (omega arith)
+      go (lit l c rest) v h f = let z : _≡_ {A = ℕ} 0 1 = cc in absurd (omega arith)
+      go (rec p₁ b r₁ rest) v h f =
+          let w = view v h in
           let same : p₁ ≡ p = cc in
           let also : r₁ ≡ r = cc in
           record {
-            kind = w .kind;
-            name = w .name ∙ same;
-            next = step-rec pos p₁ b r₁ rest v;
+            kind = w .kind-is;
+            name = w .name-is refl ∙ same;
+            next = step-is v h;
             under = rw (same, also) at (w .under);
-            some = rw also at (filled b r₁ (v .fits .0 .shape));
+            some = rw also at (filled r₁ (v .fits .0 .shape));
           }
 
   -- An item whose kind is 3 is a proxy, and one of another kind is a node.
-  pub which : (pos : ℕ) (i : Item) → Stood img page pos i → (i ≡ node pos) ⊎ ((p : ℕ) × (r : Row) × (i ≡ proxy pos p r))
-  which pos i s = go (s .row) (s .first)
+  pub is-proxy : (pos : ℕ) (i : Item) → Stood img page pos i → kindAt img pos ≡ 3 → (p : ℕ) × (r : Row) × (i ≡ proxy pos p r)
+  is-proxy pos i s k = go (s .row) (sym (view (s .here) (s .some) .kind-is) ∙ k) (s .first)
     where
-      go : (row : Row) → First row i pos → (i ≡ node pos) ⊎ ((p : ℕ) × (r : Row) × (i ≡ proxy pos p r))
-      go nil f = absurd f
-      go (agg h cs rest) f = inl f
-      go (lit h c rest) f = inl f
-      go (rec p b r rest) f = inr (p, r, f)
+      go : (row : Row) → kindOf row ≡ 3 → i ≡ firstItem pos row → (p : ℕ) × (r : Row) × (i ≡ proxy pos p r)
+      go nil k f = absurd (omega arith)
+      go (agg h cs rest) k f = absurd (omega arith)
+      go (lit h c rest) k f = absurd (omega arith)
+      go (rec p b r rest) k f = (p, r, f)
+
+  pub no-proxy : (pos q : ℕ) → Stood img page pos (node q) → kindAt img pos ≡ 3 → ⊥
+  no-proxy pos q s k =
+      let (p, r, e) = is-proxy pos (node q) s k in
+      let z : _≡_ {A = ℕ} 0 1 = cc in
+      omega arith
+
+  pub is-node : (pos : ℕ) (i : Item) → Stood img page pos i → (kindAt img pos ≡ 3 → ⊥) → i ≡ node pos
+  is-node pos i s k = go (s .row) (λ e. k (view (s .here) (s .some) .kind-is ∙ e)) (s .first)
+    where
+      go : (row : Row) → (kindOf row ≡ 3 → ⊥) → i ≡ firstItem pos row → i ≡ node pos
+      go nil k f = f
+      go (agg h cs rest) k f = f
+      go (lit h c rest) k f = f
+      go (rec p b r rest) k f = absurd (k refl)
 
   -- ── items one after another ──
 
@@ -256,7 +266,7 @@ module _ (img : List ℕ) (page : ℕ) where
 -- ── proxies, and the records below a row ──
 
 -- A statement about a row that has an item: where the item is the first, and how it goes on to the rows around.
-item-ind : (i : Item) (P : Row → Type 0) → ((pos : ℕ) (row : Row) → First row i pos → P row)
+item-ind : (i : Item) (P : Row → Type 0) → ((pos : ℕ) (row : Row) → 0 < size row → i ≡ firstItem pos row → P row)
     → ((h : Head) (cs rest : Row) → P cs → P (agg h cs rest))
     → ((h : Head) (cs rest : Row) → P rest → P (agg h cs rest))
     → ((h : Head) (c : List ℕ) (rest : Row) → P rest → P (lit h c rest))
@@ -268,7 +278,7 @@ item-ind i P f u a l r pos (agg h cs rest) m =
   where
     go : (i ≡ node pos) ⊎ List·Memᴰ i (items (pos + 6) cs ++ items (pos + (6 + size cs)) rest)
         → (List·Memᴰ i (items (pos + 6) cs) → P cs) → (List·Memᴰ i (items (pos + (6 + size cs)) rest) → P rest) → P (agg h cs rest)
-    go (inl e) x y = f pos (agg h cs rest) e
+    go (inl e) x y = f pos (agg h cs rest) (omega arith) e
     go (inr j) x y = sides (List·Memᴰ·append-cases (items (pos + 6) cs) j)
       where
         sides : List·Memᴰ i (items (pos + 6) cs) ⊎ List·Memᴰ i (items (pos + (6 + size cs)) rest) → P (agg h cs rest)
@@ -277,20 +287,21 @@ item-ind i P f u a l r pos (agg h cs rest) m =
 item-ind i P f u a l r pos (lit h c rest) m = go (List·Memᴰ·cases-cons m) (item-ind i P f u a l r (pos + (6 + length c)) rest)
   where
     go : (i ≡ node pos) ⊎ List·Memᴰ i (items (pos + (6 + length c)) rest) → (List·Memᴰ i (items (pos + (6 + length c)) rest) → P rest) → P (lit h c rest)
-    go (inl e) y = f pos (lit h c rest) e
+    go (inl e) y = f pos (lit h c rest) (omega arith) e
     go (inr k) y = l h c rest (y k)
 item-ind i P f u a l r pos (rec p s x rest) m = go (List·Memᴰ·cases-cons m) (item-ind i P f u a l r (pos + 8) rest)
   where
     go : (i ≡ proxy pos p x) ⊎ List·Memᴰ i (items (pos + 8) rest) → (List·Memᴰ i (items (pos + 8) rest) → P rest) → P (rec p s x rest)
-    go (inl e) y = f pos (rec p s x rest) e
+    go (inl e) y = f pos (rec p s x rest) (omega arith) e
     go (inr k) y = r p s x rest (y k)
 
 module _ (q p : ℕ) (r : Row) where
-  proxy-first : (P : Row → Type 0) → ((s : Bool) (rest : Row) → P (rec p s r rest)) → (pos : ℕ) (row : Row) → First row (proxy q p r) pos → P row
-  proxy-first P f pos nil e = absurd e
-  proxy-first P f pos (agg h cs rest) e = let z : _≡_ {A = ℕ} 0 1 = cc in absurd (omega arith)
-  proxy-first P f pos (lit h c rest) e = let z : _≡_ {A = ℕ} 0 1 = cc in absurd (omega arith)
-  proxy-first P f pos (rec p₁ s r₁ rest) e =
+  proxy-first : (P : Row → Type 0) → ((s : Bool) (rest : Row) → P (rec p s r rest)) → (pos : ℕ) (row : Row) → 0 < size row
+      → proxy q p r ≡ firstItem pos row → P row
+  proxy-first P f pos nil h e = absurd (omega arith)
+  proxy-first P f pos (agg l cs rest) h e = let z : _≡_ {A = ℕ} 0 1 = cc in absurd (omega arith)
+  proxy-first P f pos (lit l c rest) h e = let z : _≡_ {A = ℕ} 0 1 = cc in absurd (omega arith)
+  proxy-first P f pos (rec p₁ s r₁ rest) h e =
       let same : p₁ ≡ p = cc in
       let also : r₁ ≡ r = cc in
       rw (same, also) (f s rest)
@@ -320,7 +331,8 @@ module _ (q p : ℕ) (r : Row) where
       (λ h cs rest i. (i .0, Memᴰ·append-left (records page rest) (i .1), λ k m. Memᴰ·append-left (records page rest) (i .2 k m)))
       (λ h cs rest i. (i .0, Memᴰ·append-right (records page cs) (i .1), λ k m. Memᴰ·append-right (records page cs) (i .2 k m)))
       (λ h c rest i. i)
-      (λ p₁ s r₁ rest i. (i .0, List·Memᴰ·tail (Memᴰ·append-right (records p₁ r₁) (i .1)), λ k m. List·Memᴰ·tail (Memᴰ·append-right (records p₁ r₁) (i .2 k m))))
+      (λ p₁ s r₁ rest i.
+      (i .0, List·Memᴰ·tail (Memᴰ·append-right (records p₁ r₁) (i .1)), λ k m. List·Memᴰ·tail (Memᴰ·append-right (records p₁ r₁) (i .2 k m))))
 
 -- How often proxies among some items name a page.
 abbrev pub named : ℕ → List Item → ℕ
@@ -345,12 +357,13 @@ named-items q pos (rec p s r rest) = omega (arith, named-items q (pos + 8) rest)
 in-depth : {root : Row} {page holder : ℕ} {row : Row} {before after : List ℕ} {d : ℕ} → In root page holder row before after d → d + nesting row ≤ nesting root
 in-depth top = omega arith
 in-depth (sub {page = page} {row = row} w xs ys pos p r e) =
-    omega (arith, in-depth w, nesting-item pos p r (pageSize * page + base row) row (split-mem (proxy pos p r) (items (pageSize * page + base row) row) xs ys e))
+    omega (arith, in-depth w, nesting-item pos p r (pageSize * page + base row) row (split-mem _ _ xs ys e))
 
-pub in-count : {root : Row} {page holder : ℕ} {row : Row} {before after : List ℕ} {d : ℕ} → In root page holder row before after d → (n : ℕ) → count n row ≤ count n root
+pub in-count : {root : Row} {page holder : ℕ} {row : Row} {before after : List ℕ} {d : ℕ} → In root page holder row before after d → (n : ℕ)
+    → count n row ≤ count n root
 in-count top n = omega arith
 in-count (sub {page = page} {row = row} w xs ys pos p r e) n =
-    omega (arith, in-count w n, count-item pos p r n (pageSize * page + base row) row (split-mem (proxy pos p r) (items (pageSize * page + base row) row) xs ys e))
+    omega (arith, in-count w n, count-item pos p r n (pageSize * page + base row) row (split-mem _ _ xs ys e))
 
 in-listed : {root : Row} {page holder : ℕ} {row : Row} {before after : List ℕ} {d : ℕ} → In root page holder row before after d
     → (s : Bool) × List·Memᴰ (recordOn page s holder row) (records 0 (store root))
@@ -434,7 +447,7 @@ page-held (k ∷ hs) q e = go (eqb q (k .page)) refl e (page-held hs q)
     go false t e f = let i = f e in (i .0, List·Memᴰ·tail (i .1), i .2)
 
 -- A node of the store: the record that it is in, and the items around it.
-pub record Spot (root : Row) (pos : ℕ) : Type 0 where
+pub record NodeIn (root : Row) (pos : ℕ) : Type 0 where
   pub page : ℕ
   pub holder : ℕ
   pub row : Row
@@ -446,52 +459,58 @@ pub record Spot (root : Row) (pos : ℕ) : Type 0 where
   pub right : List Item
   pub split : items (pageSize * page + base row) row ≡ left ++ node pos ∷ right
 
+abbrev pub node-within : {root : Row} {page holder : ℕ} {row : Row} {before after : List ℕ} {d : ℕ} → In root page holder row before after d
+    → (pos : ℕ) (left right : List Item) → items (pageSize * page + base row) row ≡ left ++ node pos ∷ right → NodeIn root pos
+node-within w pos left right e =
+    record { page = _; holder = _; row = _; before = _; after = _; depth = _; within = w; left = left; right = right; split = e }
+
 -- Every node of a row that is in a record,
-row-spots : {root : Row} (r : Row) {page holder : ℕ} {row : Row} {before after : List ℕ} {d : ℕ} → In root page holder row before after d
+row-nodes : {root : Row} (r : Row) {page holder : ℕ} {row : Row} {before after : List ℕ} {d : ℕ} → In root page holder row before after d
     → (pos : ℕ) (xs ys : List Item) → items (pageSize * page + base row) row ≡ xs ++ (items pos r ++ ys)
-    → (n : ℕ) → List·Memᴰ n (spots pos r) → Spot root n
-row-spots nil w pos xs ys e n m = absurd (List·Memᴰ·not-nil m)
-row-spots {root} (agg l cs rest) {page = page} w pos xs ys e n m =
+    → (n : ℕ) → List·Memᴰ n (spots pos r) → NodeIn root n
+row-nodes nil w pos xs ys e n m = absurd (List·Memᴰ·not-nil m)
+row-nodes {root} (agg l cs rest) {page = page} w pos xs ys e n m =
     first (List·Memᴰ·cases-cons m)
-    (record { page = _; holder = _; row = _; before = _; after = _; depth = _; within = w; left = xs; right = items (pos + 6) cs ++ items (pos + (6 + size cs)) rest ++ ys; split = e })
-    (row-spots cs w (pos + 6) (xs ++ node pos ∷ []) (items (pos + (6 + size cs)) rest ++ ys) (e ∙ simp append-assoc) n)
-    (row-spots rest w (pos + (6 + size cs)) (xs ++ node pos ∷ items (pos + 6) cs) ys (e ∙ simp append-assoc) n)
+    (node-within w pos xs (items (pos + 6) cs ++ items (pos + (6 + size cs)) rest ++ ys) e)
+    (row-nodes cs w (pos + 6) (xs ++ node pos ∷ []) (items (pos + (6 + size cs)) rest ++ ys) (e ∙ simp append-assoc) n)
+    (row-nodes rest w (pos + (6 + size cs)) (xs ++ node pos ∷ items (pos + 6) cs) ys (e ∙ simp append-assoc) n)
   where
-    first : (n ≡ pos) ⊎ List·Memᴰ n (spots (pos + 6) cs ++ spots (pos + (6 + size cs)) rest) → Spot root pos
-        → (List·Memᴰ n (spots (pos + 6) cs) → Spot root n) → (List·Memᴰ n (spots (pos + (6 + size cs)) rest) → Spot root n) → Spot root n
-    first (inl q) i f g = subst (Spot root) (sym q) i
+    first : (n ≡ pos) ⊎ List·Memᴰ n (spots (pos + 6) cs ++ spots (pos + (6 + size cs)) rest) → NodeIn root pos
+        → (List·Memᴰ n (spots (pos + 6) cs) → NodeIn root n) → (List·Memᴰ n (spots (pos + (6 + size cs)) rest) → NodeIn root n) → NodeIn root n
+    first (inl q) i f g = subst (NodeIn root) (sym q) i
     first (inr j) i f g = sides (List·Memᴰ·append-cases (spots (pos + 6) cs) j)
       where
-        sides : List·Memᴰ n (spots (pos + 6) cs) ⊎ List·Memᴰ n (spots (pos + (6 + size cs)) rest) → Spot root n
+        sides : List·Memᴰ n (spots (pos + 6) cs) ⊎ List·Memᴰ n (spots (pos + (6 + size cs)) rest) → NodeIn root n
         sides (inl k) = f k
         sides (inr k) = g k
-row-spots {root} (lit l c rest) w pos xs ys e n m =
+row-nodes {root} (lit l c rest) w pos xs ys e n m =
     first (List·Memᴰ·cases-cons m)
-    (record { page = _; holder = _; row = _; before = _; after = _; depth = _; within = w; left = xs; right = items (pos + (6 + length c)) rest ++ ys; split = e })
-    (row-spots rest w (pos + (6 + length c)) (xs ++ node pos ∷ []) ys (e ∙ simp append-assoc) n)
+    (node-within w pos xs (items (pos + (6 + length c)) rest ++ ys) e)
+    (row-nodes rest w (pos + (6 + length c)) (xs ++ node pos ∷ []) ys (e ∙ simp append-assoc) n)
   where
-    first : (n ≡ pos) ⊎ List·Memᴰ n (spots (pos + (6 + length c)) rest) → Spot root pos → (List·Memᴰ n (spots (pos + (6 + length c)) rest) → Spot root n) → Spot root n
-    first (inl q) i g = subst (Spot root) (sym q) i
+    first : (n ≡ pos) ⊎ List·Memᴰ n (spots (pos + (6 + length c)) rest) → NodeIn root pos → (List·Memᴰ n (spots (pos + (6 + length c)) rest) → NodeIn root n)
+        → NodeIn root n
+    first (inl q) i g = subst (NodeIn root) (sym q) i
     first (inr j) i g = g j
-row-spots {root} (rec p s r rest) w pos xs ys e n m =
+row-nodes {root} (rec p s r rest) w pos xs ys e n m =
     let under = sub w xs (items (pos + 8) rest ++ ys) pos p r e in
     sides (List·Memᴰ·append-cases (spots (pageSize * p + base r) r) m)
-    (row-spots r under (pageSize * p + base r) [] [] (sym (append-nil (items (pageSize * p + base r) r))) n)
-    (row-spots rest w (pos + 8) (xs ++ proxy pos p r ∷ []) ys (e ∙ simp append-assoc) n)
+    (row-nodes r under (pageSize * p + base r) [] [] (sym (append-nil (items (pageSize * p + base r) r))) n)
+    (row-nodes rest w (pos + 8) (xs ++ proxy pos p r ∷ []) ys (e ∙ simp append-assoc) n)
   where
-    sides : List·Memᴰ n (spots (pageSize * p + base r) r) ⊎ List·Memᴰ n (spots (pos + 8) rest) → (List·Memᴰ n (spots (pageSize * p + base r) r) → Spot root n)
-        → (List·Memᴰ n (spots (pos + 8) rest) → Spot root n) → Spot root n
+    sides : List·Memᴰ n (spots (pageSize * p + base r) r) ⊎ List·Memᴰ n (spots (pos + 8) rest) → (List·Memᴰ n (spots (pageSize * p + base r) r) → NodeIn root n)
+        → (List·Memᴰ n (spots (pos + 8) rest) → NodeIn root n) → NodeIn root n
     sides (inl k) f g = f k
     sides (inr k) f g = g k
 
 -- and so each position of the document order is a node item of a record.
-pub spot-of : (root : Row) (n : ℕ) → List·Memᴰ n (spots (pageSize + base root) root) → Spot root n
-spot-of root n m = row-spots root top (pageSize + base root) [] [] (sym (append-nil (items (pageSize + base root) root))) n m
+pub node-in : (root : Row) (n : ℕ) → List·Memᴰ n (spots (pageSize + base root) root) → NodeIn root n
+node-in root n m = row-nodes root top (pageSize + base root) [] [] (sym (append-nil (items (pageSize + base root) root))) n m
 
 -- Where a node is in the document order.
-pub spot-split : {root : Row} {pos : ℕ} (w : Spot root pos)
+pub node-split : {root : Row} {pos : ℕ} (w : NodeIn root pos)
     → spots (pageSize + base root) root ≡ (w .before ++ expand (w .left)) ++ pos ∷ (expand (w .right) ++ w .after)
-spot-split {root} {pos} w =
+node-split {root} {pos} w =
     in-spots (w .within) ∙ rw (spots-split (pageSize * w .page + base (w .row)) (w .row) (w .left) (node pos ∷ w .right) (w .split)) (simp append-assoc)
 
 module _ (img : List ℕ) (st : Config) (root : Row) (r : Reads img st root) where
@@ -505,7 +524,9 @@ module _ (img : List ℕ) (st : Config) (root : Row) (r : Reads img st root) whe
 
   -- No proxy names page 1, and none names a page twice.
   pub in-once : {page holder : ℕ} {row : Row} {before after : List ℕ} {d : ℕ} → In root page holder row before after d → (n : ℕ) → count n row ≤ 1
-  in-once w n = omega (arith, in-count w n, reads-valid img st root r .placed n, cond-case (λ k. k ≤ 1) (outside (st .pages) n) {x = 0} {y = 1} (λ _. omega arith) (λ _. omega arith))
+  in-once w n =
+      let one = cond-case (λ k. k ≤ 1) (outside (st .pages) n) {x = 0} {y = 1} (λ _. omega arith) (λ _. omega arith) in
+      omega (arith, in-count w n, reads-valid img st root r .placed n)
 
   pub in-other : {page holder : ℕ} {row : Row} {before after : List ℕ} {d : ℕ} → In root page holder row before after d → count 1 row ≡ 0
   in-other w = omega (arith, in-count w 1, reads-valid img st root r .placed 1)
@@ -514,7 +535,8 @@ module _ (img : List ℕ) (st : Config) (root : Row) (r : Reads img st root) whe
   pub last-page : {page holder : ℕ} {row : Row} {before after : List ℕ} {d : ℕ} → In root page holder row before after d → page ≡ 1 → after ≡ []
   last-page top q = refl
   last-page (sub {page = page} {row = row} w xs ys pos p x e) q =
-      absurd (omega (arith, in-other w, rw (eq-eqb 1 p (sym q)) at (count-item pos p x 1 (pageSize * page + base row) row (split-mem (proxy pos p x) (items (pageSize * page + base row) row) xs ys e))))
+      let named = rw (eq-eqb 1 p (sym q)) at (count-item pos p x 1 (pageSize * page + base row) row (split-mem _ _ xs ys e)) in
+      absurd (omega (arith, in-other w))
 
   -- One record on a page.
   pub same-row : {page holder holder₁ : ℕ} {row row₁ : Row} {before before₁ after after₁ : List ℕ} {d d₁ : ℕ} → In root page holder row before after d
@@ -530,7 +552,8 @@ module _ (img : List ℕ) (st : Config) (root : Row) (r : Reads img st root) whe
   page-in q high low e =
       let v = reads-valid img st root r in
       let hs = records 0 (store root) in
-      let page : stateAt (pageOf img q) 0 ≡ 1 = getD-take pageSize (drop (pageSize * q) img) capacity 0 (omega arith) ∙ getD-drop (pageSize * q) img capacity 0 ∙ e in
+      let page : stateAt (pageOf img q) 0 ≡ 1 =
+      getD-take pageSize (drop (pageSize * q) img) capacity 0 (omega arith) ∙ getD-drop (pageSize * q) img capacity 0 ∙ e in
       let same : pageOf img q ≡ pageAt hs q = ap (λ (l : List ℕ). pageOf l q) (r .same) ∙ image-page st root v q low high in
       let (h, m, p) = page-held hs q (sym (ap (λ (l : List ℕ). stateAt l 0) same) ∙ page) in
       let s = root-records root h m in
@@ -539,26 +562,27 @@ module _ (img : List ℕ) (st : Config) (root : Row) (r : Reads img st root) whe
 
   -- ── the items of a page, and the places ──
 
-  spot-stood : (n : ℕ) (w : Spot root n) → Stood img (w .page) n (node n)
-  spot-stood n w = item-at img (w .page) (pageSize * w .page + base (w .row)) (w .row) (in-page (w .within) .here) (w .left) (w .right) (node n) (w .split) .0
+  node-stood : (n : ℕ) (w : NodeIn root n) → Stood img (w .page) n (node n)
+  node-stood n w = item-at img (w .page) (pageSize * w .page + base (w .row)) (w .row) (in-page (w .within) .here) (w .left) (w .right) (node n) (w .split) .0
 
-  pub spot-header : (n : ℕ) (w : Spot root n) → Header img (w .page) n (node n)
-  spot-header n w = header-of img (w .page) n (node n) (spot-stood n w)
+  pub node-header : (n : ℕ) (w : NodeIn root n) → Header img (w .page) n (node n)
+  node-header n w = header-of img (w .page) n (node n) (node-stood n w)
 
   module _ {page holder : ℕ} {row : Row} {before after : List ℕ} {d : ℕ} (w : In root page holder row before after d) where
     -- A node item of a page's record is a node of the document order,
-    unfoldable pub item-spot : (n : ℕ) → List·Memᴰ (node n) (items (pageSize * page + base row) row) → Spot root n
-    item-spot n m =
+    unfoldable pub item-node : (n : ℕ) → List·Memᴰ (node n) (items (pageSize * page + base row) row) → NodeIn root n
+    item-node n m =
         let s = mem-split (node n) (items (pageSize * page + base row) row) m in
-        record { page = page; holder = holder; row = row; before = before; after = after; depth = d; within = w; left = s .0; right = s .1; split = s .2 }
+        node-within w n (s .0) (s .1) (s .2)
 
     -- and a node of the document order on this page is a node item of its record.
-    pub spot-item : (n : ℕ) → pageSize * page ≤ n → n < pageSize * page + pageSize → List·Memᴰ n (spots (pageSize + base root) root)
+    pub node-item : (n : ℕ) → pageSize * page ≤ n → n < pageSize * page + pageSize → List·Memᴰ n (spots (pageSize + base root) root)
         → List·Memᴰ (node n) (items (pageSize * page + base row) row)
-    spot-item n low high m =
-        let s = spot-of root n m in
-        let h = spot-header n s in
+    node-item n low high m =
+        let s = node-in root n m in
+        let h = node-header n s in
         let same : s .page ≡ page = omega (arith, h .low, h .room) in
         let one : s .row ≡ row = same-row (subst (λ (q : ℕ). In root q (s .holder) (s .row) (s .before) (s .after) (s .depth)) same (s .within)) w in
-        let i : List·Memᴰ (node n) (items (pageSize * s .page + base (s .row)) (s .row)) = split-mem (node n) (items (pageSize * s .page + base (s .row)) (s .row)) (s .left) (s .right) (s .split) in
+        let i : List·Memᴰ (node n) (items (pageSize * s .page + base (s .row)) (s .row)) =
+        split-mem (node n) (items (pageSize * s .page + base (s .row)) (s .row)) (s .left) (s .right) (s .split) in
         rw (same, one) at i

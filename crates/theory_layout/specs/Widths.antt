@@ -15,7 +15,8 @@ use Rattle.theory_decoding.specs.Reading.{reads-length}
 use Rattle.theory_places.specs.Pages.{pages-count}
 use Rattle.theory_places.specs.Marks.{mark-times}
 use Rattle.theory_places.specs.Widths.{Told}
-use Rattle.theory_layout.specs.Here.{Here, OnPage, RecView, agg-view, lit-view, rec-view, root-page, root-here}
+use Rattle.theory_row_bytes.specs.RowAt.{kindOf, sizeOf, restOf, size-first}
+use Rattle.theory_layout.specs.Here.{Here, OnPage, view, root-page, root-here}
 
 -- It is right for each record that a proxy in another record names.
 pub record Widths (img c : List ℕ) : Type 0 where
@@ -33,41 +34,64 @@ one-page img p holder holder₁ a b same x y =
     let s : recordSize a ≡ recordSize b = sym (x .used) ∙ y .used in
     same p p (pageSize * p + base a) (x .here) (subst (λ (n : ℕ). Here img p n b) z (y .here)) (omega arith)
 
--- Two rows that stand at one byte with one size show as many nodes.
+-- How many nodes the first of a row shows.
+abbrev pub firstWidth : Row → ℕ
+firstWidth nil = 0
+firstWidth (agg h cs rest) = 1
+firstWidth (lit h c rest) = 1
+firstWidth (rec p s r rest) = width r
+
+pub width-first : (r : Row) → width r ≡ firstWidth r + width (restOf r)
+width-first nil = refl
+width-first (agg h cs rest) = omega arith
+width-first (lit h c rest) = omega arith
+width-first (rec p s r rest) = refl
+
+-- A node shows itself.
+pub plain-width : (r : Row) → 0 < size r → (kindOf r ≡ 3 → ⊥) → firstWidth r ≡ 1
+plain-width nil h k = absurd (omega arith)
+plain-width (agg l cs rest) h k = refl
+plain-width (lit l c rest) h k = refl
+plain-width (rec p s r rest) h k = absurd (k refl)
+
+none-width : (r : Row) → 0 ≡ size r → 0 ≡ width r
+none-width nil e = refl
+none-width (agg h cs rest) e = absurd (omega arith)
+none-width (lit h c rest) e = absurd (omega arith)
+none-width (rec p s r rest) e = absurd (omega arith)
+
+-- Two rows that stand at one byte with one size have first nodes of one kind and size,
+module _ {img : List ℕ} {page page₁ pos : ℕ} {a b : Row} (x : Here img page pos a) (y : Here img page₁ pos b) (e : size a ≡ size b) (h : 0 < size a) where
+  one-kind : kindOf b ≡ kindOf a
+  one-kind = sym (view y (omega arith) .kind-is) ∙ view x h .kind-is
+
+  one-size : sizeOf b ≡ sizeOf a
+  one-size = sym (view y (omega arith) .size-is) ∙ view x h .size-is
+
+  after-both : Here img page₁ (pos + sizeOf a) (restOf b)
+  after-both = subst (λ (n : ℕ). Here img page₁ (pos + n) (restOf b)) one-size (view y (omega arith) .after)
+
+  sizes-after : size (restOf a) ≡ size (restOf b)
+  sizes-after = omega (arith, one-size, size-first a, size-first b)
+
+-- and show as many nodes.
 same-width : (img : List ℕ) (page page₁ pos : ℕ) (a b : Row) → Here img page pos a → Here img page₁ pos b → size a ≡ size b → width a ≡ width b
-same-width img page page₁ pos nil nil x y e = refl
-same-width img page page₁ pos nil (agg h cs rest) x y e = absurd (omega arith)
-same-width img page page₁ pos nil (lit h c rest) x y e = absurd (omega arith)
-same-width img page page₁ pos nil (rec p s r rest) x y e = absurd (omega arith)
-same-width img page page₁ pos (agg h cs rest) nil x y e = absurd (omega arith)
-same-width img page page₁ pos (agg h cs rest) (agg h₁ cs₁ rest₁) x y e =
-    let v = agg-view img page pos h cs rest x in
-    let w = agg-view img page₁ pos h₁ cs₁ rest₁ y in
-    let z : pos + (6 + size cs₁) ≡ pos + (6 + size cs) = omega (arith, v .long, w .long) in
-    omega (arith, same-width img page page₁ (pos + (6 + size cs)) rest rest₁ (v .after) (subst (λ (n : ℕ). Here img page₁ n rest₁) z (w .after)) (omega arith))
-same-width img page page₁ pos (agg h cs rest) (lit h₁ c₁ rest₁) x y e =
-    absurd (omega (arith, agg-view img page pos h cs rest x .kind, lit-view img page₁ pos h₁ c₁ rest₁ y .kind))
-same-width img page page₁ pos (agg h cs rest) (rec p₁ s₁ r₁ rest₁) x y e =
-    absurd (omega (arith, agg-view img page pos h cs rest x .kind, rec-view img page₁ pos p₁ s₁ r₁ rest₁ y .kind))
-same-width img page page₁ pos (lit h c rest) nil x y e = absurd (omega arith)
-same-width img page page₁ pos (lit h c rest) (agg h₁ cs₁ rest₁) x y e =
-    absurd (omega (arith, lit-view img page pos h c rest x .kind, agg-view img page₁ pos h₁ cs₁ rest₁ y .kind))
-same-width img page page₁ pos (lit h c rest) (lit h₁ c₁ rest₁) x y e =
-    let v = lit-view img page pos h c rest x in
-    let w = lit-view img page₁ pos h₁ c₁ rest₁ y in
-    let z : pos + (6 + length c₁) ≡ pos + (6 + length c) = omega (arith, v .long, w .long) in
-    omega (arith, same-width img page page₁ (pos + (6 + length c)) rest rest₁ (v .after) (subst (λ (n : ℕ). Here img page₁ n rest₁) z (w .after)) (omega arith))
-same-width img page page₁ pos (lit h c rest) (rec p₁ s₁ r₁ rest₁) x y e =
-    absurd (omega (arith, lit-view img page pos h c rest x .kind, rec-view img page₁ pos p₁ s₁ r₁ rest₁ y .kind))
+same-width img page page₁ pos nil b x y e = none-width b e
+same-width img page page₁ pos (agg h cs rest) b x y e =
+    let k = one-kind x y e (omega arith) in
+    let later = same-width img page page₁ _ rest (restOf b) (view x (omega arith) .after) (after-both x y e (omega arith)) (sizes-after x y e (omega arith)) in
+    omega (arith, width-first b, plain-width b (omega arith) (λ z. omega arith))
+same-width img page page₁ pos (lit h c rest) b x y e =
+    let k = one-kind x y e (omega arith) in
+    let later = same-width img page page₁ _ rest (restOf b) (view x (omega arith) .after) (after-both x y e (omega arith)) (sizes-after x y e (omega arith)) in
+    omega (arith, width-first b, plain-width b (omega arith) (λ z. omega arith))
 same-width img page page₁ pos (rec p s r rest) nil x y e = absurd (omega arith)
-same-width img page page₁ pos (rec p s r rest) (agg h₁ cs₁ rest₁) x y e =
-    absurd (omega (arith, rec-view img page pos p s r rest x .kind, agg-view img page₁ pos h₁ cs₁ rest₁ y .kind))
-same-width img page page₁ pos (rec p s r rest) (lit h₁ c₁ rest₁) x y e =
-    absurd (omega (arith, rec-view img page pos p s r rest x .kind, lit-view img page₁ pos h₁ c₁ rest₁ y .kind))
+same-width img page page₁ pos (rec p s r rest) (agg h cs rest₁) x y e = absurd (omega (arith, one-kind x y e (omega arith)))
+same-width img page page₁ pos (rec p s r rest) (lit h c rest₁) x y e = absurd (omega (arith, one-kind x y e (omega arith)))
 same-width img page page₁ pos (rec p s r rest) (rec p₁ s₁ r₁ rest₁) x y e =
-    let v = rec-view img page pos p s r rest x in
-    let w = rec-view img page₁ pos p₁ s₁ r₁ rest₁ y in
-    let z : p₁ ≡ p = sym (w .name) ∙ v .name in
+    let v = view x (omega arith) in
+    let w = view y (omega arith) in
+    let z : p₁ ≡ p = sym (w .name-is refl) ∙ v .name-is refl in
     let inner : width r ≡ width r₁ =
     one-page img p page page₁ r r₁ (λ g g₁ n. same-width img g g₁ n r r₁) (v .under) (subst (λ (n : ℕ). OnPage img n page₁ r₁) z (w .under)) in
     omega (arith, same-width img page page₁ (pos + 8) rest rest₁ (v .after) (w .after) (omega arith))
@@ -91,25 +115,25 @@ told-at : (img c : List ℕ) (page pos : ℕ) (row : Row) → Here img page pos 
     → (holder : ℕ) × (r : Row) × OnPage img q holder r × (getD c q 0 ≡ width r)
 told-at img c page pos nil x t q k = absurd (omega arith)
 told-at img c page pos (agg h cs rest) x t q k =
-    let v = agg-view img page pos h cs rest x in
-    either (count q cs) (count q rest) k (told-at img c page (pos + 6) cs (v .children) (t .0) q) (told-at img c page (pos + (6 + size cs)) rest (v .after) (t .1) q)
-told-at img c page pos (lit h b rest) x t q k =
-    let v = lit-view img page pos h b rest x in
-    told-at img c page (pos + (6 + length b)) rest (v .after) t q k
+    let v = view x (omega arith) in
+    either (count q cs) (count q rest) k (told-at img c page (pos + 6) cs (v .children) (t .0) q)
+    (told-at img c page (pos + (6 + size cs)) rest (v .after) (t .1) q)
+told-at img c page pos (lit h b rest) x t q k = told-at img c page (pos + (6 + length b)) rest (view x (omega arith) .after) t q k
 told-at img c page pos (rec p s r rest) x t q k =
-    let v = rec-view img page pos p s r rest x in
-    go v (eqb q p) refl k
+    let v = view x (omega arith) in
+    go (v .under) (eqb q p) refl k
     (told-at img c p (pageSize * p + base r) r (v .under .here) (t .1) q)
     (told-at img c page (pos + 8) rest (v .after) (t .2) q)
   where
-    Found : Type 0
-    Found = (holder : ℕ) × (r : Row) × OnPage img q holder r × (getD c q 0 ≡ width r)
+    Entry : Type 0
+    Entry = (holder : ℕ) × (r : Row) × OnPage img q holder r × (getD c q 0 ≡ width r)
 
-    go : RecView img page pos p s r rest → (b : Bool) → eqb q p ≡ b → 1 ≤ cond b 1 0 + count q r + count q rest → (1 ≤ count q r → Found) → (1 ≤ count q rest → Found) → Found
-    go v true e k inner after =
+    go : OnPage img p page r → (b : Bool) → eqb q p ≡ b → 1 ≤ cond b 1 0 + count q r + count q rest → (1 ≤ count q r → Entry) → (1 ≤ count q rest → Entry)
+        → Entry
+    go u true e k inner after =
         let z : q ≡ p = eqb-true q p e in
-        (page, r, subst (λ (n : ℕ). OnPage img n page r) (sym z) (v .under), ap (λ (n : ℕ). getD c n 0) z ∙ t .0)
-    go v false e k inner after = either (count q r) (count q rest) (omega arith) inner after
+        (page, r, subst (λ (n : ℕ). OnPage img n page r) (sym z) u, ap (λ (n : ℕ). getD c n 0) z ∙ t .0)
+    go u false e k inner after = either (count q r) (count q rest) (omega arith) inner after
 
 -- A table that is right for the root record's row is right for the image.
 pub widths : (img c : List ℕ) (st : Config) (root : Row) → Reads img st root → Told c root → Widths img c

@@ -23,8 +23,8 @@ pub each-of : (P : Node → Type 0) (n : Node) (ns : List Node) → Each P ns �
 each-of P n (m ∷ ns) e (List·Memᴰ·head q) = subst P (sym q) (e .0)
 each-of P n (m ∷ ns) e (List·Memᴰ·tail i) = each-of P n ns (e .1) i
 
-pub mem-split : (n : Node) (ns : List Node) → Mem n ns → (before after : List Node) × (ns ≡ before ++ n ∷ after)
-mem-split n (m ∷ ns) (List·Memᴰ·head e) = ([], ns, ap (λ (m : Node). m ∷ ns) (sym e))
+pub mem-split : {A : Type 0} (n : A) (ns : List A) → List·Memᴰ n ns → (before after : List A) × (ns ≡ before ++ n ∷ after)
+mem-split n (m ∷ ns) (List·Memᴰ·head e) = ([], ns, ap (λ m. m ∷ ns) (sym e))
 mem-split n (m ∷ ns) (List·Memᴰ·tail i) =
     let s = mem-split n ns i in
     (m ∷ s .0, s .1, ap (_∷_ m) (s .2))

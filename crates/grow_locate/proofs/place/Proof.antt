@@ -1,4 +1,4 @@
--- `receive::place`: behind the parent's header, or behind the left sibling.
+-- `grow_locate::place`: behind the parent's header, or behind the left sibling.
 use mathlib.Core.Path.{_≡_}
 use Prim.Native.Nat.{suc, _-_}
 use native.Mathlib.Omega.{arith}

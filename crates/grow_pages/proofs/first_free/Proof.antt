@@ -6,12 +6,13 @@ use native.Mathlib.Omega.{arith}
 use Rattle.model.specs.Limits.{mostPages}
 use Rattle.model.specs.Row.{Config}
 use Rattle.model.specs.Growth.{freeFrom}
-use Rattle.grow_pages.specs.Write.{usedBy, after, after-less, after-last, free-here, free-turn, free-none}
+use Rattle.grow_pages.specs.Write.{usedBy, after, after-less, after-last, free-here, free-turn, free-spent}
 use Rattle.grow_pages.proofs.first_free.Statement.{statement}
 use Rattle.grow_pages.proofs.first_free.Tie as tie
 
 abbrev Inv-loop : tie.InvT-loop
-Inv-loop used pages from q₀ left₀ q left = ((st : Config) → st .pages ≡ pages → freeFrom st left (usedBy used) q ≡ freeFrom st pages (usedBy used) from) × (q < mostPages)
+Inv-loop used pages from q₀ left₀ q left =
+    ((st : Config) → st .pages ≡ pages → freeFrom st left (usedBy used) q ≡ freeFrom st pages (usedBy used) from) × (q < mostPages)
 
 abbrev μ-loop : tie.MeasureT-loop
 μ-loop used pages from q₀ left₀ q left = left
@@ -47,7 +48,7 @@ loop-again c =
     )
 
 returns-2 : tie.Need-returns-2 Inv-loop μ-loop
-returns-2 c = λ st e. free-none st _ _ _ (c .loop-test .left) ∙ c .before .loop .inv .0 st e
+returns-2 c = λ st e. free-spent st _ _ _ (c .loop-test .left) ∙ c .before .loop .inv .0 st e
 
 pub first-free-spec : {M : Type 1} → statement M
 first-free-spec =

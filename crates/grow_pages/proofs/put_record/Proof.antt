@@ -18,26 +18,26 @@ sub-clear c = search needs
 clear-requires : tie.Need-clear-requires
 clear-requires c κs = search needs
 
-add-put16 : tie.Need-add-put16
-add-put16 c = search needs
+add-trailer : tie.Need-add-trailer
+add-trailer c = search needs
 
 mul-put16 : tie.Need-mul-put16
 mul-put16 c = search needs
 
-add-put16-2 : tie.Need-add-put16-2
-add-put16-2 c = search needs
+add-put16 : tie.Need-add-put16
+add-put16 c = search needs
 
 put16-requires : tie.Need-put16-requires
 put16-requires c κs = search needs
 
-add-put16-3 : tie.Need-add-put16-3
-add-put16-3 c = search needs
+add-put16-2 : tie.Need-add-put16-2
+add-put16-2 c = search needs
 
 put16-requires-2 : tie.Need-put16-requires-2
 put16-requires-2 c κs = search needs
 
-add-put16-4 : tie.Need-add-put16-4
-add-put16-4 c = search needs
+add-put16-3 : tie.Need-add-put16-3
+add-put16-3 c = search needs
 
 put16-requires-3 : tie.Need-put16-requires-3
 put16-requires-3 c κs = search needs
@@ -72,13 +72,13 @@ put-record-spec =
     add-clear
     sub-clear
     clear-requires
-    add-put16
+    add-trailer
     mul-put16
-    add-put16-2
+    add-put16
     put16-requires
-    add-put16-3
+    add-put16-2
     put16-requires-2
-    add-put16-4
+    add-put16-3
     put16-requires-3
     add-clear-2
     clear-requires-2

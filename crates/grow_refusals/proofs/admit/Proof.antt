@@ -1,4 +1,4 @@
--- `admit::admit`: each test in the order of the refusal table, with the tests before it passed.
+-- `grow_refusals::admit`: each test in the order of the refusal table, with the tests before it passed.
 use mathlib.Core.Path.{_≡_, refl, sym, _∙_}
 use Prim.Native.Nat.{_+_, _*_}
 use native.Mathlib.Omega.{arith}

@@ -1,8 +1,7 @@
--- `lift::enclosing`: from pos on, the walk leads to the same node.
+-- `grow_replace_proxy::enclosing`: from pos on, the walk leads to the same node.
 use Prim.Native.Nat.{ℕ, _-_}
 use native.Mathlib.Omega.{arith}
-use mathlib.Core.Path.{_∙_}
-use Rattle.grow_replace_proxy.specs.Inner.{Inner, Step, step, filledIn, inner-start, inner-end}
+use Rattle.grow_replace_proxy.specs.Inner.{Inner, InnerStep, inner-step, filledIn, inner-start, inner-end}
 use Rattle.grow_replace_proxy.proofs.enclosing.Statement.{statement}
 use Rattle.grow_replace_proxy.proofs.enclosing.Tie as tie
 
@@ -16,17 +15,15 @@ loop-holds : tie.Need-loop-holds Inv-loop μ-loop
 loop-holds c = λ g s. s
 
 -- what stands at pos
-seen : (c : tie.In-loop Inv-loop μ-loop) → let s = c .before .before .before in Step (s .args .rec .now) (s .args .target) (c .before .loop .pos) (c .before .loop .par) (filledIn _ _ (s .pre))
-seen c = step _ _ _ _ _ (c .before .loop .inv _ (inner-start _ _ (c .before .before .before .pre))) (c .loop-test .taken)
+seen : (c : tie.In-loop Inv-loop μ-loop)
+    → let s = c .before .before .before in InnerStep (s .args .rec .now) (s .args .target) (c .before .loop .pos) (c .before .loop .par) (filledIn _ _ (s .pre))
+seen c = inner-step _ _ _ _ _ (c .before .loop .inv _ (inner-start _ _ (c .before .before .before .pre))) (c .loop-test .taken)
 
-add-two : tie.Need-add-two Inv-loop μ-loop
-add-two c = let v = seen c in omega (arith, v .within, v .more)
-
-two-requires : tie.Need-two-requires Inv-loop μ-loop
-two-requires c κs = let v = seen c in omega (arith, v .within, v .more)
+size-at-requires : tie.Need-size-at-requires Inv-loop μ-loop
+size-at-requires c κs = let v = seen c in omega (arith, v .within, v .more)
 
 add-if1 : tie.Need-add-if1 Inv-loop μ-loop
-add-if1 c = let v = seen (c .before) in omega (arith, v .within, v .is, c .two .ensures .0)
+add-if1 c = let v = seen (c .before) in omega (arith, v .within, c .size-at .ensures .0)
 
 add-pos : tie.Need-add-pos Inv-loop μ-loop
 add-pos c = let v = seen (c .before .before) in omega (arith, v .within, v .more)
@@ -37,20 +34,21 @@ loop-less c = omega (arith, c .before .before .loop-test .taken)
 loop-again : tie.Need-loop-again Inv-loop μ-loop
 loop-again c =
     let i = c .before .before in
-    λ g s. let v = step _ _ _ _ _ (i .before .loop .inv g s) (i .loop-test .taken) in v .enter (omega (arith, c .if1 .taken, c .before .two .ensures .0, v .is))
+    λ g s. let v =
+    inner-step _ _ _ _ _ (i .before .loop .inv g s) (i .loop-test .taken) in v .enter (omega (arith, c .if1 .taken, c .before .size-at .ensures .0))
 
 add-pos-2 : tie.Need-add-pos-2 Inv-loop μ-loop
-add-pos-2 c = let v = seen (c .before .before) in omega (arith, v .within, v .is, c .before .two .ensures .0)
+add-pos-2 c = let v = seen (c .before .before) in omega (arith, v .within, c .before .size-at .ensures .0)
 
 loop-less-2 : tie.Need-loop-less-2 Inv-loop μ-loop
-loop-less-2 c = let v = seen (c .before .before) in omega (arith, v .is, v .more, c .before .two .ensures .0, c .before .before .loop-test .taken)
+loop-less-2 c = let v = seen (c .before .before) in omega (arith, v .more, c .before .size-at .ensures .0, c .before .before .loop-test .taken)
 
 loop-again-2 : tie.Need-loop-again-2 Inv-loop μ-loop
 loop-again-2 c =
     let i = c .before .before in
     λ g s.
-    let v = step _ _ _ _ _ (i .before .loop .inv g s) (i .loop-test .taken) in
-    rw (c .before .two .ensures .0 ∙ v .is) (v .skip (omega (arith, c .if1 .left, c .before .two .ensures .0, v .is)))
+    let v = inner-step _ _ _ _ _ (i .before .loop .inv g s) (i .loop-test .taken) in
+    rw (c .before .size-at .ensures .0) (v .skip (omega (arith, c .if1 .left, c .before .size-at .ensures .0)))
 
 returns : tie.Need-returns Inv-loop μ-loop
 returns c = λ w. inner-end _ _ _ _ _ (c .before .loop .inv _ (inner-start _ _ w)) (c .loop-test .left)
@@ -62,8 +60,7 @@ enclosing-spec =
     Inv-loop
     μ-loop
     loop-holds
-    add-two
-    two-requires
+    size-at-requires
     add-if1
     add-pos
     loop-less

@@ -1,9 +1,9 @@
--- `lift::proxy_in`: from pos on, the search leads to the same proxy.
+-- `grow_replace_proxy::proxy_in`: from pos on, the search leads to the same proxy.
 use Prim.Native.Nat.{ℕ, _-_}
 use native.Mathlib.Omega.{arith}
 use mathlib.Core.Path.{sym, _∙_}
 use lib.ListN.{length}
-use Rattle.grow_replace_proxy.specs.Seek.{Seek, Found, found, proxySpot, seek-start}
+use Rattle.grow_replace_proxy.specs.Seek.{Seek, SeekStep, seek-step, proxySpot, seek-start}
 use Rattle.grow_replace_proxy.proofs.proxy_in.Statement.{statement}
 use Rattle.grow_replace_proxy.proofs.proxy_in.Tie as tie
 
@@ -17,8 +17,8 @@ loop-holds : tie.Need-loop-holds Inv-loop μ-loop
 loop-holds c = λ g s. s
 
 -- what stands at pos
-seen : (c : tie.At-loop Inv-loop μ-loop) → let s = c .before .before in Found (s .args .rec .now) (s .args .page) (c .loop .pos) (proxySpot _ _ (s .pre))
-seen c = found _ _ _ _ (c .loop .inv _ (seek-start _ _ (c .before .before .pre)))
+seen : (c : tie.At-loop Inv-loop μ-loop) → let s = c .before .before in SeekStep (s .args .rec .now) (s .args .page) (c .loop .pos) (proxySpot _ _ (s .pre))
+seen c = seek-step _ _ _ _ (c .loop .inv _ (seek-start _ _ (c .before .before .pre)))
 
 shared-slice-read-kind : tie.Need-shared-slice-read-kind Inv-loop μ-loop
 shared-slice-read-kind c = omega (arith, seen (c .before) .within)
@@ -30,18 +30,16 @@ loop-less : tie.Need-loop-less Inv-loop μ-loop
 loop-less c = omega (arith, seen (c .before .before) .within)
 
 loop-again : tie.Need-loop-again Inv-loop μ-loop
-loop-again c = λ g s. found _ _ _ _ (c .before .before .loop .inv g s) .into (c .if1 .taken)
+loop-again c = λ g s. seek-step _ _ _ _ (c .before .before .loop .inv g s) .into (c .if1 .taken)
 
-add-two : tie.Need-add-two Inv-loop μ-loop
-add-two c = omega (arith, seen (c .before .before .before) .within)
-
-two-requires : tie.Need-two-requires Inv-loop μ-loop
-two-requires c κs = omega (arith, seen (c .before .before .before) .within)
+name-at-requires : tie.Need-name-at-requires Inv-loop μ-loop
+name-at-requires c κs = omega (arith, seen (c .before .before .before) .within)
 
 returns : tie.Need-returns Inv-loop μ-loop
 returns c =
     let i = c .before .before in
-    λ w. found _ _ _ _ (i .before .before .before .loop .inv _ (seek-start _ _ w)) .proxy (i .if2 .taken) (sym (c .before .two .ensures .0) ∙ c .if3 .taken)
+    λ w. seek-step _ _ _ _ (i .before .before .before .loop .inv _ (seek-start _ _ w)) .proxy (i .if2 .taken)
+    (sym (c .before .name-at .ensures .0) ∙ c .if3 .taken)
 
 add-pos-2 : tie.Need-add-pos-2 Inv-loop μ-loop
 add-pos-2 c = omega (arith, seen (c .before .before .before .before .before) .within)
@@ -52,26 +50,23 @@ loop-less-2 c = omega (arith, seen (c .before .before .before .before .before) .
 loop-again-2 : tie.Need-loop-again-2 Inv-loop μ-loop
 loop-again-2 c =
     let i = c .before .before in
-    λ g s. found _ _ _ _ (i .before .before .before .loop .inv g s) .other (i .if2 .taken) (λ e. c .if3 .left (c .before .two .ensures .0 ∙ e))
+    λ g s. seek-step _ _ _ _ (i .before .before .before .loop .inv g s) .other (i .if2 .taken) (λ e. c .if3 .left (c .before .name-at .ensures .0 ∙ e))
 
-add-two-2 : tie.Need-add-two-2 Inv-loop μ-loop
-add-two-2 c = omega (arith, seen (c .before .before .before) .within)
-
-two-requires-2 : tie.Need-two-requires-2 Inv-loop μ-loop
-two-requires-2 c κs = omega (arith, seen (c .before .before .before) .within)
+size-at-requires : tie.Need-size-at-requires Inv-loop μ-loop
+size-at-requires c κs = omega (arith, seen (c .before .before .before) .within)
 
 add-pos-3 : tie.Need-add-pos-3 Inv-loop μ-loop
-add-pos-3 c = omega (arith, seen (c .before .before .before .before) .within, c .two2 .ensures .1)
+add-pos-3 c = omega (arith, seen (c .before .before .before .before) .within, c .size-at .ensures .1)
 
 loop-less-3 : tie.Need-loop-less-3 Inv-loop μ-loop
 loop-less-3 c =
     let v = seen (c .before .before .before .before) in
-    omega (arith, v .within, v .past (c .before .before .if1 .left) (c .before .if2 .left) .0, c .two2 .ensures .0)
+    omega (arith, v .within, v .past (c .before .before .if1 .left) (c .before .if2 .left) .0, c .size-at .ensures .0)
 
 loop-again-3 : tie.Need-loop-again-3 Inv-loop μ-loop
 loop-again-3 c =
     let p = c .before .before in
-    λ g s. rw (c .two2 .ensures .0) (found _ _ _ _ (p .before .before .loop .inv g s) .past (p .if1 .left) (c .before .if2 .left) .1)
+    λ g s. rw (c .size-at .ensures .0) (seek-step _ _ _ _ (p .before .before .loop .inv g s) .past (p .if1 .left) (c .before .if2 .left) .1)
 
 pub proxy-in-spec : {M : Type 1} → statement M
 proxy-in-spec =
@@ -84,14 +79,12 @@ proxy-in-spec =
     add-pos
     loop-less
     loop-again
-    add-two
-    two-requires
+    name-at-requires
     returns
     add-pos-2
     loop-less-2
     loop-again-2
-    add-two-2
-    two-requires-2
+    size-at-requires
     add-pos-3
     loop-less-3
     loop-again-3)

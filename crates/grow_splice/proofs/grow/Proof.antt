@@ -1,4 +1,4 @@
--- `splice::grow`: from pos on, the nodes that contain the spot have not grown yet.
+-- `grow_splice::grow`: from pos on, the nodes that contain the spot have not grown yet.
 use mathlib.Core.Path.{_≡_, refl, _∙_}
 use mathlib.Core.List.{List}
 use Prim.Native.Nat.{ℕ, _+_, _-_}
@@ -15,16 +15,16 @@ Inv-loop s₀ par n whole pos₀ s pos = ((goal : List ℕ) → Mid s₀ goal 6 
 abbrev μ-loop : tie.MeasureT-loop
 μ-loop s₀ par n whole pos₀ s pos = par + 1 - pos
 
-two-requires : tie.Need-two-requires Inv-loop μ-loop
-two-requires c κs = omega (arith, cut-length _ _ _ (c .before .before .pre))
+size-at-requires : tie.Need-size-at-requires Inv-loop μ-loop
+size-at-requires c κs = omega (arith, cut-length _ _ _ (c .before .before .pre))
 
 add-put16 : tie.Need-add-put16 Inv-loop μ-loop
-add-put16 c = omega (arith, c .before .two .ensures .0, cut-small _ _ _ (c .before .before .before .before .pre))
+add-put16 c = omega (arith, c .before .size-at .ensures .0, cut-small _ _ _ (c .before .before .before .before .pre))
 
 put16-requires : tie.Need-put16-requires Inv-loop μ-loop
 put16-requires c κs =
     let s = c .before .before .before .before in
-    (omega (arith, cut-length _ _ _ (s .pre)), omega (arith, c .before .two .ensures .0, cut-small _ _ _ (s .pre)))
+    (omega (arith, cut-length _ _ _ (s .pre)), omega (arith, c .before .size-at .ensures .0, cut-small _ _ _ (s .pre)))
 
 loop-holds : tie.Need-loop-holds Inv-loop μ-loop
 loop-holds c = (λ g m. m, refl)
@@ -34,18 +34,17 @@ begun : (c : tie.At-loop Inv-loop μ-loop) → let p = c .before .before .before
     (w : Cut (now (s .args .s)) (s .args .par) (s .args .n)) → Mid (p .put16 .last .0) (grown _ _ _ w) 6 (s .args .par) (s .args .n)
 begun c w =
     let p = c .before .before .before in
-    rw (p .put16 .ensures, p .before .before .two .ensures .0) (cut-start _ _ _ w)
+    rw (p .put16 .ensures, p .before .before .size-at .ensures .0) (cut-start _ _ _ w)
 
 -- what stands at pos
 seen : (c : tie.In-loop Inv-loop μ-loop) → let s = c .before .before .before .before .before .before .before .before .before in
     Look (c .before .loop .s) (grown _ _ _ (s .pre)) (c .before .loop .pos) (s .args .par) (s .args .n)
-seen c = look _ _ _ _ _ (c .before .loop .inv .0 _ (begun (c .before) (c .before .before .before .before .before .before .before .before .before .pre))) (c .loop-test .taken)
+seen c =
+    look _ _ _ _ _ (c .before .loop .inv .0 _ (begun (c .before) (c .before .before .before .before .before .before .before .before .before .pre)))
+    (c .loop-test .taken)
 
-add-two : tie.Need-add-two Inv-loop μ-loop
-add-two c = let v = seen (c .before) in omega (arith, v .fits)
-
-two-requires-2 : tie.Need-two-requires-2 Inv-loop μ-loop
-two-requires-2 c κs = let v = seen (c .before) in omega (arith, v .fits)
+size-at-requires-2 : tie.Need-size-at-requires-2 Inv-loop μ-loop
+size-at-requires-2 c κs = let v = seen (c .before) in omega (arith, v .fits)
 
 add-if1 : tie.Need-add-if1 Inv-loop μ-loop
 add-if1 c = let v = seen (c .before .before) in omega (arith, v .fits)
@@ -54,12 +53,12 @@ add-put16-2 : tie.Need-add-put16-2 Inv-loop μ-loop
 add-put16-2 c = let v = seen (c .before .before .before .before) in omega (arith, v .fits)
 
 add-put16-3 : tie.Need-add-put16-3 Inv-loop μ-loop
-add-put16-3 c = let v = seen (c .before .before .before .before) in omega (arith, v .small, c .before .before .two2 .ensures .0)
+add-put16-3 c = let v = seen (c .before .before .before .before) in omega (arith, v .small, c .before .before .size-at2 .ensures .0)
 
 put16-requires-2 : tie.Need-put16-requires-2 Inv-loop μ-loop
 put16-requires-2 c κs =
     let v = seen (c .before .before .before .before) in
-    (omega (arith, v .fits), omega (arith, v .small, v .is, c .before .before .two2 .ensures .0))
+    (omega (arith, v .fits), omega (arith, v .small, v .is, c .before .before .size-at2 .ensures .0))
 
 add-pos : tie.Need-add-pos Inv-loop μ-loop
 add-pos c = let v = seen (c .before .before .before .before .before .before .before) in omega (arith, v .fits)
@@ -71,20 +70,22 @@ loop-again : tie.Need-loop-again Inv-loop μ-loop
 loop-again c =
     let p = c .before .before in
     let i = p .before .before .before .before .before in (
-      λ g m. mid-enter _ _ _ _ _ _ _ (i .before .loop .inv .0 g m) (i .loop-test .taken) (p .before .before .before .two2 .ensures .0) (p .before .before .if1 .taken) (p .put162 .ensures),
+      λ g m. mid-enter _ _ _ _ _ _ _ (i .before .loop .inv .0 g m) (i .loop-test .taken) (p .before .before .before .size-at2 .ensures .0)
+          (p .before .before .if1 .taken) (p .put162 .ensures),
       p .put162 .kept .0 ∙ i .before .loop .inv .1,
     )
 
 add-pos-2 : tie.Need-add-pos-2 Inv-loop μ-loop
-add-pos-2 c = omega (arith, c .before .two2 .ensures .1, c .if1 .left)
+add-pos-2 c = omega (arith, c .before .size-at2 .ensures .1, c .if1 .left)
 
 loop-less-2 : tie.Need-loop-less-2 Inv-loop μ-loop
-loop-less-2 c = let v = seen (c .before .before .before) in omega (arith, v .is, v .more, c .before .two2 .ensures .0, c .before .before .before .loop-test .taken)
+loop-less-2 c =
+    let v = seen (c .before .before .before) in omega (arith, v .is, v .more, c .before .size-at2 .ensures .0, c .before .before .before .loop-test .taken)
 
 loop-again-2 : tie.Need-loop-again-2 Inv-loop μ-loop
 loop-again-2 c =
     let i = c .before .before .before in (
-      λ g m. mid-skip _ _ _ _ _ _ (i .before .loop .inv .0 g m) (i .loop-test .taken) (c .before .two2 .ensures .0) (c .if1 .left),
+      λ g m. mid-skip _ _ _ _ _ _ (i .before .loop .inv .0 g m) (i .loop-test .taken) (c .before .size-at2 .ensures .0) (c .if1 .left),
       i .before .loop .inv .1,
     )
 
@@ -100,12 +101,11 @@ grow-spec =
     (tie.spec
     Inv-loop
     μ-loop
-    two-requires
+    size-at-requires
     add-put16
     put16-requires
     loop-holds
-    add-two
-    two-requires-2
+    size-at-requires-2
     add-if1
     add-put16-2
     add-put16-3

@@ -1,4 +1,4 @@
--- `splice::splice`: the front with its nodes grown, the new bytes, and what stood past those that go.
+-- `grow_splice::splice`: the front with its nodes grown, the new bytes, and what stood past those that go.
 use mathlib.Core.Path.{_≡_, refl, sym, ap, _∙_}
 use mathlib.Core.List.{_++_}
 use Prim.Native.Nat.{_+_, _-_, _≤_, _<_}

@@ -1,4 +1,4 @@
--- `cut::enters`: the three tests.
+-- `grow_split_point::enters`: the three tests.
 use mathlib.Core.Path.{sym, _∙_}
 use borrow.Author.Needs.{needs}
 use borrow.Author.Tests.{not-true, not-false}
@@ -6,11 +6,8 @@ use Rattle.grow_split_point.specs.Search.{by-byte, into-no, into-empty, 
 use Rattle.grow_split_point.proofs.enters.Statement.{statement}
 use Rattle.grow_split_point.proofs.enters.Tie as tie
 
-add-two : tie.Need-add-two
-add-two c = search needs
-
-two-requires : tie.Need-two-requires
-two-requires c κs = search needs
+size-at-requires : tie.Need-size-at-requires
+size-at-requires c κs = search needs
 
 shared-slice-read-wide : tie.Need-shared-slice-read-wide
 shared-slice-read-wide c = search needs
@@ -24,24 +21,26 @@ may-stand-requires c κs = search needs
 returns : tie.Need-returns
 returns c =
     let m = c .before in
-    λ end w st e. into-no _ _ _ w st _ _ e (m .before .before .before .two .ensures .0) (sym (by-byte (m .before .wide .ensures .0) (m .may-stand .ensures)) ∙ not-true _ (c .if1 .taken))
+    λ end w st e. into-no _ _ _ w st _ _ e (m .before .before .before .size-at .ensures .0)
+    (sym (by-byte (m .before .wide .ensures .0) (m .may-stand .ensures)) ∙ not-true _ (c .if1 .taken))
 
 returns-2 : tie.Need-returns-2
 returns-2 c =
     let m = c .before .before in
-    λ end w st e. into-empty _ _ _ w st _ _ e (m .before .before .before .two .ensures .0) (sym (by-byte (m .before .wide .ensures .0) (m .may-stand .ensures)) ∙ not-false _ (c .before .if1 .left)) (c .if2 .taken)
+    λ end w st e. into-empty _ _ _ w st _ _ e (m .before .before .before .size-at .ensures .0)
+    (sym (by-byte (m .before .wide .ensures .0) (m .may-stand .ensures)) ∙ not-false _ (c .before .if1 .left)) (c .if2 .taken)
 
 returns-3 : tie.Need-returns-3
 returns-3 c =
     let m = c .before .before in
-    λ end w st e. into-size _ _ _ w st _ _ e (m .before .before .before .two .ensures .0) (sym (by-byte (m .before .wide .ensures .0) (m .may-stand .ensures)) ∙ not-false _ (c .before .if1 .left)) (c .if2 .left)
+    λ end w st e. into-size _ _ _ w st _ _ e (m .before .before .before .size-at .ensures .0)
+    (sym (by-byte (m .before .wide .ensures .0) (m .may-stand .ensures)) ∙ not-false _ (c .before .if1 .left)) (c .if2 .left)
 
 pub enters-spec : {M : Type 1} → statement M
 enters-spec =
     tie.close
     (tie.spec
-    add-two
-    two-requires
+    size-at-requires
     shared-slice-read-wide
     wide-requires
     may-stand-requires

@@ -1,4 +1,4 @@
--- `cut::lean`: the machine's difference is the difference, and it is in the range.
+-- `grow_split_point::lean`: the machine's difference is the difference, and it is in the range.
 use borrow.Author.Needs.{needs}
 use mathlib.Core.Path.{_≡_, refl}
 use Prim.Native.Nat.{ℕ, _≤_}

@@ -1,4 +1,4 @@
--- `cut::split_point`: the product fits.
+-- `grow_split_point::split_point`: the product fits.
 use mathlib.Core.Path.{sym, ap}
 use Prim.Native.Nat.{ℕ, _*_, _/_, _≤_}
 use native.Mathlib.Omega.{arith}

@@ -1,4 +1,4 @@
--- `cut::stays`: by the length, then by the table.
+-- `grow_split_point::stays`: by the length, then by the table.
 use mathlib.Core.Path.{ap, _∙_}
 use mathlib.Core.Bool.{not}
 use native.Mathlib.Omega.{arith}

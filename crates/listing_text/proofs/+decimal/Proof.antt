@@ -1,4 +1,4 @@
--- `lines::decimal`: the digits before the last, then the last. The measure is the number. cN is c N places before.
+-- `listing_text::decimal`: the digits before the last, then the last. The measure is the number. cN is c N places before.
 use mathlib.Core.Path.{sym, ap, _∙_}
 use mathlib.Core.List.{[], _∷_, _++_}
 use native.Mathlib.Omega.{arith}

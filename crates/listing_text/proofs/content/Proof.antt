@@ -1,4 +1,4 @@
--- `lines::content`: empty content is a dash. cN is c N places before.
+-- `listing_text::content`: empty content is a dash. cN is c N places before.
 use mathlib.Core.Path.{sym}
 use Rattle.listing_text.specs.Wrote.{same-room, same-text}
 use Rattle.listing_text.specs.Digits.{content-empty, content-hex}

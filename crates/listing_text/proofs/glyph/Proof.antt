@@ -1,4 +1,4 @@
--- `lines::glyph`: the two ranges of digits.
+-- `listing_text::glyph`: the two ranges of digits.
 use borrow.Author.Needs.{needs}
 use borrow.Author.Tests.{lt-ltb, le-ltb}
 use Rattle.listing_text.proofs.glyph.Statement.{statement}

@@ -1,4 +1,4 @@
--- `lines::head`: its pieces one after another. cN is c N places before.
+-- `listing_text::head`: its pieces one after another. cN is c N places before.
 use borrow.Author.Needs.{needs}
 use native.Mathlib.Omega.{arith}
 use Rattle.listing_text.specs.Wrote.{then}

@@ -1,4 +1,4 @@
--- `lines::hexadecimal`: the bytes before i are written. cN is c N places before.
+-- `listing_text::hexadecimal`: the bytes before i are written. cN is c N places before.
 use mathlib.Core.Path.{sym}
 use Prim.Native.Nat.{_≤_, _-_}
 use lib.ListN.{length, take}

@@ -1,4 +1,4 @@
--- `lines::inside`: by the kind of the node. cN is c N places before.
+-- `listing_text::inside`: by the kind of the node. cN is c N places before.
 use borrow.Author.Needs.{needs}
 use Rattle.listing_text.specs.Lined.{inside-aggregate, inside-proxy, inside-none, named-page}
 use Rattle.listing_text.proofs.inside.Statement.{statement}
@@ -14,32 +14,32 @@ add-t12 : tie.Need-add-t12
 add-t12 c = search needs
 
 returns : tie.Need-returns
-returns c = inside-aggregate (c .before .before .before .args .image .now) (c .before .before .before .args .i) (c .before .before .before .args .next) (c .before .before .before .args .level) (c .if1 .taken)
+returns c =
+    inside-aggregate (c .before .before .before .args .image .now) (c .before .before .before .args .i) (c .before .before .before .args .next)
+    (c .before .before .before .args .level) (c .if1 .taken)
 
 shared-slice-read-if2 : tie.Need-shared-slice-read-if2
 shared-slice-read-if2 c = search needs
 
-add-two : tie.Need-add-two
-add-two c = search needs
-
-two-requires : tie.Need-two-requires
-two-requires c κs = search needs
+name-at-requires : tie.Need-name-at-requires
+name-at-requires c κs = search needs
 
 row-start-requires : tie.Need-row-start-requires
 row-start-requires c κs =
     let c6 = c .before .before .before .before .before .before in
-    named-page _ (c6 .pre) (c .before .if2 .taken) (c .two .ensures .0)
+    named-page _ (c6 .pre) (c .before .if2 .taken) (c .name-at .ensures .0)
 
 row-end-requires : tie.Need-row-end-requires
 row-end-requires c κs =
     let c7 = c .before .before .before .before .before .before .before in
-    named-page _ (c7 .pre) (c .before .before .if2 .taken) (c .before .two .ensures .0)
+    named-page _ (c7 .pre) (c .before .before .if2 .taken) (c .before .name-at .ensures .0)
 
 returns-2 : tie.Need-returns-2
 returns-2 c =
     let c5 = c .before .before .before .before .before in
     let c8 = c5 .before .before .before in
-    inside-proxy (c8 .args .image .now) (c8 .args .i) (c8 .args .next) (c8 .args .level) _ _ _ (c5 .if1 .left) (c .before .before .before .if2 .taken) (c .before .before .two .ensures .0) (c .before .row-start .ensures) (c .row-end .ensures)
+    inside-proxy (c8 .args .image .now) (c8 .args .i) (c8 .args .next) (c8 .args .level) _ _ _ (c5 .if1 .left) (c .before .before .before .if2 .taken)
+    (c .before .before .name-at .ensures .0) (c .before .row-start .ensures) (c .row-end .ensures)
 
 returns-3 : tie.Need-returns-3
 returns-3 c =
@@ -55,8 +55,7 @@ inside-spec =
     add-t12
     returns
     shared-slice-read-if2
-    add-two
-    two-requires
+    name-at-requires
     row-start-requires
     row-end-requires
     returns-2

@@ -1,4 +1,4 @@
--- `lines::line`: its pieces one after another. cN is c N places before.
+-- `listing_text::line`: its pieces one after another. cN is c N places before.
 use native.Mathlib.Omega.{arith}
 use Rattle.listing_text.specs.Wrote.{then}
 use Rattle.listing_text.specs.Text.{lineOf}

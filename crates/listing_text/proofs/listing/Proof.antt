@@ -1,4 +1,4 @@
--- `lines::listing`: the head line, then the walk from the root record. cN is c N places before.
+-- `listing_text::listing`: the head line, then the walk from the root record. cN is c N places before.
 use native.Mathlib.Omega.{arith}
 use Rattle.listing_text.specs.Whole.{plan, whole-fitting, whole-wrote}
 use Rattle.listing_text.proofs.listing.Statement.{statement}

@@ -1,4 +1,4 @@
--- `lines::number`: the check on the bytes is the check of the rules, every byte being below 256.
+-- `listing_text::number`: the check on the bytes is the check of the rules, every byte being below 256.
 use mathlib.Core.Path.{_∙_}
 use native.Mathlib.Omega.{arith}
 use borrow.Author.Needs.{needs}

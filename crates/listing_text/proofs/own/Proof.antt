@@ -1,22 +1,19 @@
--- `lines::own`: by the kind of the node. cN is c N places before.
+-- `listing_text::own`: by the kind of the node. cN is c N places before.
 use mathlib.Core.Path.{sym}
 use borrow.Author.Needs.{needs}
 use native.Mathlib.Omega.{arith}
 use Rattle.listing_text.specs.Wrote.{nothing, same-room, same-text}
-use Rattle.listing_text.specs.Lined.{step, own-aggregate, own-literal, own-none}
+use Rattle.listing_text.specs.Lined.{node-fits, own-aggregate, own-literal, own-none}
 use Rattle.listing_text.proofs.own.Statement.{statement}
 use Rattle.listing_text.proofs.own.Tie as tie
 
-add-two : tie.Need-add-two
-add-two c = let s = step (c .before .before .pre .0) in omega (arith, s .more, s .within, s .room, s .small)
-
-two-requires : tie.Need-two-requires
-two-requires c κs = let s = step (c .before .before .pre .0) in omega (arith, s .more, s .within, s .room, s .small)
+label-at-requires : tie.Need-label-at-requires
+label-at-requires c κs = omega (arith, node-fits (c .before .before .pre .0))
 
 shared-slice-read-if1 : tie.Need-shared-slice-read-if1
 shared-slice-read-if1 c =
     let c4 = c .before .before .before .before in
-    let s = step (c4 .pre .0) in omega (arith, s .more, s .within, s .room, s .small)
+    omega (arith, node-fits (c4 .pre .0))
 
 sub-line : tie.Need-sub-line
 sub-line c = search needs
@@ -31,7 +28,7 @@ line-requires : tie.Need-line-requires
 line-requires c κs =
     let c4 = c .before .before .before .before in
     let c7 = c4 .before .before .before in
-    same-room (own-aggregate _ _ _ _ _ (c .before .before .if1 .taken) (c4 .two .ensures .0)) (c7 .pre .1)
+    same-room (own-aggregate _ _ _ _ _ (c .before .before .if1 .taken) (c4 .label-at .ensures .0)) (c7 .pre .1)
 
 same-length : tie.Need-same-length
 same-length c = c .before .before .line .ensures .same
@@ -40,39 +37,39 @@ returns : tie.Need-returns
 returns c =
     let c5 = c .before .before .before .before .before in
     let c7 = c5 .before .before in
-    same-text (sym (own-aggregate _ _ _ _ _ (c5 .if1 .taken) (c7 .two .ensures .0))) (c .before .before .line .ensures)
+    same-text (sym (own-aggregate _ _ _ _ _ (c5 .if1 .taken) (c7 .label-at .ensures .0))) (c .before .before .line .ensures)
 
 shared-slice-read-if2 : tie.Need-shared-slice-read-if2
 shared-slice-read-if2 c =
     let c6 = c .before .before .before .before .before .before in
-    let s = step (c6 .pre .0) in omega (arith, s .more, s .within, s .room, s .small)
+    omega (arith, node-fits (c6 .pre .0))
 
 add-a : tie.Need-add-a
 add-a c =
     let c7 = c .before .before .before .before .before .before .before in
-    let s = step (c7 .pre .0) in omega (arith, s .more, s .within, s .room, s .small)
+    omega (arith, node-fits (c7 .pre .0))
 
 sub-line-2 : tie.Need-sub-line-2
 sub-line-2 c =
     let c7 = c .before .before .before .before .before .before .before in
-    let s = step (c7 .pre .0) in omega (arith, s .more, s .within, s .room, s .small)
+    omega (arith, node-fits (c7 .pre .0))
 
 part-line-start-2 : tie.Need-part-line-start-2
 part-line-start-2 c =
     let c7 = c .before .before .before .before .before .before .before in
-    let s = step (c7 .pre .0) in omega (arith, s .more, s .within, s .room, s .small)
+    omega (arith, node-fits (c7 .pre .0))
 
 part-line-end-2 : tie.Need-part-line-end-2
 part-line-end-2 c =
     let c7 = c .before .before .before .before .before .before .before in
-    let s = step (c7 .pre .0) in omega (arith, s .more, s .within, s .room, s .small)
+    omega (arith, node-fits (c7 .pre .0))
 
 line-requires-2 : tie.Need-line-requires-2
 line-requires-2 c κs =
     let c4 = c .before .before .before .before in
     let c6 = c4 .before .before in
     let c9 = c6 .before .before .before in
-    same-room (own-literal _ _ _ _ _ (c4 .if1 .left) (c .before .before .if2 .taken) (c6 .two .ensures .0)) (c9 .pre .1)
+    same-room (own-literal _ _ _ _ _ (c4 .if1 .left) (c .before .before .if2 .taken) (c6 .label-at .ensures .0)) (c9 .pre .1)
 
 same-length-2 : tie.Need-same-length-2
 same-length-2 c = c .before .before .line2 .ensures .same
@@ -82,19 +79,19 @@ returns-2 c =
     let c5 = c .before .before .before .before .before in
     let c7 = c5 .before .before in
     let c9 = c7 .before .before in
-    same-text (sym (own-literal _ _ _ _ _ (c7 .if1 .left) (c5 .if2 .taken) (c9 .two .ensures .0))) (c .before .before .line2 .ensures)
+    same-text (sym (own-literal _ _ _ _ _ (c7 .if1 .left) (c5 .if2 .taken) (c9 .label-at .ensures .0))) (c .before .before .line2 .ensures)
 
 returns-3 : tie.Need-returns-3
 returns-3 c =
     let c7 = c .before .before .before .before .before .before .before in
-    same-text (sym (own-none (c7 .args .image .now) (c7 .args .i) (c7 .args .next) (c7 .args .level) (c .before .before .if1 .left) (c .if2 .left))) (nothing _ _ (omega (arith, c7 .pre .1 .fits)))
+    same-text (sym (own-none (c7 .args .image .now) (c7 .args .i) (c7 .args .next) (c7 .args .level) (c .before .before .if1 .left) (c .if2 .left)))
+    (nothing _ _ (omega (arith, c7 .pre .1 .fits)))
 
 pub own-spec : {M : Type 1} → statement M
 own-spec =
     tie.close
     (tie.spec
-    add-two
-    two-requires
+    label-at-requires
     shared-slice-read-if1
     sub-line
     part-line-start

@@ -1,4 +1,4 @@
--- `lines::print`: over 15 pages, refused, or listed. cN is c N places before.
+-- `listing_text::print`: over 15 pages, refused, or listed. cN is c N places before.
 use mathlib.Core.Path.{sym, _∙_}
 use borrow.Author.Needs.{needs}
 use native.Mathlib.Omega.{arith}

@@ -1,4 +1,4 @@
--- `lines::put`: one byte.
+-- `listing_text::put`: one byte.
 use borrow.Author.Needs.{needs}
 use Rattle.listing_text.specs.Wrote.{one-byte}
 use Rattle.listing_text.proofs.put.Statement.{statement}

@@ -1,4 +1,4 @@
--- `lines::refused`: its pieces one after another. cN is c N places before.
+-- `listing_text::refused`: its pieces one after another. cN is c N places before.
 use borrow.Author.Needs.{needs}
 use native.Mathlib.Omega.{arith}
 use Rattle.listing_text.specs.Wrote.{then}

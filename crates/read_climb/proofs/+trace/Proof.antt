@@ -1,4 +1,4 @@
--- `ascend::trace`: a level of the way. The measure is the distance to the target.
+-- `read_climb::trace`: a level of the way. The measure is the distance to the target.
 use Prim.Native.Nat.{ℕ, _<_, _-_}
 use native.Mathlib.Omega.{arith}
 use Rattle.read_climb.specs.Search.{few-before, wrote-here, lower, trace-below, room-below, wrote-below}
@@ -85,7 +85,8 @@ trace-returns-2 : (t : ℕ) → trace-lts.Need-returns-2 (claims t) (trace-at t)
 trace-returns-2 t c w =
     let f = c .before .before .before .before .before .before .before .before .before .child-at .ensures (w .search) in
     let k = c .before .before .before .before .before .before .before .if1 .left in
-    wrote-below _ _ _ _ _ w _ (f .0) k _ _ _ _ (c .before .before .before .before .trace .ensures (trace-below _ _ _ _ _ w _ (f .0) k)) _ _ (f .1) (c .before .put32 .ensures)
+    wrote-below _ _ _ _ _ w _ (f .0) k _ _ _ _ (c .before .before .before .before .trace .ensures (trace-below _ _ _ _ _ w _ (f .0) k)) _ _ (f .1)
+    (c .before .put32 .ensures)
 
 pub +trace-spec : {M : Type 1} → statement M
 +trace-spec = close μ-trace λ t. trace-lts.spec (claims t)

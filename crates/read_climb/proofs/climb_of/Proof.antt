@@ -1,4 +1,4 @@
--- `ascend::climb_of`: the bytes from where the path starts are those of the node's path.
+-- `read_climb::climb_of`: the bytes from where the path starts are those of the node's path.
 use mathlib.Core.Path.{refl}
 use native.Mathlib.Omega.{arith}
 use Rattle.read_climb.specs.Climbed.{climb-none, some-node, room, climb-short, climb-done}

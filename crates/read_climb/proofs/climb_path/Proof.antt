@@ -1,4 +1,4 @@
--- `ascend::climb_path`: the state of the climb at each record. The measure is the number of records that may be above.
+-- `read_climb::climb_path`: the state of the climb at each record. The measure is the number of records that may be above.
 use mathlib.Core.Path.{_≡_, refl}
 use native.Mathlib.Omega.{arith}
 use lib.ListN.{length}
@@ -40,18 +40,13 @@ returns c = (
       c .before .trace .ensures (started _ _ _ (w .reads) _ _ _ _ _ _ _ l _ e .trace) .long,
 )
 
-mul-two : tie.Need-mul-two Inv-loop μ-loop
-mul-two c =
+mul-back-at : tie.Need-mul-back-at Inv-loop μ-loop
+mul-back-at c =
     let w = c .before .before .before .before .before .before .pre .0 in
     omega (arith, on-page _ _ _ (w .reads) _ _ _ _ _ _ _ (c .before .before .before .before .loop .inv .0 w) .here .on)
 
-add-two : tie.Need-add-two Inv-loop μ-loop
-add-two c =
-    let w = c .before .before .before .before .before .before .pre .0 in
-    omega (arith, on-page _ _ _ (w .reads) _ _ _ _ _ _ _ (c .before .before .before .before .loop .inv .0 w) .here .on)
-
-two-requires : tie.Need-two-requires Inv-loop μ-loop
-two-requires c κs =
+back-at-requires : tie.Need-back-at-requires Inv-loop μ-loop
+back-at-requires c κs =
     let w = c .before .before .before .before .before .before .pre .0 in
     omega (arith, on-page _ _ _ (w .reads) _ _ _ _ _ _ _ (c .before .before .before .before .loop .inv .0 w) .here .on)
 
@@ -59,26 +54,27 @@ find-proxy-requires : tie.Need-find-proxy-requires Inv-loop μ-loop
 find-proxy-requires c κs =
     let w = c .before .before .before .before .before .before .before .pre .0 in
     let l = c .before .before .before .before .before .loop .inv .0 w in
-    held _ _ _ (w .reads) _ _ _ _ (parent-at _ _ _ (w .reads) _ _ _ _ _ _ _ l _ (c .two .ensures .0) (c .before .if1 .left))
+    held _ _ _ (w .reads) _ _ _ _ (parent-at _ _ _ (w .reads) _ _ _ _ _ _ _ l _ (c .back-at .ensures .0) (c .before .if1 .left))
 
 sub-left : tie.Need-sub-left Inv-loop μ-loop
 sub-left c =
     let w = c .before .before .before .before .before .before .before .before .pre .0 in
     let l = c .before .before .before .before .before .before .loop .inv .0 w in
-    above _ _ _ (w .reads) _ _ _ _ _ _ _ l _ (parent-at _ _ _ (w .reads) _ _ _ _ _ _ _ l _ (c .before .two .ensures .0) (c .before .before .if1 .left))
+    above _ _ _ (w .reads) _ _ _ _ _ _ _ l _ (parent-at _ _ _ (w .reads) _ _ _ _ _ _ _ l _ (c .before .back-at .ensures .0) (c .before .before .if1 .left))
 
 loop-less : tie.Need-loop-less Inv-loop μ-loop
 loop-less c =
     let w = c .before .before .before .before .before .before .before .before .pre .0 in
     let l = c .before .before .before .before .before .before .loop .inv .0 w in
-    omega (arith, above _ _ _ (w .reads) _ _ _ _ _ _ _ l _ (parent-at _ _ _ (w .reads) _ _ _ _ _ _ _ l _ (c .before .two .ensures .0) (c .before .before .if1 .left)))
+    let p = parent-at _ _ _ (w .reads) _ _ _ _ _ _ _ l _ (c .before .back-at .ensures .0) (c .before .before .if1 .left) in
+    omega (arith, above _ _ _ (w .reads) _ _ _ _ _ _ _ l _ p)
 
 loop-again : tie.Need-loop-again Inv-loop μ-loop
 loop-again c = (
   λ w.
       let l = c .before .before .before .before .before .before .loop .inv .0 w in
       let e = c .before .before .before .before .before .row-start .ensures in
-      let p = parent-at _ _ _ (w .reads) _ _ _ _ _ _ _ l _ (c .before .two .ensures .0) (c .before .before .if1 .left) in
+      let p = parent-at _ _ _ (w .reads) _ _ _ _ _ _ _ l _ (c .before .back-at .ensures .0) (c .before .before .if1 .left) in
       rise-on _ _ _ (w .reads) _ _ _ _ _ _ _ l _ e _ _ _ (c .before .before .before .trace .ensures (started _ _ _ (w .reads) _ _ _ _ _ _ _ l _ e .trace)) _ _ p
       (c .find-proxy .ensures (held _ _ _ (w .reads) _ _ _ _ p)),
   let w = c .before .before .before .before .before .before .before .before .pre .0 in
@@ -97,9 +93,8 @@ climb-path-spec =
     row-start-requires
     trace-requires
     returns
-    mul-two
-    add-two
-    two-requires
+    mul-back-at
+    back-at-requires
     find-proxy-requires
     sub-left
     loop-less

@@ -1,12 +1,14 @@
--- `ascend::nodes_in`: a node shows itself, a proxy as many nodes as the table has for its page.
+-- `read_climb::nodes_in`: a node shows itself, a proxy as many nodes as the table has for its page.
 use native.Mathlib.Omega.{arith}
 use borrow.Author.Needs.{needs}
-use Rattle.read_climb.specs.Search.{Proxied, first, plain, proxied}
+use Rattle.theory_layout.specs.Widths.{firstWidth}
+use Rattle.read_climb.specs.Search.{RecordTold, plain, record-told}
 use Rattle.read_climb.proofs.nodes_in.Statement.{statement}
 use Rattle.read_climb.proofs.nodes_in.Tie as tie
 
-proxy : (c : tie.After-two) → let s = c .before .before .before .before in Proxied (s .args .image .now) (c .two .result) (first (s .pre .0 .row))
-proxy c = proxied _ _ _ (c .before .before .before .before .pre .0) (c .two .ensures .0) (c .before .if1 .left)
+proxy : (c : tie.After-name-at)
+    → let s = c .before .before .before .before in RecordTold (s .args .image .now) (c .name-at .result) (firstWidth (s .pre .0 .row))
+proxy c = record-told _ _ _ (c .before .before .before .before .pre .0) (c .name-at .ensures .0) (c .before .if1 .left)
 
 shared-slice-read-if1 : tie.Need-shared-slice-read-if1
 shared-slice-read-if1 c = search needs
@@ -14,11 +16,8 @@ shared-slice-read-if1 c = search needs
 returns : tie.Need-returns
 returns c w = plain _ _ w (c .if1 .taken)
 
-add-two : tie.Need-add-two
-add-two c = search needs
-
-two-requires : tie.Need-two-requires
-two-requires c κs = search needs
+name-at-requires : tie.Need-name-at-requires
+name-at-requires c κs = search needs
 
 mul-result : tie.Need-mul-result
 mul-result c = search needs
@@ -32,7 +31,7 @@ cast-result c =
     omega (arith, p .few, p .told _ (c .before .before .before .before .before .pre .1))
 
 returns-2 : tie.Need-returns-2
-returns-2 c w = proxied _ _ _ w (c .before .two .ensures .0) (c .before .before .if1 .left) .told _ (c .before .before .before .before .before .pre .1)
+returns-2 c w = record-told _ _ _ w (c .before .name-at .ensures .0) (c .before .before .if1 .left) .told _ (c .before .before .before .before .before .pre .1)
 
 pub nodes-in-spec : {M : Type 1} → statement M
 nodes-in-spec =
@@ -40,8 +39,7 @@ nodes-in-spec =
     (tie.spec
     shared-slice-read-if1
     returns
-    add-two
-    two-requires
+    name-at-requires
     mul-result
     element-copy-out-result
     cast-result

@@ -1,4 +1,4 @@
--- `descend::find_in`: the entries from i on lead from the node at pos to where the whole path leads from the root.
+-- `read_find::find_in`: the entries from i on lead from the node at pos to where the whole path leads from the root.
 use mathlib.Core.Path.{_∙_}
 use mathlib.Core.Option.{Option}
 use Prim.Native.Nat.{_-_}
@@ -24,10 +24,12 @@ here : (c : tie.At-loop Inv-loop μ-loop) → let s = c .before .before .before 
 here c = c .loop .inv _ (starting _ _ _ (c .before .if2 .left))
 
 -- The node at pos is an aggregate: what the entry at i leads to.
-deeper : (c : tie.After-two Inv-loop μ-loop) → let l = c .before .before .before .before .before in let s = l .before .before .before .before .before in
+deeper : (c : tie.After-size-at Inv-loop μ-loop) → let l = c .before .before .before .before .before in let s = l .before .before .before .before .before in
     (t : Option Place) → Finds (s .args .image .now) (s .args .path .now) (l .loop .pos) (l .loop .i) t
-    → Down (s .args .image .now) (s .args .path .now) (l .loop .pos) (l .loop .i) (c .two .result) (c .before .four .result) t
-deeper c t w = down _ _ _ _ _ w (c .before .before .before .before .loop-test .taken) _ _ (c .before .before .if3 .left) (c .two .ensures .0) (c .before .four .ensures)
+    → Down (s .args .image .now) (s .args .path .now) (l .loop .pos) (l .loop .i) (c .size-at .result) (c .before .four .result) t
+deeper c t w =
+    down _ _ _ _ _ w (c .before .before .before .before .loop-test .taken) _ _ (c .before .before .if3 .left) (c .size-at .ensures .0)
+    (c .before .four .ensures)
 
 refused-requires : tie.Need-refused-requires Inv-loop μ-loop
 refused-requires c κs = search needs
@@ -59,14 +61,11 @@ returns-3 c =
 four-requires : tie.Need-four-requires Inv-loop μ-loop
 four-requires c κs = omega (arith, entry _ _ _ _ _ (here (c .before .before .before)) (c .before .before .loop-test .taken) .fits)
 
-add-two : tie.Need-add-two Inv-loop μ-loop
-add-two c = omega (arith, place-room _ _ _ _ _ (here (c .before .before .before .before)))
-
-two-requires : tie.Need-two-requires Inv-loop μ-loop
-two-requires c κs = omega (arith, place-room _ _ _ _ _ (here (c .before .before .before .before)))
+size-at-requires : tie.Need-size-at-requires Inv-loop μ-loop
+size-at-requires c κs = omega (arith, place-room _ _ _ _ _ (here (c .before .before .before .before)))
 
 add-end : tie.Need-add-end Inv-loop μ-loop
-add-end c = omega (arith, place-room _ _ _ _ _ (here (c .before .before .before .before .before)), c .two .ensures .1)
+add-end c = omega (arith, place-room _ _ _ _ _ (here (c .before .before .before .before .before)), c .size-at .ensures .1)
 
 add-nth : tie.Need-add-nth Inv-loop μ-loop
 add-nth c = omega (arith, place-room _ _ _ _ _ (here (c .before .before .before .before .before)))
@@ -127,8 +126,7 @@ find-in-spec =
     refused-requires-3
     returns-3
     four-requires
-    add-two
-    two-requires
+    size-at-requires
     add-end
     add-nth
     nth-requires

@@ -1,12 +1,13 @@
--- `descend::nth`: the loop goes along the row, past records that the table lets it pass, and into the one that holds the node; in what is left the node sought stays
+-- `read_find::nth`: the loop goes along the row, past records that the table lets it pass, and into the one that holds the node; in what is left the node sought stays
 -- the same. Into a record the depth falls.
-use mathlib.Core.Path.{_≡_, refl}
-use Prim.Native.Nat.{ℕ, _+_, _*_, _-_, _≤_, _<_}
+use mathlib.Core.Path.{refl}
+use Prim.Native.Nat.{_+_, _*_, _-_, _≤_, _<_}
 use native.Mathlib.Omega.{arith}
 use lib.ListN.{length}
 use Rattle.model.specs.Limits.{pageSize, mostBytes}
 use Rattle.read_find.specs.declared.NthNode.{NthNode}
-use Rattle.read_find.specs.Rowed.{Rowed, Passed, Entered, Sought, Proxied, width-steps, startOn, endOn, short, room, pass, proxied, enter, seeking, sought, seek-here, seek-node, seek-inside, seek-past}
+use Rattle.read_find.specs.Rowed.{Rowed, Passed, Entered, Sought, width-steps, short, room, pass, enter, seeking, sought, seek-here, seek-node}
+use Rattle.read_find.specs.Rowed.{seek-inside, seek-past}
 use Rattle.read_find.proofs.nth.Statement.{statement}
 use Rattle.read_find.proofs.nth.Tie as tie
 
@@ -24,18 +25,19 @@ in-room : (c : tie.At-loop Inv-loop μ-loop) → (c .loop .stop + 16 ≤ length 
 in-room c = room _ _ _ _ (here c)
 
 -- Past a node, and at a proxy.
-passed : (c : tie.After-two2 Inv-loop μ-loop) → let l = c .before .before .before .before .before in let s = l .before .before in
-    (w : Rowed (s .args .image .now) (l .loop .i) (l .loop .stop) (l .loop .deep)) → Passed (s .args .image .now) (l .loop .i) (l .loop .stop) (l .loop .deep) (c .two2 .result) (w .row)
-passed c w = pass _ _ _ _ _ (c .before .before .before .before .loop-test .taken) (c .two2 .ensures .0) (c .before .before .if1 .left) w
+passed : (c : tie.After-size-at Inv-loop μ-loop) → let l = c .before .before .before .before .before in let s = l .before .before in
+    (w : Rowed (s .args .image .now) (l .loop .i) (l .loop .stop) (l .loop .deep)) → Passed (s .args .image .now) (l .loop .i) (l .loop .stop) (l .loop .deep)
+    (c .size-at .result) (w .row)
+passed c w = pass _ _ _ _ _ (c .before .before .before .before .loop-test .taken) (c .size-at .ensures .0) (c .before .before .if1 .left) w
 
-proxy : (c : tie.After-two Inv-loop μ-loop) → let l = c .before .before .before .before in Proxied (l .before .before .args .image .now) (l .loop .i) (l .loop .deep) (c .two .result)
-proxy c = proxied _ _ _ _ (c .before .before .before .loop-test .taken) (c .before .if1 .taken) _ (c .two .ensures .0) (here (c .before .before .before .before))
+entered : (c : tie.After-name-at Inv-loop μ-loop) → let l = c .before .before .before .before in let s = l .before .before in
+    (w : Rowed (s .args .image .now) (l .loop .i) (l .loop .stop) (l .loop .deep)) → Entered (s .args .image .now) (l .loop .i) (l .loop .stop) (l .loop .deep)
+    (c .name-at .result) (w .row)
+entered c w = enter _ _ _ _ _ (c .before .before .before .loop-test .taken) (c .before .if1 .taken) (c .name-at .ensures .0) w
 
-entered : (c : tie.After-two Inv-loop μ-loop) → let l = c .before .before .before .before in let s = l .before .before in
-    (start stop : ℕ) → start ≡ startOn (s .args .image .now) (c .two .result) → stop ≡ endOn (s .args .image .now) (c .two .result)
-    → (w : Rowed (s .args .image .now) (l .loop .i) (l .loop .stop) (l .loop .deep))
-    → Entered (s .args .image .now) (l .loop .i) (l .loop .stop) (l .loop .deep) 8 (c .two .result) start stop (w .row)
-entered c start stop e f w = enter _ _ _ _ (c .before .before .before .loop-test .taken) (c .before .if1 .taken) 8 _ _ _ (proxy c .long) (c .two .ensures .0) e f w
+proxy : (c : tie.After-name-at Inv-loop μ-loop) → let l = c .before .before .before .before in
+    Entered (l .before .before .args .image .now) (l .loop .i) (l .loop .stop) (l .loop .deep) (c .name-at .result) (here l .row)
+proxy c = entered c (here (c .before .before .before .before))
 
 loop-holds : tie.Need-loop-holds Inv-loop μ-loop
 loop-holds c = λ t s. s
@@ -43,11 +45,8 @@ loop-holds c = λ t s. s
 shared-slice-read-if1 : tie.Need-shared-slice-read-if1 Inv-loop μ-loop
 shared-slice-read-if1 c = omega (arith, in-room (c .before .before), c .before .loop-test .taken)
 
-add-two : tie.Need-add-two Inv-loop μ-loop
-add-two c = omega (arith, in-room (c .before .before .before), c .before .before .loop-test .taken)
-
-two-requires : tie.Need-two-requires Inv-loop μ-loop
-two-requires c κs = omega (arith, in-room (c .before .before .before), c .before .before .loop-test .taken)
+name-at-requires : tie.Need-name-at-requires Inv-loop μ-loop
+name-at-requires c κs = omega (arith, in-room (c .before .before .before), c .before .before .loop-test .taken)
 
 mul-n : tie.Need-mul-n Inv-loop μ-loop
 mul-n c = omega (arith, proxy c .on .high)
@@ -58,7 +57,7 @@ element-copy-out-n c = proxy c .on .high
 cast-n : tie.Need-cast-n Inv-loop μ-loop
 cast-n c =
     let l = c .before .before .before .before .before in
-    let e = entered (c .before) _ _ refl refl (here l) in
+    let e = entered (c .before) (here l) in
     omega (arith, e .told _ (l .before .before .pre .1), width-steps (e .inside .row), e .inside .few)
 
 add-i : tie.Need-add-i Inv-loop μ-loop
@@ -72,7 +71,7 @@ loop-again c =
     let l = c .before .before .before .before .before .before in
     λ t s.
     let w = l .loop .inv t s in
-    seek-past _ _ _ _ _ _ _ _ _ _ w (entered (c .before .before) _ _ refl refl (w .rest)) _ (l .before .before .pre .1) (omega (arith, c .if2 .taken))
+    seek-past _ _ _ _ _ _ _ w (entered (c .before .before) (w .rest)) _ (l .before .before .pre .1) (omega (arith, c .if2 .taken))
 
 row-start-requires : tie.Need-row-start-requires Inv-loop μ-loop
 row-start-requires c κs = proxy (c .before .before) .on
@@ -86,8 +85,7 @@ sub-deep c = proxy (c .before .before .before .before) .below
 loop-less-2 : tie.Need-loop-less-2 Inv-loop μ-loop
 loop-less-2 c =
     let p = c .before .before .before .before in
-    let e = entered p _ _ (c .before .row-start .ensures) (c .row-end .ensures) (here (p .before .before .before .before)) in
-    omega (arith, short _ _ _ _ (e .inside), proxy p .below)
+    omega (arith, short _ _ _ _ (proxy p .inside), proxy p .below, c .before .row-start .ensures, c .row-end .ensures)
 
 loop-again-2 : tie.Need-loop-again-2 Inv-loop μ-loop
 loop-again-2 c =
@@ -95,7 +93,8 @@ loop-again-2 c =
     let l = p .before .before .before .before in
     λ t s.
     let w = l .loop .inv t s in
-    seek-inside _ _ _ _ _ _ _ _ _ _ w (entered p _ _ (c .before .row-start .ensures) (c .row-end .ensures) (w .rest)) _ (l .before .before .pre .1) (omega (arith, c .before .before .if2 .left))
+    seek-inside _ _ _ _ _ _ _ w (entered p (w .rest)) _ (l .before .before .pre .1) _ _ (c .before .row-start .ensures) (c .row-end .ensures)
+    (omega (arith, c .before .before .if2 .left))
 
 returns : tie.Need-returns Inv-loop μ-loop
 returns c =
@@ -107,14 +106,11 @@ returns c =
 sub-left : tie.Need-sub-left Inv-loop μ-loop
 sub-left c = omega arith
 
-add-two-2 : tie.Need-add-two-2 Inv-loop μ-loop
-add-two-2 c = omega (arith, in-room (c .before .before .before .before), c .before .before .before .loop-test .taken)
-
-two-requires-2 : tie.Need-two-requires-2 Inv-loop μ-loop
-two-requires-2 c κs = omega (arith, in-room (c .before .before .before .before), c .before .before .before .loop-test .taken)
+size-at-requires : tie.Need-size-at-requires Inv-loop μ-loop
+size-at-requires c κs = omega (arith, in-room (c .before .before .before .before), c .before .before .before .loop-test .taken)
 
 add-i-2 : tie.Need-add-i-2 Inv-loop μ-loop
-add-i-2 c = omega (arith, in-room (c .before .before .before .before .before), c .before .before .before .before .loop-test .taken, c .two2 .ensures .1)
+add-i-2 c = omega (arith, in-room (c .before .before .before .before .before), c .before .before .before .before .loop-test .taken, c .size-at .ensures .1)
 
 loop-less-3 : tie.Need-loop-less-3 Inv-loop μ-loop
 loop-less-3 c =
@@ -139,8 +135,7 @@ nth-spec =
     μ-loop
     loop-holds
     shared-slice-read-if1
-    add-two
-    two-requires
+    name-at-requires
     mul-n
     element-copy-out-n
     cast-n
@@ -154,8 +149,7 @@ nth-spec =
     loop-again-2
     returns
     sub-left
-    add-two-2
-    two-requires-2
+    size-at-requires
     add-i-2
     loop-less-3
     loop-again-3

@@ -1,11 +1,10 @@
--- `descend::width`: the loop goes along the row; what is left of it brings the count to the whole. A record counts as many nodes as the table has for it.
-use mathlib.Core.Path.{refl}
+-- `read_find::width`: the loop goes along the row; what is left of it brings the count to the whole. A record counts as many nodes as the table has for it.
 use Prim.Native.Nat.{ℕ, _+_, _-_, _≤_, _<_}
 use native.Mathlib.Omega.{arith}
 use lib.ListN.{length}
 use Rattle.model.specs.Tree as tree
 use Rattle.model.specs.Limits.{mostPages, mostBytes}
-use Rattle.read_find.specs.Rowed.{Rowed, Passed, Entered, Counted, Proxied, startOn, endOn, width-steps, room, pass, proxied, enter, counting, counted, count-node, count-proxy}
+use Rattle.read_find.specs.Rowed.{Rowed, Passed, Entered, Counted, width-steps, room, pass, enter, counting, counted, count-node, count-proxy}
 use Rattle.read_find.proofs.width.Statement.{statement}
 use Rattle.read_find.proofs.width.Tie as tie
 
@@ -30,39 +29,33 @@ within c =
 
 -- Past a node, and at a proxy.
 passed : (c : tie.Else1 Inv-loop μ-loop) → let l = c .before .before .before .before in let s = l .before .before in
-    (w : Rowed (s .args .image .now) (l .loop .i) (s .args .end) mostPages) → Passed (s .args .image .now) (l .loop .i) (s .args .end) mostPages (c .before .before .two .result) (w .row)
-passed c w = pass _ _ _ _ _ (c .before .before .before .loop-test .taken) (c .before .before .two .ensures .0) (c .if1 .left) w
+    (w : Rowed (s .args .image .now) (l .loop .i) (s .args .end) mostPages) → Passed (s .args .image .now) (l .loop .i) (s .args .end) mostPages
+    (c .before .before .size-at .result) (w .row)
+passed c w = pass _ _ _ _ _ (c .before .before .before .loop-test .taken) (c .before .before .size-at .ensures .0) (c .if1 .left) w
 
-proxy : (c : tie.After-two2 Inv-loop μ-loop) → let l = c .before .before .before .before .before in let s = l .before .before in
-    Proxied (s .args .image .now) (l .loop .i) mostPages (c .two2 .result)
-proxy c = proxied _ _ _ _ (c .before .before .before .before .loop-test .taken) (c .before .if1 .taken) _ (c .two2 .ensures .0) (here (c .before .before .before .before .before) .rest)
+entered : (c : tie.After-name-at Inv-loop μ-loop) → let l = c .before .before .before .before .before in let s = l .before .before in
+    (w : Rowed (s .args .image .now) (l .loop .i) (s .args .end) mostPages) → Entered (s .args .image .now) (l .loop .i) (s .args .end) mostPages
+    (c .name-at .result) (w .row)
+entered c w = enter _ _ _ _ _ (c .before .before .before .before .loop-test .taken) (c .before .if1 .taken) (c .name-at .ensures .0) w
 
-entered : (c : tie.After-two2 Inv-loop μ-loop) → let l = c .before .before .before .before .before in let s = l .before .before in
-    (w : Rowed (s .args .image .now) (l .loop .i) (s .args .end) mostPages)
-    → Entered (s .args .image .now) (l .loop .i) (s .args .end) mostPages (c .before .before .before .two .result) (c .two2 .result)
-    (startOn (s .args .image .now) (c .two2 .result)) (endOn (s .args .image .now) (c .two2 .result)) (w .row)
-entered c w = enter _ _ _ _ (c .before .before .before .before .loop-test .taken) (c .before .if1 .taken) _ _ _ _ (c .before .before .before .two .ensures .0) (c .two2 .ensures .0) refl refl w
+proxy : (c : tie.After-name-at Inv-loop μ-loop) → let l = c .before .before .before .before .before in let s = l .before .before in
+    Entered (s .args .image .now) (l .loop .i) (s .args .end) mostPages (c .name-at .result) (here l .rest .row)
+proxy c = entered c (here (c .before .before .before .before .before) .rest)
 
 loop-holds : tie.Need-loop-holds Inv-loop μ-loop
 loop-holds c = λ t s. s
 
-add-two : tie.Need-add-two Inv-loop μ-loop
-add-two c = omega (arith, in-room (c .before))
-
-two-requires : tie.Need-two-requires Inv-loop μ-loop
-two-requires c κs = omega (arith, in-room (c .before), c .loop-test .taken)
+size-at-requires : tie.Need-size-at-requires Inv-loop μ-loop
+size-at-requires c κs = omega (arith, in-room (c .before), c .loop-test .taken)
 
 add-next : tie.Need-add-next Inv-loop μ-loop
-add-next c = omega (arith, in-room (c .before .before), c .before .loop-test .taken, c .two .ensures .1)
+add-next c = omega (arith, in-room (c .before .before), c .before .loop-test .taken, c .size-at .ensures .1)
 
 shared-slice-read-if1 : tie.Need-shared-slice-read-if1 Inv-loop μ-loop
 shared-slice-read-if1 c = omega (arith, in-room (c .before .before .before), c .before .before .loop-test .taken)
 
-add-two-2 : tie.Need-add-two-2 Inv-loop μ-loop
-add-two-2 c = omega (arith, in-room (c .before .before .before .before), c .before .before .before .loop-test .taken)
-
-two-requires-2 : tie.Need-two-requires-2 Inv-loop μ-loop
-two-requires-2 c κs = omega (arith, in-room (c .before .before .before .before), c .before .before .before .loop-test .taken)
+name-at-requires : tie.Need-name-at-requires Inv-loop μ-loop
+name-at-requires c κs = omega (arith, in-room (c .before .before .before .before), c .before .before .before .loop-test .taken)
 
 mul-n : tie.Need-mul-n Inv-loop μ-loop
 mul-n c = omega (arith, proxy c .on .high)
@@ -73,13 +66,13 @@ element-copy-out-n c = proxy c .on .high
 cast-n : tie.Need-cast-n Inv-loop μ-loop
 cast-n c =
     let l = c .before .before .before .before .before .before in
-    let e = entered (c .before) (here l .rest) in
+    let e = proxy (c .before) in
     omega (arith, within l, e .wide, e .told _ (l .before .before .pre .1))
 
 add-n : tie.Need-add-n Inv-loop μ-loop
 add-n c =
     let l = c .before .before .before .before .before .before in
-    let e = entered (c .before) (here l .rest) in
+    let e = proxy (c .before) in
     omega (arith, within l, e .wide, e .told _ (l .before .before .pre .1))
 
 add-n-2 : tie.Need-add-n-2 Inv-loop μ-loop
@@ -87,15 +80,14 @@ add-n-2 c = omega (arith, within (c .before .before .before .before))
 
 loop-less : tie.Need-loop-less Inv-loop μ-loop
 loop-less c =
-    let l = c .before .before .before .before .before .before in
-    omega (arith, entered (c .before) (here l .rest) .more, c .before .before .before .before .before .loop-test .taken)
+    omega (arith, proxy (c .before) .long, c .before .before .before .before .size-at .ensures .0, c .before .before .before .before .before .loop-test .taken)
 
 loop-again : tie.Need-loop-again Inv-loop μ-loop
 loop-again c =
     let l = c .before .before .before .before .before .before in
     λ t s.
     let w = l .loop .inv t s in
-    count-proxy _ _ _ _ _ _ _ _ _ _ w (entered (c .before) (w .rest)) _ (l .before .before .pre .1)
+    count-proxy _ _ _ _ _ _ _ _ (c .before .before .before .before .size-at .ensures .0) w (entered (c .before) (w .rest)) _ (l .before .before .pre .1)
 
 loop-less-2 : tie.Need-loop-less-2 Inv-loop μ-loop
 loop-less-2 c =
@@ -119,12 +111,10 @@ width-spec =
     Inv-loop
     μ-loop
     loop-holds
-    add-two
-    two-requires
+    size-at-requires
     add-next
     shared-slice-read-if1
-    add-two-2
-    two-requires-2
+    name-at-requires
     mul-n
     element-copy-out-n
     cast-n

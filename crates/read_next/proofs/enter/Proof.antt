@@ -11,39 +11,37 @@ Inv-loop image item at₀ left₀ at left = (pos : ℕ) → Ahead image pos item
 abbrev μ-loop : tie.MeasureT-loop
 μ-loop image item at₀ left₀ at left = left
 
--- src/lib.rt:153:5
 loop-holds : tie.Need-loop-holds Inv-loop μ-loop
 loop-holds c = λ pos a. record { ahead = a; deep = omega arith }
 
--- src/lib.rt:153:11
 shared-slice-read-if1 : tie.Need-shared-slice-read-if1 Inv-loop μ-loop
 shared-slice-read-if1 c = let p = c .before .before .before .pre in let h = ahead-head (c .before .loop .inv (p .0) (p .1) .ahead) in omega (arith, h .inside)
 
--- src/lib.rt:154:42
-add-two : tie.Need-add-two Inv-loop μ-loop
-add-two c = let p = c .before .before .before .before .pre in let h = ahead-head (c .before .before .loop .inv (p .0) (p .1) .ahead) in omega (arith, h .small)
+name-at-requires : tie.Need-name-at-requires Inv-loop μ-loop
+name-at-requires c κs =
+    let p = c .before .before .before .before .pre in let h = ahead-head (c .before .before .loop .inv (p .0) (p .1) .ahead) in omega (arith, h .inside)
 
--- src/lib.rt:154:31
-two-requires : tie.Need-two-requires Inv-loop μ-loop
-two-requires c κs = let p = c .before .before .before .before .pre in let h = ahead-head (c .before .before .loop .inv (p .0) (p .1) .ahead) in omega (arith, h .inside)
-
--- src/lib.rt:154:9
 row-start-requires : tie.Need-row-start-requires Inv-loop μ-loop
-row-start-requires c κs = let p = c .before .before .before .before .before .pre in enter-page (c .before .before .before .loop .inv (p .0) (p .1)) (c .before .if1 .taken) _ (c .two .ensures .0)
+row-start-requires c κs =
+    let p = c .before .before .before .before .before .pre in
+    enter-page (c .before .before .before .loop .inv (p .0) (p .1)) (c .before .if1 .taken) _ (c .name-at .ensures .0)
 
--- src/lib.rt:155:16
 sub-left : tie.Need-sub-left Inv-loop μ-loop
-sub-left c = let p = c .before .before .before .before .before .before .pre in enter-some (c .before .before .before .before .loop .inv (p .0) (p .1)) (c .before .before .if1 .taken) _ (c .before .two .ensures .0)
+sub-left c =
+    let p = c .before .before .before .before .before .before .pre in
+    enter-some (c .before .before .before .before .loop .inv (p .0) (p .1)) (c .before .before .if1 .taken) _ (c .before .name-at .ensures .0)
 
--- src/lib.rt:153:5
 loop-less : tie.Need-loop-less Inv-loop μ-loop
-loop-less c = let p = c .before .before .before .before .before .before .pre in let s = enter-some (c .before .before .before .before .loop .inv (p .0) (p .1)) (c .before .before .if1 .taken) _ (c .before .two .ensures .0) in omega arith
+loop-less c =
+    let p = c .before .before .before .before .before .before .pre in
+    let s = enter-some (c .before .before .before .before .loop .inv (p .0) (p .1)) (c .before .before .if1 .taken) _ (c .before .name-at .ensures .0) in
+    omega arith
 
--- src/lib.rt:153:5
 loop-again : tie.Need-loop-again Inv-loop μ-loop
-loop-again c = λ pos a. enter-down (c .before .before .before .before .loop .inv pos a) (c .before .before .if1 .taken) _ (c .before .two .ensures .0) _ _ (c .row-start .ensures) refl
+loop-again c =
+    λ pos a. enter-down (c .before .before .before .before .loop .inv pos a) (c .before .before .if1 .taken) _ (c .before .name-at .ensures .0) _ _
+    (c .row-start .ensures) refl
 
--- src/lib.rt:147:1
 returns : tie.Need-returns Inv-loop μ-loop
 returns c = λ pos a. let b = c .before .before .loop .inv pos a .ahead in (ahead-node b (c .if1 .left), ahead-low b)
 
@@ -55,8 +53,7 @@ enter-spec =
     μ-loop
     loop-holds
     shared-slice-read-if1
-    add-two
-    two-requires
+    name-at-requires
     row-start-requires
     sub-left
     loop-less

@@ -13,31 +13,28 @@ Inv-loop image holder page pos₀ pos = (w : HeldBy image holder page) → Sough
 abbrev μ-loop : tie.MeasureT-loop
 μ-loop image holder page pos₀ pos = pageSize * holder + pageSize - pos
 
--- src/lib.rt:119:9
 row-start-requires : tie.Need-row-start-requires Inv-loop μ-loop
 row-start-requires c κs = known (c .before .pre .above) .on
 
--- src/lib.rt:120:5
 loop-holds : tie.Need-loop-holds Inv-loop μ-loop
 loop-holds c = λ w. sought-start w _ (c .row-start .ensures)
 
--- src/lib.rt:120:12
 names-requires : tie.Need-names-requires Inv-loop μ-loop
 names-requires c κs = let h = sought-head (c .loop .inv (c .before .before .before .pre)) in (omega (arith, h .inside), h .small)
 
--- src/lib.rt:121:9
 flat-requires : tie.Need-flat-requires Inv-loop μ-loop
 flat-requires c κs = let h = sought-head (c .before .before .loop .inv (c .before .before .before .before .before .pre)) in (omega (arith, h .inside), h .small)
 
--- src/lib.rt:120:5
 loop-less : tie.Need-loop-less Inv-loop μ-loop
-loop-less c = let h = sought-head (c .before .before .before .loop .inv (c .before .before .before .before .before .before .pre)) in omega (arith, c .flat .ensures, h .further, h .within)
+loop-less c =
+    let h = sought-head (c .before .before .before .loop .inv (c .before .before .before .before .before .before .pre)) in
+    omega (arith, c .flat .ensures, h .further, h .within)
 
--- src/lib.rt:120:5
 loop-again : tie.Need-loop-again Inv-loop μ-loop
-loop-again c = λ w. sought-next (c .before .before .before .loop .inv w) _ (c .flat .ensures) (sym (c .before .before .names .ensures) ∙ not-true (c .before .before .names .result) (c .before .if1 .taken))
+loop-again c =
+    λ w. sought-next (c .before .before .before .loop .inv w) _ (c .flat .ensures)
+    (sym (c .before .before .names .ensures) ∙ not-true (c .before .before .names .result) (c .before .if1 .taken))
 
--- src/lib.rt:115:1
 returns : tie.Need-returns Inv-loop μ-loop
 returns c = λ w. sought-hit (c .before .before .loop .inv w) (sym (c .before .names .ensures) ∙ not-false (c .before .names .result) (c .if1 .left))
 

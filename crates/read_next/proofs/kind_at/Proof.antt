@@ -3,15 +3,12 @@ use borrow.Author.Needs.{needs}
 use Rattle.read_next.proofs.kind_at.Statement.{statement}
 use Rattle.read_next.proofs.kind_at.Tie as tie
 
--- src/lib.rt:176:8
 shared-slice-read-if1 : tie.Need-shared-slice-read-if1
 shared-slice-read-if1 c = search needs
 
--- src/lib.rt:177:9
 returns : tie.Need-returns
 returns c = rw (c .if1 .taken)
 
--- src/lib.rt:172:1
 returns-2 : tie.Need-returns-2
 returns-2 c = rw (ne-eqb _ 1 (c .if1 .left))
 

@@ -5,29 +5,25 @@ use borrow.Author.Needs.{needs}
 use Rattle.read_next.proofs.next_of.Statement.{statement}
 use Rattle.read_next.proofs.next_of.Tie as tie
 
--- src/lib.rt:187:9
 node-at-requires : tie.Need-node-at-requires
 node-at-requires c κs = search needs
 
--- src/lib.rt:189:9
 returns : tie.Need-returns
 returns c = sym (answer-stray (c .before .before .before .args .image .now) _ _ (c .before .before .before .pre) (c .before .node-at .ensures) (c .if1 .taken))
 
--- src/lib.rt:191:9
 next-in-requires : tie.Need-next-in-requires
 next-in-requires c κs = c .before .node-at .ensures .found (omega arith) .node
 
--- src/lib.rt:193:9
 returns-2 : tie.Need-returns-2
 returns-2 c = sym (answer-end _ _ _ (c .before .before .before .node-at .ensures .found (omega arith)) (c .before .next-in .ensures .stop (c .if2 .taken)))
 
--- src/lib.rt:195:9
 kind-at-requires : tie.Need-kind-at-requires
 kind-at-requires c κs = follows-inside (c .before .next-in .ensures .more (omega arith))
 
--- src/lib.rt:183:1
 returns-3 : tie.Need-returns-3
-returns-3 c = answer-kind _ _ _ _ _ (c .before .before .before .before .node-at .ensures .found (omega arith)) (c .before .before .next-in .ensures .more (omega arith)) (c .kind-at .ensures)
+returns-3 c =
+    answer-kind _ _ _ _ _ (c .before .before .before .before .node-at .ensures .found (omega arith)) (c .before .before .next-in .ensures .more (omega arith))
+    (c .kind-at .ensures)
 
 pub next-of-spec : {M : Type 1} → statement M
 next-of-spec =

@@ -4,53 +4,46 @@ use borrow.Author.Needs.{needs}
 use Rattle.read_next.proofs.node_at.Statement.{statement}
 use Rattle.read_next.proofs.node_at.Tie as tie
 
--- src/lib.rt:86:9
 returns : tie.Need-returns
 returns c = no-page _ _ _ (c .if1 .taken)
 
--- src/lib.rt:89:9
 returns-2 : tie.Need-returns-2
 returns-2 c = past-pages (c .before .before .before .args .image .now) _ _ (c .if2 .taken)
 
--- src/lib.rt:91:13
 mul-a : tie.Need-mul-a
 mul-a c = search needs
 
--- src/lib.rt:92:14
 add-if3 : tie.Need-add-if3
 add-if3 c = search needs
 
--- src/lib.rt:92:8
 shared-slice-read-if3 : tie.Need-shared-slice-read-if3
 shared-slice-read-if3 c = search needs
 
--- src/lib.rt:93:9
 returns-3 : tie.Need-returns-3
 returns-3 c = no-record (c .before .before .before .before .before .args .image .now) (c .before .before .before .before .before .args .page) _ (c .if3 .taken)
 
--- src/lib.rt:95:19
-add-two : tie.Need-add-two
-add-two c = search needs
+used-at-requires : tie.Need-used-at-requires
+used-at-requires c κs = search needs
 
--- src/lib.rt:95:8
-two-requires : tie.Need-two-requires
-two-requires c κs = search needs
-
--- src/lib.rt:96:9
 returns-4 : tie.Need-returns-4
-returns-4 c = let s = c .before .before .before .before .before .before .before in past-end (s .args .image .now) (s .args .page) _ (omega (arith, c .before .two .ensures .0, c .if4 .taken))
+returns-4 c =
+    let s = c .before .before .before .before .before .before .before in
+    past-end (s .args .image .now) (s .args .page) _ (omega (arith, c .before .used-at .ensures .0, c .if4 .taken))
 
--- src/lib.rt:98:27
 add-standing : tie.Need-add-standing
 add-standing c = search needs
 
--- src/lib.rt:98:5
 standing-requires : tie.Need-standing-requires
-standing-requires c κs = let s = c .before .before .before .before .before .before .before in (its-page-in (s .args .image .now) (s .args .page) (s .args .offset) (s .pre) (omega arith) (c .before .before .before .before .if2 .left) (c .before .before .if3 .left), omega (arith, c .before .two .ensures .0, c .if4 .left))
+standing-requires c κs =
+    let s = c .before .before .before .before .before .before .before in
+    let w = its-page-in (s .args .image .now) (s .args .page) (s .args .offset) (s .pre) (omega arith) (c .before .before .before .before .if2 .left) in
+    (w (c .before .before .if3 .left), omega (arith, c .before .used-at .ensures .0, c .if4 .left))
 
--- src/lib.rt:81:1
 returns-5 : tie.Need-returns-5
-returns-5 c = let s = c .before .before .before .before .before .before .before .before in located (s .args .image .now) (s .args .page) (s .args .offset) _ (s .pre) (omega arith) (c .before .before .before .before .before .if2 .left) (c .before .before .before .if3 .left) (c .standing .ensures)
+returns-5 c =
+    let s = c .before .before .before .before .before .before .before .before in
+    located (s .args .image .now) (s .args .page) (s .args .offset) _ (s .pre) (omega arith) (c .before .before .before .before .before .if2 .left)
+    (c .before .before .before .if3 .left) (c .standing .ensures)
 
 pub node-at-spec : {M : Type 1} → statement M
 node-at-spec =
@@ -62,8 +55,7 @@ node-at-spec =
     add-if3
     shared-slice-read-if3
     returns-3
-    add-two
-    two-requires
+    used-at-requires
     returns-4
     add-standing
     standing-requires

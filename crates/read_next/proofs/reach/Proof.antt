@@ -10,27 +10,25 @@ Inv-loop image page target pos₀ pos = (w : OnRecord image page) → Scan image
 abbrev μ-loop : tie.MeasureT-loop
 μ-loop image page target pos₀ pos = target - pos
 
--- src/lib.rt:58:9
 row-start-requires : tie.Need-row-start-requires Inv-loop μ-loop
 row-start-requires c κs = known (c .before .pre .0) .on
 
--- src/lib.rt:59:5
 loop-holds : tie.Need-loop-holds Inv-loop μ-loop
 loop-holds c = λ w. scan-start w _ _ (c .row-start .ensures)
 
--- src/lib.rt:60:9
 flat-requires : tie.Need-flat-requires Inv-loop μ-loop
-flat-requires c κs = let w = c .before .before .before .before .pre .0 in let h = scan-head w _ _ (c .before .loop .inv w) (omega (arith, known w .end)) in (omega (arith, h .inside), h .small)
+flat-requires c κs =
+    let w = c .before .before .before .before .pre .0 in
+    let h = scan-head w _ _ (c .before .loop .inv w) (omega (arith, known w .end)) in (omega (arith, h .inside), h .small)
 
--- src/lib.rt:59:5
 loop-less : tie.Need-loop-less Inv-loop μ-loop
-loop-less c = let w = c .before .before .before .before .before .pre .0 in let h = scan-head w _ _ (c .before .before .loop .inv w) (omega (arith, known w .end)) in omega (arith, c .flat .ensures, h .further)
+loop-less c =
+    let w = c .before .before .before .before .before .pre .0 in
+    let h = scan-head w _ _ (c .before .before .loop .inv w) (omega (arith, known w .end)) in omega (arith, c .flat .ensures, h .further)
 
--- src/lib.rt:59:5
 loop-again : tie.Need-loop-again Inv-loop μ-loop
 loop-again c = λ w. scan-next w _ _ _ (c .flat .ensures) (c .before .before .loop .inv w) (c .before .loop-test .taken) (omega (arith, known w .end))
 
--- src/lib.rt:54:1
 returns : tie.Need-returns Inv-loop μ-loop
 returns c = record { past = c .loop-test .left; scan = c .before .loop .inv }
 

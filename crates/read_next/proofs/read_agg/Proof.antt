@@ -1,4 +1,4 @@
--- `follow::read_agg`: the children's row stands, and is counted by the table.
+-- `read_next::read_agg`: the children's row stands, and is counted by the table.
 use Rattle.read_next.specs.Read.{inner-to, inner-few, agg-is}
 use Prim.Native.Nat.{ℕ, _+_}
 use mathlib.Core.Path.{ap}
@@ -7,17 +7,11 @@ use borrow.Author.Needs.{needs}
 use Rattle.read_next.proofs.read_agg.Statement.{statement}
 use Rattle.read_next.proofs.read_agg.Tie as tie
 
-add-two : tie.Need-add-two
-add-two c = search needs
+label-at-requires : tie.Need-label-at-requires
+label-at-requires c κs = search needs
 
-two-requires : tie.Need-two-requires
-two-requires c κs = search needs
-
-add-two-2 : tie.Need-add-two-2
-add-two-2 c = search needs
-
-two-requires-2 : tie.Need-two-requires-2
-two-requires-2 c κs = search needs
+size-at-requires : tie.Need-size-at-requires
+size-at-requires c κs = search needs
 
 add-end : tie.Need-add-end
 add-end c = search needs
@@ -28,28 +22,35 @@ add-width c = search needs
 width-requires : tie.Need-width-requires
 width-requires c κs =
     let s = c .before .before .before in
-    (inner-to (s .args .image .now) (s .args .pos) _ (ap (λ (n : ℕ). s .args .pos + n) (c .two2 .ensures .0)) (s .pre .2), s .pre .3)
+    (inner-to (s .args .image .now) (s .args .pos) _ (ap (λ (n : ℕ). s .args .pos + n) (c .size-at .ensures .0)) (s .pre .2), s .pre .3)
+
+cast-t8 : tie.Need-cast-t8
+cast-t8 c = search needs
 
 cast-t9 : tie.Need-cast-t9
-cast-t9 c = search needs
-
-cast-t10 : tie.Need-cast-t10
-cast-t10 c = let s = c .before .before .before .before in let few = inner-few (s .args .image .now) (s .args .pos) (s .pre .2) in let same = c .width .ensures (inner-to (s .args .image .now) (s .args .pos) _ (ap (λ (n : ℕ). s .args .pos + n) (c .before .two2 .ensures .0)) (s .pre .2)) in omega arith
+cast-t9 c =
+    let s = c .before .before .before .before in
+    let few = inner-few (s .args .image .now) (s .args .pos) (s .pre .2) in
+    let same =
+    c .width .ensures (inner-to (s .args .image .now) (s .args .pos) _ (ap (λ (n : ℕ). s .args .pos + n) (c .before .size-at .ensures .0)) (s .pre .2)) in
+    omega arith
 
 returns : tie.Need-returns
-returns c = λ w. let s = c .before .before .before .before in agg-is (s .args .image .now) (s .args .pos) _ _ (w .row) (c .before .before .two .ensures .0) (c .width .ensures (inner-to (s .args .image .now) (s .args .pos) _ (ap (λ (n : ℕ). s .args .pos + n) (c .before .two2 .ensures .0)) w))
+returns c =
+    λ w.
+    let s = c .before .before .before .before in
+    agg-is (s .args .image .now) (s .args .pos) _ _ (w .row) (c .before .before .label-at .ensures .0)
+    (c .width .ensures (inner-to (s .args .image .now) (s .args .pos) _ (ap (λ (n : ℕ). s .args .pos + n) (c .before .size-at .ensures .0)) w))
 
 pub read-agg-spec : {M : Type 1} → statement M
 read-agg-spec =
     tie.close
     (tie.spec
-    add-two
-    two-requires
-    add-two-2
-    two-requires-2
+    label-at-requires
+    size-at-requires
     add-end
     add-width
     width-requires
+    cast-t8
     cast-t9
-    cast-t10
     returns)
