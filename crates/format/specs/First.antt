@@ -71,9 +71,6 @@ pub next : (page q front xs : List ℕ) (at m n : ℕ) → Written page front m 
 unfolding zeros
 next page q front xs at m n w e f g = after page q front xs at 0 m n w e (omega arith) (omega arith)
 
-pub long : (page front : List ℕ) (m : ℕ) → Written page front m → length page ≡ length front + m
-long page front m w = ap length (w .is) ∙ length-append front (zeros m) ∙ ap (λ (n : ℕ). length front + n) (length-zeros m)
-
 -- ── page 0 and page 1 ──
 
 -- Pages 1 and 0 with their zero bytes folded.
