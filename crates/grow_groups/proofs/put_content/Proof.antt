@@ -4,13 +4,13 @@ use Prim.Native.Nat.{ℕ}
 use native.Mathlib.Omega.{arith}
 use lib.ListN.{replicate, length-take, length-replicate}
 use lib.Seq.{length-take-le}
-use Rattle.grow_split.specs.Group.{part-fits, part-room, one-node, more-nodes, page-with}
+use Rattle.grow_groups.specs.Group.{part-fits, part-room, one-node, more-nodes, page-with}
 use borrow.Author.Needs.{needs}
-use Rattle.grow_split.proofs.put_content.Statement.{statement}
-use Rattle.grow_split.proofs.put_content.Tie as tie
+use Rattle.grow_groups.proofs.put_content.Statement.{statement}
+use Rattle.grow_groups.proofs.put_content.Tie as tie
 
-two-requires : tie.Need-two-requires
-two-requires c κs =
+size-at-requires : tie.Need-size-at-requires
+size-at-requires c κs =
     omega (arith, part-fits _ _ (c .before .before .pre .1 .1))
 
 put-record-requires : tie.Need-put-record-requires
@@ -35,22 +35,22 @@ slice-aggregate-copy-in c = search needs
 
 copy-in-requires : tie.Need-copy-in-requires
 copy-in-requires c κs =
-    omega (arith, part-room _ _ (c .before .before .before .before .before .before .before .before .pre .1 .1) _ (c .before .before .before .before .before .two .ensures .0) (c .before .before .before .before .if1 .left))
+    omega (arith, part-room _ _ (c .before .before .before .before .before .before .before .before .pre .1 .1) _ (c .before .before .before .before .before .size-at .ensures .0) (c .before .before .before .before .if1 .left))
 
 add-content : tie.Need-add-content
 add-content c = search needs
 
 array-share-prefix-content : tie.Need-array-share-prefix-content
 array-share-prefix-content c =
-    omega (arith, part-room _ _ (c .before .before .before .before .before .before .before .before .before .before .before .pre .1 .1) _ (c .before .before .before .before .before .before .before .before .two .ensures .0) (c .before .before .before .before .before .before .before .if1 .left))
+    omega (arith, part-room _ _ (c .before .before .before .before .before .before .before .before .before .before .before .pre .1 .1) _ (c .before .before .before .before .before .before .before .before .size-at .ensures .0) (c .before .before .before .before .before .before .before .if1 .left))
 
 slice-aggregate-put-record : tie.Need-slice-aggregate-put-record
 slice-aggregate-put-record c =
-    sym (length-take-le _ _ (omega (arith, c .before .before .before .copy-in .kept .1 .0, part-room _ _ (c .before .before .before .before .before .before .before .before .before .before .before .before .pre .1 .1) _ (c .before .before .before .before .before .before .before .before .before .two .ensures .0) (c .before .before .before .before .before .before .before .before .if1 .left))))
+    sym (length-take-le _ _ (omega (arith, c .before .before .before .copy-in .kept .1 .0, part-room _ _ (c .before .before .before .before .before .before .before .before .before .before .before .before .pre .1 .1) _ (c .before .before .before .before .before .before .before .before .before .size-at .ensures .0) (c .before .before .before .before .before .before .before .before .if1 .left))))
 
 put-record-requires-2 : tie.Need-put-record-requires-2
 put-record-requires-2 c κs =
-    let r = part-room _ _ (c .before .before .before .before .before .before .before .before .before .before .before .before .pre .1 .1) _ (c .before .before .before .before .before .before .before .before .before .two .ensures .0) (c .before .before .before .before .before .before .before .before .if1 .left) in
+    let r = part-room _ _ (c .before .before .before .before .before .before .before .before .before .before .before .before .pre .1 .1) _ (c .before .before .before .before .before .before .before .before .before .size-at .ensures .0) (c .before .before .before .before .before .before .before .before .if1 .left) in
     (omega arith, (omega arith, (simp length-take (omega arith), (omega arith, omega arith))))
 
 same-length : tie.Need-same-length
@@ -58,7 +58,7 @@ same-length c = search needs
 
 returns : tie.Need-returns
 returns c =
-    λ w. page-with _ _ _ _ _ (c .before .before .put-record .ensures) (one-node _ _ w _ (c .before .before .before .before .before .two .ensures .0) (c .before .before .before .before .if1 .taken))
+    λ w. page-with _ _ _ _ _ (c .before .before .put-record .ensures) (one-node _ _ w _ (c .before .before .before .before .before .size-at .ensures .0) (c .before .before .before .before .if1 .taken))
 
 same-length-2 : tie.Need-same-length-2
 same-length-2 c = search needs
@@ -66,13 +66,13 @@ same-length-2 c = search needs
 returns-2 : tie.Need-returns-2
 returns-2 c =
     λ w. page-with _ _ _ _ _ (c .before .before .put-record2 .ensures)
-    (more-nodes _ _ w _ (replicate 4076 0) _ _ (c .before .before .before .before .before .before .before .before .before .before .before .before .two .ensures .0) (c .before .before .before .before .before .before .before .before .before .before .before .if1 .left) (length-replicate {A = ℕ} 4076 0) (c .before .before .before .before .before .before .before .before .before .put16 .ensures) (c .before .before .before .before .before .before .copy-in .ensures))
+    (more-nodes _ _ w _ (replicate 4076 0) _ _ (c .before .before .before .before .before .before .before .before .before .before .before .before .size-at .ensures .0) (c .before .before .before .before .before .before .before .before .before .before .before .if1 .left) (length-replicate {A = ℕ} 4076 0) (c .before .before .before .before .before .before .before .before .before .put16 .ensures) (c .before .before .before .before .before .before .copy-in .ensures))
 
 pub put-content-spec : {M : Type 1} → statement M
 put-content-spec =
     tie.close
     (tie.spec
-    two-requires
+    size-at-requires
     put-record-requires
     array-write-content
     slice-aggregate-put16

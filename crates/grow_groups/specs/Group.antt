@@ -17,11 +17,30 @@ use Rattle.model.specs.Growth.{freeFrom, goOn, stops}
 use Rattle.theory_rows.specs.Laws.{length-bytes, isNil-nil, cond-case}
 use Rattle.theory_rows.specs.Fits.{Fits}
 use Rattle.base_numbers.specs.Over.{over, over-right, over-then}
-use Rattle.grow_pages.specs.Write.{usedBy, setPage, pageBytesOf, free-below}
+use Rattle.base_layout.specs.declared.Growing.{Growing}
+use Rattle.base_layout.specs.Setup.{setupOf}
+use Rattle.base_layout.specs.Growing.{pages-of}
+use Rattle.grow_pages.specs.Write.{usedBy, setPage, pageBytesOf}
 use Rattle.grow_pages.specs.Links.{Below, Linked}
 use Rattle.grow_pages.specs.Relinked.{written}
 use Rattle.grow_split_point.specs.Stands.{Node, node, sizeOf}
-use Rattle.grow_split.specs.Cutting.{Cutting, groupI, twoGroupsI, separateI}
+use Rattle.grow_groups.specs.declared.Output.{Output}
+use Rattle.grow_groups.specs.Used.{Past, free-within, set-past}
+
+-- What a split makes of a row and of the bytes that it works on: the row that comes of it, the marks, whether a page was taken where none was free, the image.
+pub record Cutting : Type 0 where
+  pub row : Row
+  pub used : List ℕ
+  pub full : Bool
+  pub img : List ℕ
+
+-- The model's group over the marks of used pages and the image. A dry run leaves the image as it is, and is else the same.
+unfoldable pub groupI : (st : Config) → (g : Growing) → (group : Row) → (used image : List ℕ) → Cutting
+groupI st g r u img =
+    let q = freeFrom st (st .pages) (usedBy u) (g .near) in
+    let stay : Cutting = record { row = r; used = u; full = false; img = img } in
+    let own : Cutting = record { row = rec q false r nil; used = set u q 1; full = eqb q 0; img = cond (g .dry) img (written q false 0 r img) } in
+    cond (isNil r || loneRec r) stay own
 
 -- ── a proxy ──
 
@@ -38,7 +57,7 @@ proxy-written at q o a b c d h pa pb pc pd =
 -- ── the record of a group ──
 
 -- The bytes are those of a row that becomes a record: neither no node nor one proxy, and the record fits its page.
-pub record Part (l : List ℕ) (n : ℕ) : Type 0 where
+pub record NewRecord (l : List ℕ) (n : ℕ) : Type 0 where
   pub row : Row
   pub is : l ≡ bytes row
   pub below : Below n row
@@ -69,7 +88,7 @@ lone-size (agg h cs rest) e = omega (arith, ap size (isNil-nil rest e))
 lone-size (lit h c rest) e = omega (arith, ap size (isNil-nil rest e))
 lone-size (rec p s r rest) e = absurd (false≢true e)
 
-module _ (l : List ℕ) (n : ℕ) (w : Part l n) where
+module _ (l : List ℕ) (n : ℕ) (w : NewRecord l n) where
   pub part-length : length l ≡ size (w .row)
   part-length = ap length (w .is) ∙ length-bytes (w .row)
 
@@ -116,95 +135,25 @@ module _ (l : List ℕ) (n : ℕ) (w : Part l n) where
 pub page-with : (q : ℕ) (x y img out : List ℕ) → out ≡ setPage q (pageBytesOf x 0 0) img → x ≡ y → out ≡ setPage q (pageBytesOf y 0 0) img
 page-with q x y img out e k = e ∙ ap (λ (z : List ℕ). setPage q (pageBytesOf z 0 0) img) k
 
--- ── free pages ──
-
--- Pages from n on are marked as used.
-abbrev pub Past : (n : ℕ) → List ℕ → Type 0
-Past n u = (q : ℕ) → n ≤ q → q < mostPages → usedBy u q ≡ true
-
--- The numbers, the marks and the image that a split goes by.
-pub record Env (n near : ℕ) (u img : List ℕ) : Type 0 where
-  pub few : n ≤ mostPages
-  pub image : pageSize * n ≤ length img
-  pub low : 1 ≤ near
-  pub start : near < n
-  pub past : Past n u
-
-free-or : (st : Config) (used : ℕ → Bool) (k q : ℕ) → (used (freeFrom st k used q) ≡ false) ⊎ (freeFrom st k used q ≡ 0)
-unfolding freeFrom
-free-or st used zero q = inr refl
-free-or st used (suc k) q =
-    let r = freeFrom st k used (cond (ltb (suc q) (st .pages)) (suc q) 2) in
-    cond-case (λ (i : ℕ). (used i ≡ false) ⊎ (i ≡ 0)) (used q) (λ _. free-or st used k (cond (ltb (suc q) (st .pages)) (suc q) 2)) (λ e. inl e)
-
--- A page is found inside the image, or it is 0.
-pub free-within : (st : Config) (n near : ℕ) (used : ℕ → Bool) → st .pages ≡ n → n ≤ mostPages → near < n → ((q : ℕ) → n ≤ q → q < mostPages → used q ≡ true) → (k : ℕ) → freeFrom st k used near < n
-free-within st n near used e few start past k =
-    let q = freeFrom st k used near in
-    let h : q < mostPages = free-below st (omega (arith, e)) used k near (omega arith) in
-    go q h (free-or st used k near) (ltb q n) refl
-  where
-    go : (q : ℕ) → q < mostPages → (used q ≡ false) ⊎ (q ≡ 0) → (b : Bool) → ltb q n ≡ b → q < n
-    go q h f true g = ltb-true q n g
-    go q h (inl f) false g = absurd (true≢false (sym (past q (ltb-false q n g) h) ∙ f))
-    go q h (inr f) false g = omega arith
-
-pub free-inside : (st : Config) (n near : ℕ) (u : List ℕ) → st .pages ≡ n → n ≤ mostPages → near < n → Past n u → (k : ℕ) → freeFrom st k (usedBy u) near < n
-free-inside st n near u e few start past k = free-within st n near (usedBy u) e few start past k
-
-pub set-past : (n q v : ℕ) (u : List ℕ) → q < n → Past n u → Past n (set u q v)
-unfolding usedBy
-set-past n q v u h past x k m = ap (λ (i : ℕ). not (eqb i 0)) (getD-set-other u q x v 0 (λ e. omega arith)) ∙ past x k m
-
-module _ (st : Config) (n near : ℕ) (dry : Bool) (e : st .pages ≡ n) (few : n ≤ mostPages) (start : near < n) where
-  pub group-past : (g : Row) (u img : List ℕ) → Past n u → Past n (groupI st near dry g u img .used)
-  unfolding groupI
-  group-past g u img h =
-      cond-case (λ (c : Cutting). Past n (c .used)) (isNil g || loneRec g) (λ _. h) (λ _. set-past n _ 1 u (free-inside st n near u e few start h (st .pages)) h)
-
-  two-past : (p : ℕ) (a b : Row) (u img : List ℕ) → Past n u → Past n (twoGroupsI st near dry p a b u img .used)
-  unfolding twoGroupsI
-  two-past p a b u img h = group-past b (groupI st near dry a u img .used) (groupI st near dry a u img .img) (group-past a u img h)
-
-  pub separate-past : (p at : ℕ) (left row : Row) (u img : List ℕ) → Past n u → Past n (separateI st near dry p at left row u img .used)
-  unfolding separateI
-  separate-past p at left nil u img h = group-past left u img h
-  separate-past p at left (agg hd cs rest) u img h =
-      let a = groupI st near dry left u img in
-      let b = separateI st near dry p (at + 6) nil cs (a .used) (a .img) in
-      cond-case (λ (c : Cutting). Past n (c .used)) (goOn st p at (6 + size cs) rest)
-      (λ _. separate-past p (at + (6 + size cs)) (left ⊹ agg hd cs nil) rest u img h)
-      (λ _. cond-case (λ (c : Cutting). Past n (c .used)) (stops st cs)
-      (λ _. two-past p left (agg hd cs rest) u img h)
-      (λ _. group-past rest (b .used) (b .img) (separate-past p (at + 6) nil cs (a .used) (a .img) (group-past left u img h))))
-  separate-past p at left (lit hd c rest) u img h =
-      cond-case (λ (c : Cutting). Past n (c .used)) (goOn st p at (6 + length c) rest)
-      (λ _. separate-past p (at + (6 + length c)) (left ⊹ lit hd c nil) rest u img h)
-      (λ _. two-past p left (lit hd c rest) u img h)
-  separate-past p at left (rec q s r rest) u img h =
-      cond-case (λ (c : Cutting). Past n (c .used)) (goOn st p at 8 rest)
-      (λ _. separate-past p (at + 8) (left ⊹ rec q s r nil) rest u img h)
-      (λ _. two-past p left (rec q s r rest) u img h)
-
 -- ── a group ──
 
 -- The bytes l are a group, whose record fits a page, and for whose row or proxy there is room in the separator.
-pub record Job (n near : ℕ) (dry : Bool) (l u img : List ℕ) (room : ℕ) : Type 0 where
+pub record Grouping (g : Growing) (l u img : List ℕ) (room : ℕ) : Type 0 where
   pub st : Config
-  pub pages : st .pages ≡ n
+  pub setup : setupOf st ≡ g .setup
   pub row : Row
   pub is : l ≡ bytes row
-  pub below : Below n row
-  pub fits : Fits (groupI st near dry row u img .row)
-  pub within : size (groupI st near dry row u img .row) ≤ room
+  pub below : Below (g .setup .pages) row
+  pub fits : Fits (groupI st g row u img .row)
+  pub within : size (groupI st g row u img .row) ≤ room
 
 -- What a step leaves.
-pub record Left (c : Cutting) (at r : ℕ) (full : Bool) (u img out before : List ℕ) : Type 0 where
+pub record Outcome (c : Cutting) (at : ℕ) (r : Output) (u img out before : List ℕ) : Type 0 where
   pub used : u ≡ c .used
   pub image : img ≡ c .img
-  pub filled : full ≡ c .full
+  pub filled : r .full ≡ c .full
   pub written : out ≡ over at (bytes (c .row)) before
-  pub next : r ≡ at + size (c .row)
+  pub next : r .end ≡ at + size (c .row)
 
 -- The image of a run that writes, and of a dry one.
 pub wet : (dry : Bool) (b img x : List ℕ) → not dry ≡ true → b ≡ x → b ≡ cond dry img x
@@ -215,39 +164,48 @@ pub still : (dry : Bool) (b img x : List ℕ) → not dry ≡ false → b ≡ im
 still true b img x e q = q
 still false b img x e q = absurd (true≢false e)
 
-module _ (n near : ℕ) (dry : Bool) (l u img out : List ℕ) (at room : ℕ) (w : Job n near dry l u img room) where
-  pub job-length : length l ≡ size (w .row)
-  job-length = ap length (w .is) ∙ length-bytes (w .row)
+pub group-past : (st : Config) (g : Growing) → setupOf st ≡ g .setup → g .setup .pages ≤ mostPages → g .near < g .setup .pages
+    → (r : Row) (u img : List ℕ) → Past (g .setup .pages) u → Past (g .setup .pages) (groupI st g r u img .used)
+unfolding groupI
+group-past st g e few start r u img h =
+    let n = g .setup .pages in
+    cond-case (λ (c : Cutting). Past n (c .used)) (isNil r || loneRec r) (λ _. h)
+    (λ _. set-past n _ 1 u (free-within st n (g .near) (usedBy u) (pages-of e) few start h (st .pages)) h)
+
+module _ {g : Growing} {l u img : List ℕ} {room : ℕ} (w : Grouping g l u img room) where
+  group-length : length l ≡ size (w .row)
+  group-length = ap length (w .is) ∙ length-bytes (w .row)
 
   pub kept-room : true ≡ (isNil (w .row) || loneRec (w .row)) → length l ≤ room
   unfolding groupI
   kept-room h =
       let z : size (w .row) ≤ room = rw (sym h) at (w .within) in
-      omega (arith, job-length)
+      omega (arith, group-length)
 
-  pub group-kept : true ≡ (isNil (w .row) || loneRec (w .row)) → (o : List ℕ) → o ≡ over at l out → Left (groupI (w .st) near dry (w .row) u img) at (at + length l) false u img o out
+  pub group-kept : true ≡ (isNil (w .row) || loneRec (w .row)) → (at : ℕ) (out o : List ℕ) → o ≡ over at l out
+      → Outcome (groupI (w .st) g (w .row) u img) at (record { end = at + length l; full = false }) u img o out
   unfolding groupI
-  group-kept h o q =
-      rw (sym h) (record { used = refl; image = refl; filled = refl; written = q ∙ ap (λ (v : List ℕ). over at v out) (w .is); next = omega (arith, job-length) })
+  group-kept h at out o q =
+      rw (sym h) (record { used = refl; image = refl; filled = refl; written = q ∙ ap (λ (v : List ℕ). over at v out) (w .is); next = omega (arith, group-length) })
 
   module _ (h : false ≡ (isNil (w .row) || loneRec (w .row))) where
-    pub job-small : recordSize (w .row) ≤ capacity
+    pub group-small : recordSize (w .row) ≤ capacity
     unfolding groupI
-    job-small = let f : Fits (rec (freeFrom (w .st) (w .st .pages) (usedBy u) near) false (w .row) nil) = rw (sym h) at (w .fits) in f .0 .fits
+    group-small =
+        let f : Fits (rec (freeFrom (w .st) (w .st .pages) (usedBy u) (g .near)) false (w .row) nil) = rw (sym h) at (w .fits) in
+        f .0 .fits
 
-    abbrev pub job-part : Part l n
-    job-part = record { row = w .row; is = w .is; below = w .below; moves = sym h; small = job-small }
+    abbrev pub group-record : NewRecord l (g .setup .pages)
+    group-record = record { row = w .row; is = w .is; below = w .below; moves = sym h; small = group-small }
 
-    pub fresh-room : 8 ≤ room
+    pub proxy-room : 8 ≤ room
     unfolding groupI
-    fresh-room = let z : 8 + 0 ≤ room = rw (sym h) at (w .within) in omega arith
+    proxy-room = let z : 8 + 0 ≤ room = rw (sym h) at (w .within) in omega arith
 
-    pub fresh-page : (q : ℕ) → q ≡ freeFrom (w .st) n (usedBy u) near → Env n near u img → q < n
-    fresh-page q e env = omega (arith, e, free-inside (w .st) n near u (w .pages) (env .few) (env .start) (env .past) n)
-
-    pub group-fresh : (q : ℕ) (b o : List ℕ) → q ≡ freeFrom (w .st) n (usedBy u) near → b ≡ cond dry img (written q false 0 (w .row) img) → o ≡ over at (proxyBytes q) out
-        → Left (groupI (w .st) near dry (w .row) u img) at (at + 8) (eqb q 0) (set u q 1) b o out
+    pub group-moved : (q at : ℕ) (b out o : List ℕ) → q ≡ freeFrom (w .st) (g .setup .pages) (usedBy u) (g .near)
+        → b ≡ cond (g .dry) img (written q false 0 (w .row) img) → o ≡ over at (proxyBytes q) out
+        → Outcome (groupI (w .st) g (w .row) u img) at (record { end = at + 8; full = eqb q 0 }) (set u q 1) b o out
     unfolding groupI
-    group-fresh q b o e pb po =
-        let k : q ≡ freeFrom (w .st) (w .st .pages) (usedBy u) near = e ∙ ap (λ (i : ℕ). freeFrom (w .st) i (usedBy u) near) (sym (w .pages)) in
+    group-moved q at b out o e pb po =
+        let k : q ≡ freeFrom (w .st) (w .st .pages) (usedBy u) (g .near) = e ∙ ap (λ (i : ℕ). freeFrom (w .st) i (usedBy u) (g .near)) (sym (pages-of (w .setup))) in
         rw (sym h, ← k) (record { used = refl; image = pb; filled = refl; written = po; next = omega arith })

@@ -2,10 +2,10 @@
 use mathlib.Core.Path.{ap, _∙_}
 use native.Mathlib.Omega.{arith}
 use Rattle.grow_pages.specs.Links.{links}
-use Rattle.grow_split.specs.Group.{part-linked}
+use Rattle.grow_groups.specs.Group.{part-linked}
 use borrow.Author.Needs.{needs}
-use Rattle.grow_split.proofs.put_nodes.Statement.{statement}
-use Rattle.grow_split.proofs.put_nodes.Tie as tie
+use Rattle.grow_groups.proofs.put_nodes.Statement.{statement}
+use Rattle.grow_groups.proofs.put_nodes.Tie as tie
 
 put-content-requires : tie.Need-put-content-requires
 put-content-requires c κs = search needs

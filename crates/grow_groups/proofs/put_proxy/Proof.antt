@@ -1,8 +1,8 @@
 -- `split::put_proxy`: four two-byte numbers in a row.
-use Rattle.grow_split.specs.Group.{proxy-written}
+use Rattle.grow_groups.specs.Group.{proxy-written}
 use borrow.Author.Needs.{needs}
-use Rattle.grow_split.proofs.put_proxy.Statement.{statement}
-use Rattle.grow_split.proofs.put_proxy.Tie as tie
+use Rattle.grow_groups.proofs.put_proxy.Statement.{statement}
+use Rattle.grow_groups.proofs.put_proxy.Tie as tie
 
 put16-requires : tie.Need-put16-requires
 put16-requires c κs = search needs
