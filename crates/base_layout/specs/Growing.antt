@@ -16,6 +16,10 @@ separatorSize = 512
 abbrev pub dried : Growing → Growing
 dried g = record { setup = g .setup; near = g .near; dry = true }
 
+-- The same, near another page.
+abbrev pub nearTo : Growing → ℕ → Growing
+nearTo g q = record { setup = g .setup; near = q; dry = g .dry }
+
 -- Of what page 0 and the settings say alike.
 module _ {a s : Setup} (e : a ≡ s) where
   pub pages-of : a .pages ≡ s .pages

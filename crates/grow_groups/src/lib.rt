@@ -87,9 +87,10 @@ pub fn put_group(
         };
     }
     let pages = g.setup.pages;
+    let dry = g.dry;
     let q = first_free(used, pages, g.near);
     used[q] = 1;
-    if !g.dry {
+    if !dry {
         put_nodes(image, pages, q, part);
     }
     put_proxy(out, at, q);

@@ -1,4 +1,4 @@
--- `split::put_group`: what stays is copied, else a new record and its proxy.
+-- `grow_groups::put_group`: what stays is copied, else a new record and its proxy.
 use mathlib.Core.Path.{sym, ap, _∙_}
 use mathlib.Core.Bool.{false}
 use mathlib.Core.Logic.{⊎-elim}
@@ -21,8 +21,8 @@ copy-in-requires c κs =
     let w = s .pre .1 .1 in
     omega (arith, kept-room w (sym (c .before .if1 .taken) ∙ c .before .before .stays .ensures (w .row) (w .is)), s .pre .1 .0)
 
-add-t14 : tie.Need-add-t14
-add-t14 c = search needs
+add-t15 : tie.Need-add-t15
+add-t15 c = search needs
 
 same-length : tie.Need-same-length
 same-length c = search needs
@@ -41,22 +41,22 @@ element-write-used c =
 
 put-nodes-requires : tie.Need-put-nodes-requires
 put-nodes-requires c κs =
-    let s = c .before .before .before .before .before .before .before .before .before .before in
+    let s = c .before .before .before .before .before .before .before .before .before in
     let v = s .pre .0 in
     let w = s .pre .1 .1 in
-    let h = sym (c .before .before .before .before .before .if1 .left) ∙ c .before .before .before .before .before .before .stays .ensures (w .row) (w .is) in
-    (v .few, (v .image, (found-inside v _ (c .before .before .before .first-free .ensures), group-record w h)))
+    let h = sym (c .before .before .before .before .if1 .left) ∙ c .before .before .before .before .before .stays .ensures (w .row) (w .is) in
+    (v .few, (v .image, (found-inside v _ (c .before .before .first-free .ensures), group-record w h)))
 
 put-proxy-requires : tie.Need-put-proxy-requires
 put-proxy-requires c κs =
-    let s = c .before .before .before .before .before .before .before .before .before .before in
+    let s = c .before .before .before .before .before .before .before .before .before in
     let v = s .pre .0 in
     let w = s .pre .1 .1 in
-    let h = sym (c .before .before .before .before .before .if1 .left) ∙ c .before .before .before .before .before .before .stays .ensures (w .row) (w .is) in
-    omega (arith, v .few, s .pre .1 .0, proxy-room w h, found-inside v _ (c .before .before .before .first-free .ensures))
+    let h = sym (c .before .before .before .before .if1 .left) ∙ c .before .before .before .before .before .stays .ensures (w .row) (w .is) in
+    omega (arith, v .few, s .pre .1 .0, proxy-room w h, found-inside v _ (c .before .before .first-free .ensures))
 
-add-t25 : tie.Need-add-t25
-add-t25 c = search needs
+add-t26 : tie.Need-add-t26
+add-t26 c = search needs
 
 same-length-2 : tie.Need-same-length-2
 same-length-2 c =
@@ -68,11 +68,11 @@ same-length-3 c = search needs
 returns-2 : tie.Need-returns-2
 returns-2 c =
     λ w.
-    let s = c .before .before .before .before .before .before .before .before .before .before .before .before .before in
+    let s = c .before .before .before .before .before .before .before .before .before .before .before .before in
     let d = s .args .g .dry in
     let i = s .args .image .now in
-    let h = sym (c .before .before .before .before .before .before .before .before .if1 .left) ∙ c .before .before .before .before .before .before .before .before .before .stays .ensures (w .row) (w .is) in
-    let f = c .before .before .before .before .before .before .first-free in
+    let h = sym (c .before .before .before .before .before .before .before .if1 .left) ∙ c .before .before .before .before .before .before .before .before .stays .ensures (w .row) (w .is) in
+    let f = c .before .before .before .before .before .first-free in
     group-moved w h _ _ _ _ _ (f .ensures (w .st) (pages-of (w .setup)))
     (⊎-elim (λ v. wet d _ i _ (v .0 .taken) (v .5 ∙ v .2 .ensures (group-record w h)))
     (λ v. still d _ _ (written (f .result) false 0 (w .row) i) (v .0 .left) (v .1)) (c .before .before .before .before .if2 .came))
@@ -84,14 +84,14 @@ put-group-spec =
     (tie.spec
     stays-requires
     copy-in-requires
-    add-t14
+    add-t15
     same-length
     returns
     first-free-requires
     element-write-used
     put-nodes-requires
     put-proxy-requires
-    add-t25
+    add-t26
     same-length-2
     same-length-3
     returns-2)

@@ -1,4 +1,4 @@
--- `split::put_nodes`: the record, then the links.
+-- `grow_groups::put_nodes`: the record, then the links.
 use mathlib.Core.Path.{ap, _∙_}
 use native.Mathlib.Omega.{arith}
 use Rattle.grow_pages.specs.Links.{links}

@@ -1,4 +1,4 @@
--- `split::put_proxy`: four two-byte numbers in a row.
+-- `grow_groups::put_proxy`: four two-byte numbers in a row.
 use Rattle.grow_groups.specs.Group.{proxy-written}
 use borrow.Author.Needs.{needs}
 use Rattle.grow_groups.proofs.put_proxy.Statement.{statement}
