@@ -23,7 +23,7 @@ use Rattle.grow_groups.specs.Group.{Cutting, groupI, Grouping, Outcome, group-p
 use Rattle.grow_split.specs.declared.Children.{Children}
 use Rattle.grow_split.specs.Cutting.{twoGroupsI, separateI, insideI, atChosenI, separateI-by, separate-past}
 
-below-parts : (n : ℕ) (a b : Row) → Below n (a ⊹ b) → Below n a × Below n b
+pub below-parts : (n : ℕ) (a b : Row) → Below n (a ⊹ b) → Below n a × Below n b
 below-parts n nil b h = (tt, h)
 below-parts n (agg l cs rest) b h = let k = below-parts n rest b (h .1) in ((h .0, k .0), k .1)
 below-parts n (lit l c rest) b h = below-parts n rest b h

@@ -50,6 +50,10 @@ pub record Off (g : Growing) (settled : ℕ) (l u : List ℕ) : Type 0 where
   pub good : Fits (separator st (g .near) row (leaves st stays (g .near) row work) .0)
   pub most : size (separator st (g .near) row (leaves st stays (g .near) row work) .0) ≤ separatorSize
 
+-- What the split leaves of a record, which stays on its page or not.
+abbrev pub SplitOff : (st : Config) → (g : Growing) → (row : Row) → (work : Work) → (stays : Bool) → (r : Output) → (u img img₁ out₀ out₁ : List ℕ) → Type 0
+SplitOff st g row work stays r u img img₁ out₀ out₁ = Severed st g row (leaves st stays (g .near) row work) r u (leftImage g stays img) img₁ out₀ out₁
+
 -- ── the page that is left ──
 
 pub left-settled : (settled : ℕ) (g : Growing) (u img : List ℕ) → (settled ≡ 0 → ⊥) → (stays : Bool) → settled ≡ cond stays 1 0
@@ -131,7 +135,7 @@ module _ {g : Growing} {settled : ℕ} {l u img : List ℕ} (w : Off g settled l
       }
 
       pub off-done : {r : Output} {u″ i″ o₀ o₁ : List ℕ} → Severed (w .st) g (w .row) W r u″ i′ i″ o₀ o₁
-          → Severed (w .st) g (w .row) W r u″ (leftImage g (w .stays) img) i″ o₀ o₁ × Past (g .setup .pages) u″
+          → SplitOff (w .st) g (w .row) (w .work) (w .stays) r u″ img i″ o₀ o₁ × Past (g .setup .pages) u″
       off-done {r} {u″} {i″} {o₀} {o₁} s = (
         subst (λ (x : List ℕ). Severed (w .st) g (w .row) W r u″ x i″ o₀ o₁) ie s,
         marked-past (s .marked)

@@ -21,10 +21,9 @@ ghost use Rattle.model.specs.Growth.{splitPoint, startOfD};
 ghost use Rattle.base_layout.specs.Growing.{separatorSize};
 ghost use Rattle.grow_pages.specs.Relinked.{written};
 ghost use Rattle.grow_groups.specs.Used.{Past, Env};
-ghost use Rattle.grow_split.specs.Severed.{Severed};
 ghost use Rattle.grow_write_back.specs.Leaning.{Leaning};
 ghost use Rattle.grow_write_back.specs.Content.{Content};
-ghost use Rattle.grow_write_back.specs.Off.{leaves, leftImage, Off};
+ghost use Rattle.grow_write_back.specs.Off.{leftImage, Off, SplitOff};
 
 // The lean of a split: the start of d minus p.
 pub fn first_lean(buf: &[u8], setup: Setup) -> i32
@@ -94,9 +93,8 @@ pub fn split_off(
 ) -> Output
     requires { ⌜ Env g (now used) (now image) × ((length (now out) ≡ separatorSize) × Off g settled (now buf) (now used)) ⌝ }
     ensures { λ r. ⌜ ((w : Off g settled (now (buf .entry)) (now (used .entry)))
-        → Severed (w .st) g (w .row) (leaves (w .st) (w .stays) (g .near) (w .row) (w .work)) r
-        (now (used .exit)) (leftImage g (w .stays) (now (image .entry))) (now (image .exit)) (now (out .entry)) (now (out .exit))
-        × Past (g .setup .pages) (now (used .exit))) ⌝ }
+        → SplitOff (w .st) g (w .row) (w .work) (w .stays) r
+        (now (used .exit)) (now (image .entry)) (now (image .exit)) (now (out .entry)) (now (out .exit)) × Past (g .setup .pages) (now (used .exit))) ⌝ }
 {
     leave(image, used, g, settled);
     let p = split_point(g.setup.target, buf.len());
