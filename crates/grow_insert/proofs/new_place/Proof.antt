@@ -1,6 +1,5 @@
 -- `grow_insert::new_place`: the three cases, the last by what the split's page leaves.
 use mathlib.Core.Path.{refl, sym, ap, _∙_}
-use mathlib.Core.Bool.{true}
 use Prim.Native.Nat.{ℕ}
 use native.Mathlib.Omega.{arith}
 use borrow.Author.Needs.{needs}
