@@ -82,3 +82,19 @@ pub fn setup_on(image: &[u8]) -> Setup
         matrix: 16,
     }
 }
+
+// ── growth ──
+
+// What an insert's functions hand on: page 0, the page from which a free one is counted, and whether the run is dry, that is leaves the image.
+pub struct Growing {
+    pub setup: Setup,
+    pub near: usize,
+    pub dry: bool,
+}
+
+impl Growing {
+    // Room for a record that is to be split, and for a separator.
+    pub const BUFFER: usize = 4608;
+
+    pub const SEPARATOR: usize = 512;
+}

@@ -26,10 +26,13 @@ use Rattle.theory_page_memory.specs.Around.{Low, chain-low}
 use Rattle.theory_page_memory.specs.Steps.{bit-le}
 use Rattle.theory_page_memory.specs.Kept.{Ready}
 use Rattle.grow_pages.specs.Links.{Below}
-use Rattle.grow_split.specs.Group.{Past, Env}
-use Rattle.grow_split.specs.Same.{Marked}
+use Rattle.base_layout.specs.declared.Growing.{Growing}
+use Rattle.base_layout.specs.Setup.{setupOf}
+use Rattle.base_layout.specs.Growing.{pages-of, target-of}
+use Rattle.grow_groups.specs.Used.{InUse, Past, Env}
 use Rattle.grow_write_back.specs.Leaning.{Leaning}
 use Rattle.grow_write_back.specs.Off.{Off, leaves}
+use Rattle.grow_cascade.specs.declared.Grown.{Grown}
 
 -- A run that writes: no page is missing in the end, what stands around the last record stands on its pages, and its own page is as it was.
 pub record Wet (st : Config) (c : Chain) (old row : Row) (work : Work) (m : Mem) : Type 0 where
@@ -39,20 +42,21 @@ pub record Wet (st : Config) (c : Chain) (old row : Row) (work : Work) (m : Mem)
   pub own : m (lastPage c) ≡ recordPage (lastHeld c old)
 
 -- The store read as `root` from the image `was`; its record at the end of the chain c held `old` and is to hold `row`, with `work` done so far.
--- The rest are the code's: pages, page and length of the record, what it has counted, the buffer l, the marks u, and the image.
-pub record Rising (st : Config) (was : List ℕ) (root : Row) (c : Chain) (old row : Row) (work : Work) (dry : Bool) (n page len : ℕ) (filled : Bool) (count : ℕ) (leans : ℤ) (l u img : List ℕ) : Type 0 where
-  pub pages : st .pages ≡ n
+-- The rest are the code's: the record's length, what was counted, the buffer l, the marks u, and the image.
+pub record Rising (st : Config) (was : List ℕ) (root : Row) (c : Chain) (old row : Row) (work : Work)
+    (g : Growing) (len : ℕ) (filled : Bool) (count : ℕ) (leans : ℤ) (l u img : List ℕ) : Type 0 where
+  pub setup : setupOf st ≡ g .setup
   pub reads : Reads was st root
   pub held : whole c old ≡ root
-  pub at : page ≡ lastPage c
+  pub at : g .near ≡ lastPage c
   pub is : take len l ≡ recordBytes row
   pub long : len ≡ recordSize row
   pub most : recordSize row ≤ (capacity + mostNode)
   pub some : isNil row ≡ false
   pub keeps : lone old ≡ true → lone row ≡ true
-  pub below : Below n row
-  pub marked : Marked u work
-  pub past : Past n u
+  pub below : Below (g .setup .pages) row
+  pub marked : InUse u work
+  pub past : Past (g .setup .pages) u
   pub full : filled ≡ work .full
   pub splits : count ≡ work .splits
   pub lean : leans ≡ work .lean
@@ -61,20 +65,21 @@ pub record Rising (st : Config) (was : List ℕ) (root : Row) (c : Chain) (old r
   pub fits : Fits (rise st c (row, work) .0)
   pub levels : height (rise st c (row, work) .0) ≤ 24
   pub same : length img ≡ length was
-  pub still : dry ≡ true → img ≡ was
-  pub wet : dry ≡ false → Wet st c old row work (pageOf img)
+  pub still : g .dry ≡ true → img ≡ was
+  pub wet : g .dry ≡ false → Wet st c old row work (pageOf img)
 
 -- What growth gives in the end: what was counted, and the image.
-pub record Risen (goal : Out) (mem : Mem) (dry filled : Bool) (count : ℕ) (leans : ℤ) (img new : List ℕ) : Type 0 where
-  pub full : filled ≡ goal .1 .full
-  pub splits : count ≡ goal .1 .splits
-  pub lean : leans ≡ goal .1 .lean
+pub record Risen (goal : Out) (mem : Mem) (dry : Bool) (r : Grown) (img new : List ℕ) : Type 0 where
+  pub full : r .full ≡ goal .1 .full
+  pub splits : r .splits ≡ goal .1 .splits
+  pub lean : r .lean ≡ goal .1 .lean
   pub same : length new ≡ length img
   pub still : dry ≡ true → new ≡ img
   pub pages : dry ≡ false → pageOf new ≡ mem
 
-module _ {st : Config} {was : List ℕ} {root : Row} {c : Chain} {old row : Row} {work : Work} {dry : Bool} {n page len : ℕ} {filled : Bool} {count : ℕ} {leans : ℤ} {l u img : List ℕ}
-    (w : Rising st was root c old row work dry n page len filled count leans l u img) where
+module _ {st : Config} {was : List ℕ} {root : Row} {c : Chain} {old row : Row} {work : Work}
+    {g : Growing} {len : ℕ} {filled : Bool} {count : ℕ} {leans : ℤ} {l u img : List ℕ}
+    (w : Rising st was root c old row work g len filled count leans l u img) where
   -- ── the record and its page ──
 
   pub valid : Valid st root
@@ -83,13 +88,13 @@ module _ {st : Config} {was : List ℕ} {root : Row} {c : Chain} {old row : Row}
   pub stands : OnPage was (lastPage c) (lastHolder c) old
   stands = chain-page was st root (w .reads) c old (w .held)
 
-  pub long-image : length img ≡ pageSize * n
-  long-image = w .same ∙ reads-length was st root (w .reads) ∙ ap (λ (i : ℕ). pageSize * i) (w .pages)
+  pub long-image : length img ≡ pageSize * g .setup .pages
+  long-image = w .same ∙ reads-length was st root (w .reads) ∙ ap (λ (i : ℕ). pageSize * i) (pages-of (w .setup))
 
-  pub inside : (1 ≤ page) × ((page < n) × ((n ≤ mostPages) × (pageSize * page + pageSize ≤ length img)))
+  pub inside : (1 ≤ g .near) × ((g .near < g .setup .pages) × ((g .setup .pages ≤ mostPages) × (pageSize * g .near + pageSize ≤ length img)))
   inside =
       let p = stands .here .on in
-      omega (arith, p .low, p .inside, w .at, w .same, long-image, w .pages, valid .ranges .many)
+      omega (arith, p .low, p .inside, w .at, w .same, long-image, pages-of (w .setup), valid .ranges .many)
 
   pub held-fits : Fits (store (whole c old))
   held-fits = subst (λ (r : Row). Fits (store r)) (sym (w .held)) (valid .rows)
@@ -98,9 +103,9 @@ module _ {st : Config} {was : List ℕ} {root : Row} {c : Chain} {old row : Row}
   low = chain-low c old held-fits
 
   own-page : pageOf img (lastPage c) ≡ recordPage (lastHeld c old)
-  own-page = go dry refl
+  own-page = go (g .dry) refl
     where
-      go : (b : Bool) → dry ≡ b → pageOf img (lastPage c) ≡ recordPage (lastHeld c old)
+      go : (b : Bool) → g .dry ≡ b → pageOf img (lastPage c) ≡ recordPage (lastHeld c old)
       go true e = ap (λ (i : List ℕ). pageOf i (lastPage c)) (w .still e) ∙ chain-bytes was st root (w .reads) c old (w .held)
       go false e = w .wet e .own
 
@@ -115,15 +120,15 @@ module _ {st : Config} {was : List ℕ} {root : Row} {c : Chain} {old row : Row}
   on-page : PageIn img (lastPage c)
   on-page = let p = stands .here .on in record { low = p .low; high = p .high; inside = omega (arith, p .inside, w .same) }
 
-  pub settled-is : settledAt img (pageSize * page) ≡ cond (lastSettled c) 1 0
+  pub settled-is : settledAt img (pageSize * g .near) ≡ cond (lastSettled c) 1 0
   settled-is =
       ap (λ (i : ℕ). settledAt img (pageSize * i)) (w .at) ∙ page-byte img (lastHeld c old) on-page own-page (stands .fits) holder-high 4081 (omega arith)
       ∙ in-trailer (lastHeld c old) (stands .fits) 1
 
-  pub settled-most : settledAt img (pageSize * page) ≤ 1
+  pub settled-most : settledAt img (pageSize * g .near) ≤ 1
   settled-most = omega (arith, settled-is, bit-le (lastSettled c))
 
-  pub holder-is : backAt img (pageSize * page) ≡ lastHolder c
+  pub holder-is : backAt img (pageSize * g .near) ≡ lastHolder c
   unfolding twoAt
   holder-is =
       ap (λ (i : ℕ). backAt img (pageSize * i)) (w .at) ∙ page-number img (lastHeld c old) on-page own-page (stands .fits) holder-high 4084 (omega arith)
@@ -136,19 +141,23 @@ module _ {st : Config} {was : List ℕ} {root : Row} {c : Chain} {old row : Row}
 
   pub deep : depth (rootRow st (lone row) row) ≤ 23
   deep =
-      root-depth st c old row (ap lone (w .held) ∙ settled-lone root (valid .rows .0 .shape)) (w .keeps) row-fits (omega (arith, height-rise st c (row, work), w .levels))
+      root-depth st c old row (ap lone (w .held) ∙ settled-lone root (valid .rows .0 .shape)) (w .keeps) row-fits
+      (omega (arith, height-rise st c (row, work), w .levels))
 
-  -- The marks and the image for a split.
-  abbrev pub env : Env n page u img
-  env = record { few = inside .1 .1 .0; image = omega (arith, long-image); low = inside .0; start = inside .1 .0; past = w .past }
+  -- The marks and the image for a split, in a dry run or not.
+  module _ (d : Bool) where
+    abbrev pub at-page : Growing
+    at-page = record { setup = g .setup; near = g .near; dry = d }
 
-  module _ {target tolerance : ℕ} (targ : st .target ≡ target) (tol : st .tolerance ≡ tolerance) (big : capacity < recordSize row) where
-    abbrev pub leaning : Leaning (take len l) target tolerance
+    abbrev pub env : Env at-page u img
+    env = record { few = inside .1 .1 .0; image = omega (arith, long-image); low = inside .0; start = inside .1 .0; past = w .past }
+
+  module _ (big : capacity < recordSize row) where
+    abbrev pub leaning : Leaning (take len l) (g .setup)
     leaning = record {
       st = st;
+      setup = w .setup;
       ranges = valid .ranges;
-      targ = targ;
-      tol = tol;
       row = row;
       is = w .is;
       fits = row-fits;
@@ -157,19 +166,17 @@ module _ {st : Config} {was : List ℕ} {root : Row} {c : Chain} {old row : Row}
       deep = deep;
     }
 
-    pub good : (v : Work) → SplitGood (separator st page row v .0) (splitPoint st (recordSize row)) (startOfD st row)
-    good v = split-good st (valid .ranges) page row v row-fits big (w .most) deep
+    pub good : (v : Work) → SplitGood (separator st (g .near) row v .0) (splitPoint st (recordSize row)) (startOfD st row)
+    good v = split-good st (valid .ranges) (g .near) row v row-fits big (w .most) deep
 
     -- What the split of the record requires.
-    abbrev pub off : (settled : ℕ) → settled ≡ cond (lastSettled c) 1 0 → Off n page target tolerance settled (take len l) u
-    off settled e =
-        let g = good (leaves st (lastSettled c) page row work) in
+    abbrev pub off : (d : Bool) → (settled : ℕ) → settled ≡ cond (lastSettled c) 1 0 → Off (at-page d) settled (take len l) u
+    off d settled e =
+        let y = good (leaves st (lastSettled c) (g .near) row work) in
         record {
           st = st;
-          pages = w .pages;
-          targ = targ;
-          range = omega (arith, targ, valid .ranges .high);
-          tol = tol;
+          setup = w .setup;
+          range = omega (arith, target-of (w .setup), valid .ranges .high);
           stays = lastSettled c;
           bit = e;
           row = row;
@@ -180,6 +187,6 @@ module _ {st : Config} {was : List ℕ} {root : Row} {c : Chain} {old row : Row}
           below = w .below;
           work = work;
           marked = w .marked;
-          good = g .fits;
-          most = omega (arith, g .small);
+          good = y .fits;
+          most = omega (arith, y .small);
         }

@@ -1,14 +1,14 @@
 -- The record is not settled and too large: it leaves its page, and its separator takes its proxy's place in the record above, which goes on.
 use mathlib.Core.Path.{_≡_, refl, sym, ap, subst, _∙_}
-use mathlib.Core.Bool.{Bool, true, false, cond, _||_, true≢false, false≢true}
+use mathlib.Core.Bool.{Bool, true, false, cond, _||_, true≢false}
 use mathlib.Core.List.{List}
 use Prim.Native.Nat.{ℕ, suc, _+_, _*_, _<_, _≤_}
 use native.Mathlib.Omega.{arith}
 use native.Mathlib.Numerals.{add-one}
 use borrow.Author.Tests.{lt-leb, eqb-true}
 use lib.Dec.{eqb, leb}
-use lib.ListN.{length, take, length-replicate}
-use lib.IntN.{ℤ, subℕ}
+use lib.ListN.{length, take}
+use lib.IntN.{ℤ}
 use Rattle.model.specs.Limits.{pageSize, capacity}
 use Rattle.model.specs.Row.{Row, nil, agg, lit, rec, _⊹_, size, isNil, lone, bytes, recordSize, recordBytes, recordPage, count, height, Config, recordOn}
 use Rattle.model.specs.Reading.{pageOf}
@@ -27,10 +27,13 @@ use Rattle.theory_insert_point.specs.Full.{full-rise}
 use Rattle.theory_page_memory.specs.Memory.{Mem, blank, setMem, separatorMem, riseMem}
 use Rattle.theory_page_memory.specs.Around.{rise-goes}
 use Rattle.theory_page_memory.specs.Kept.{Ready, goes-up}
-use Rattle.grow_pages.specs.Paged.{length-setPage}
 use Rattle.grow_pages.specs.Links.{Below, below-⊹}
 use Rattle.grow_pages.specs.Relinked.{mem-cleared}
-use Rattle.grow_split.specs.Group.{Past}
+use Rattle.base_layout.specs.declared.Growing.{Growing}
+use Rattle.base_layout.specs.Growing.{separatorSize, nearTo, pages-of}
+use Rattle.grow_groups.specs.declared.Output.{Output}
+use Rattle.grow_groups.specs.Used.{Past}
+use Rattle.grow_split.specs.Separate.{below-parts}
 use Rattle.grow_split.specs.Severed.{Severed}
 use Rattle.grow_split_point.specs.Level.{root-some}
 use Rattle.grow_splice.specs.Spot.{size-around}
@@ -39,7 +42,7 @@ use Rattle.grow_replace_proxy.specs.Above.{above-stands, above-once, above-fits
 use Rattle.grow_replace_proxy.specs.Keeps.{shape-keeps, some-node, separator-least}
 use Rattle.grow_replace_proxy.specs.Lift.{Lift}
 use Rattle.grow_write_back.specs.Names.{Beyond, marked-beyond, separator-named}
-use Rattle.grow_write_back.specs.Off.{leaves, leftImage}
+use Rattle.grow_write_back.specs.Off.{leftImage, length-left, SplitOff}
 use Rattle.grow_cascade.specs.Rising.{Rising, inside as page-inside, long-image, row-fits, good}
 use Rattle.grow_cascade.specs.Settled.{leanNow, lean-in}
 
@@ -77,12 +80,6 @@ below-count n (agg h cs rest) f = (below-count n cs (λ q k. f q (omega arith)),
 below-count n (lit h c rest) f = below-count n rest f
 below-count n (rec p s r rest) f = (f p (names-own p s r rest), below-count n rest (λ q k. f q (omega arith)))
 
-below-parts : (n : ℕ) (a b : Row) → Below n (a ⊹ b) → Below n a × Below n b
-below-parts n nil b k = (tt, k)
-below-parts n (agg h cs rest) b k = let z = below-parts n rest b (k .1) in ((k .0, z .0), z .1)
-below-parts n (lit h c rest) b k = below-parts n rest b k
-below-parts n (rec p s r rest) b k = let z = below-parts n rest b (k .1) in ((k .0, z .0), z .1)
-
 pub below-spot : (n : ℕ) (s : Spot) (x : Row) → Below n (fill s x) → Below n x
 below-spot n (here left) x k = below-parts n left x k .1
 below-spot n (inside left h rest s) x k = below-spot n s x (below-parts n left (agg h (fill s x) rest) k .1 .0)
@@ -95,24 +92,20 @@ below-fill n (inside left h rest s) x y k b =
 
 -- ── the page that is left ──
 
-left-long : (dry : Bool) (q : ℕ) (img : List ℕ) → pageSize * q + pageSize ≤ length img → length (leftImage dry false q img) ≡ length img
-left-long true q img h = refl
-left-long false q img h = length-setPage q blank img (length-replicate {A = ℕ} pageSize 0) h
+left-still : (g : Growing) (img : List ℕ) → g .dry ≡ true → leftImage g false img ≡ img
+left-still g img e = rw e
 
-left-still : (dry : Bool) (q : ℕ) (img : List ℕ) → dry ≡ true → leftImage dry false q img ≡ img
-left-still true q img e = refl
-left-still false q img e = absurd (false≢true e)
-
-left-mem : (dry : Bool) (q : ℕ) (img : List ℕ) → pageSize * q + pageSize ≤ length img → dry ≡ false → pageOf (leftImage dry false q img) ≡ setMem q blank (pageOf img)
-left-mem true q img h e = absurd (true≢false e)
-left-mem false q img h e = mem-cleared q img h
+left-mem : (g : Growing) (img : List ℕ) → pageSize * g .near + pageSize ≤ length img → g .dry ≡ false
+    → pageOf (leftImage g false img) ≡ setMem (g .near) blank (pageOf img)
+left-mem g img h e = rw e (mem-cleared (g .near) img h)
 
 -- ── one step up ──
 
-module _ {st : Config} {was : List ℕ} {root : Row} {c : Chain} {s : Spot} {q : ℕ} {rest old row : Row} {work : Work} {dry : Bool} {n page len : ℕ} {filled : Bool} {counts : ℕ} {leans : ℤ} {l u img : List ℕ}
-    (w : Rising st was root (below c s q false rest) old row work dry n page len filled counts leans l u img) (big : capacity < recordSize row)
-    {target tolerance end : ℕ} {f : Bool} {u′ img₁ out₀ out₁ : List ℕ} (targ : st .target ≡ target) (tol : st .tolerance ≡ tolerance)
-    (sev : Severed st page row (leaves st false page row work) dry end f u′ (leftImage dry false page img) img₁ out₀ out₁) where
+module _ {st : Config} {was : List ℕ} {root : Row} {c : Chain} {s : Spot} {q : ℕ} {rest old row : Row} {work : Work}
+    {g : Growing} {len : ℕ} {filled : Bool} {counts : ℕ} {leans : ℤ} {l u img : List ℕ}
+    (w : Rising st was root (below c s q false rest) old row work g len filled counts leans l u img) (big : capacity < recordSize row)
+    {r : Output} {u′ img₁ out₀ out₁ : List ℕ}
+    (sev : SplitOff st g row work false r u′ img img₁ out₀ out₁) where
   abbrev v : Work
   v = freed st q (counted st row work)
 
@@ -126,11 +119,15 @@ module _ {st : Config} {was : List ℕ} {root : Row} {c : Chain} {s : Spot} {q :
   abbrev pub next : Row
   next = fill s (S .0 ⊹ rest)
 
-  cut : Severed st q row v dry end f u′ (leftImage dry false q img) img₁ out₀ out₁
-  cut = subst (λ (p : ℕ). Severed st p row (leaves st false p row work) dry end f u′ (leftImage dry false p img) img₁ out₀ out₁) (w .at) sev
+  -- The same, counted from page q.
+  abbrev gq : Growing
+  gq = nearTo g q
+
+  cut : Severed st gq row v r u′ (leftImage gq false img) img₁ out₀ out₁
+  cut = subst (λ (p : ℕ). SplitOff st (nearTo g p) row work false r u′ img img₁ out₀ out₁) (w .at) sev
 
   split : SplitGood (S .0) (splitPoint st (recordSize row)) (startOfD st row)
-  split = subst (λ (p : ℕ). SplitGood (separator st p row v .0) (splitPoint st (recordSize row)) (startOfD st row)) (w .at) (good w targ tol big v)
+  split = subst (λ (p : ℕ). SplitGood (separator st p row v .0) (splitPoint st (recordSize row)) (startOfD st row)) (w .at) (good w big v)
 
   room : pageSize * q + pageSize ≤ length img
   room = omega (arith, page-inside w, w .at)
@@ -145,50 +142,51 @@ module _ {st : Config} {was : List ℕ} {root : Row} {c : Chain} {s : Spot} {q :
   unfolding riseMem
   mem-goes m = rw too-large
 
-  mem-is : dry ≡ false → pageOf img₁ ≡ separatorMem st q row v (setMem q blank (pageOf img))
-  mem-is z = cut .pages z ∙ ap (separatorMem st q row v) (left-mem dry q img room z)
+  mem-is : g .dry ≡ false → pageOf img₁ ≡ separatorMem st q row v (setMem q blank (pageOf img))
+  mem-is z = cut .pages z ∙ ap (separatorMem st q row v) (left-mem gq img room z)
 
-  pub next-mem : dry ≡ false → riseMem st c next (S .1) (pageOf img₁) ≡ riseMem st (below c s q false rest) row work (pageOf img)
+  pub next-mem : g .dry ≡ false → riseMem st c next (S .1) (pageOf img₁) ≡ riseMem st (below c s q false rest) row work (pageOf img)
   next-mem z = ap (riseMem st c next (S .1)) (mem-is z) ∙ sym (mem-goes (pageOf img))
 
   -- ── the image ──
 
   pub next-same : length img₁ ≡ length was
-  next-same = cut .long ∙ left-long dry q img room ∙ w .same
+  next-same = cut .long ∙ length-left gq false img room ∙ w .same
 
-  pub next-still : dry ≡ true → img₁ ≡ was
-  next-still z = cut .same z ∙ left-still dry q img z ∙ w .still z
+  pub next-still : g .dry ≡ true → img₁ ≡ was
+  next-still z = cut .same z ∙ left-still gq img z ∙ w .still z
 
-  full-goal : dry ≡ false → rise st c (next, S .1) .1 .full ≡ false
+  full-goal : g .dry ≡ false → rise st c (next, S .1) .1 .full ≡ false
   full-goal z = ap (λ (o : Out). o .1 .full) next-goal ∙ w .wet z .room
 
-  went : (z : dry ≡ false) → Ready st (w .wet z .first) c above next (S .1) (pageOf img₁) × (pageOf img₁ (lastPage c) ≡ recordPage (lastHeld c above))
+  went : (z : g .dry ≡ false) → Ready st (w .wet z .first) c above next (S .1) (pageOf img₁) × (pageOf img₁ (lastPage c) ≡ recordPage (lastHeld c above))
   went z =
       let k = w .wet z in
       subst (λ (m : Mem). Ready st (k .first) c above next (S .1) m × (m (lastPage c) ≡ recordPage (lastHeld c above))) (sym (mem-is z))
       (goes-up st (k .first) c s q false rest old row work (pageOf img) (λ _. k .ready) (split .fits) (full-rise st c (next, S .1) (full-goal z)))
 
   pub above-page : pageOf img₁ (lastPage c) ≡ pageOf was (lastPage c)
-  above-page = go dry refl
+  above-page = go (g .dry) refl
     where
-      go : (b : Bool) → dry ≡ b → pageOf img₁ (lastPage c) ≡ pageOf was (lastPage c)
+      go : (b : Bool) → g .dry ≡ b → pageOf img₁ (lastPage c) ≡ pageOf was (lastPage c)
       go true z = ap (λ (i : List ℕ). pageOf i (lastPage c)) (next-still z)
       go false z = went z .1 ∙ sym (chain-bytes was st root (w .reads) c above (w .held))
 
   -- ── the separator ──
 
-  pub sep-is : take end out₁ ≡ bytes (S .0)
+  pub sep-is : take (r .end) out₁ ≡ bytes (S .0)
   sep-is = (λ i. take (cut .end i) (cut .out i)) ∙ take-over (size (S .0)) (bytes (S .0)) out₀ (length-bytes (S .0))
 
   pub sep-least : 8 ≤ size (S .0)
   sep-least = separator-least st q row v (not-nil (rootRow st (lone row) row) (root-some st row (row-fits w) big))
 
-  pub sep-most : size (S .0) ≤ 512
+  pub sep-most : size (S .0) ≤ separatorSize
   sep-most = omega (arith, split .small)
 
   keeps-root : KeepsRoot s (rec q false old rest) (S .0 ⊹ rest)
   keeps-root =
-      shape-keeps s q false old rest (S .0) (chain-fits c above (above-fits was st root (w .reads) c s q false rest old (w .held)) .0 .shape) (some-node (S .0) (omega (arith, sep-least)))
+      shape-keeps s q false old rest (S .0) (chain-fits c above (above-fits was st root (w .reads) c s q false rest old (w .held)) .0 .shape)
+      (some-node (S .0) (omega (arith, sep-least)))
 
   -- The record above, by the code's numbers.
   module _ {holder : ℕ} (at : holder ≡ lastPage c) where
@@ -197,28 +195,29 @@ module _ {st : Config} {was : List ℕ} {root : Row} {c : Chain} {s : Spot} {q :
         let o = above-stands was st root (w .reads) c s q false rest old (w .held) .here .on in
         record { low = omega (arith, o .low, at); high = omega (arith, o .high, at); inside = omega (arith, o .inside, at, next-same) }
 
-    pub lift-is : pageOf img₁ holder ≡ recordPage (recordOn holder (lastSettled c) (lastHolder c) (fill s (rec page false old rest)))
+    pub lift-is : pageOf img₁ holder ≡ recordPage (recordOn holder (lastSettled c) (lastHolder c) (fill s (rec (g .near) false old rest)))
     lift-is =
         let e : pageOf img₁ (lastPage c) ≡ recordPage (lastHeld c above) = above-page ∙ chain-bytes was st root (w .reads) c above (w .held) in
         ap (pageOf img₁) at ∙ e ∙ (λ i. recordPage ((recordOn (sym at i) (lastSettled c) (lastHolder c) (fill s (rec (sym (w .at) i) false old rest)))))
 
-    pub lift-small : recordSize (fill s (rec page false old rest)) ≤ capacity
+    pub lift-small : recordSize (fill s (rec (g .near) false old rest)) ≤ capacity
     lift-small =
-        subst (λ (p : ℕ). recordSize (fill s (rec p false old rest)) ≤ capacity) (sym (w .at)) (above-stands was st root (w .reads) c s q false rest old (w .held) .fits)
+        subst (λ (p : ℕ). recordSize (fill s (rec p false old rest)) ≤ capacity) (sym (w .at))
+        (above-stands was st root (w .reads) c s q false rest old (w .held) .fits)
 
-    pub lift-once : count page (fill s (rec page false old rest)) ≡ 1
+    pub lift-once : count (g .near) (fill s (rec (g .near) false old rest)) ≡ 1
     lift-once = subst (λ (p : ℕ). count p (fill s (rec p false old rest)) ≡ 1) (sym (w .at)) (above-once was st root (w .reads) c s q false rest old (w .held))
 
-    pub lift-names : (m : ℕ) → 1 ≤ count m (fill s (rec page false old rest)) → m < 65536
+    pub lift-names : (m : ℕ) → 1 ≤ count m (fill s (rec (g .near) false old rest)) → m < 65536
     lift-names =
         subst (λ (p : ℕ). (m : ℕ) → 1 ≤ count m (fill s (rec p false old rest)) → m < 65536) (sym (w .at))
         (λ m h. omega (arith, above-stands was st root (w .reads) c s q false rest old (w .held) .here .names m h .high))
 
-    pub lift-root : KeepsRoot s (rec page false old rest) (S .0 ⊹ rest)
+    pub lift-root : KeepsRoot s (rec (g .near) false old rest) (S .0 ⊹ rest)
     lift-root = subst (λ (p : ℕ). KeepsRoot s (rec p false old rest) (S .0 ⊹ rest)) (sym (w .at)) keeps-root
 
     -- What the code that puts the separator in it requires.
-    abbrev pub up-lift : Lift img₁ holder page (take end out₁)
+    abbrev pub up-lift : Lift img₁ holder (g .near) (take (r .end) out₁)
     up-lift = record {
       spot = s;
       settled = false;
@@ -238,25 +237,28 @@ module _ {st : Config} {was : List ℕ} {root : Row} {c : Chain} {s : Spot} {q :
       root = lift-root;
     }
 
-    next-below : Below n next
+    next-below : Below (g .setup .pages) next
     next-below =
+        let n = g .setup .pages in
         let i = page-inside w in
         let a = above-stands was st root (w .reads) c s q false rest old (w .held) in
         let k : Below n above = below-count n above (λ p h. omega (arith, a .here .names p h .inside, w .same, long-image w)) in
-        below-fill n s (rec q false old rest) (S .0 ⊹ rest) k
-        (below-⊹ n (S .0) rest (separator-named st n q (w .pages) (i .1 .1 .0) (omega (arith, i, w .at)) row v (w .below) free-beyond .row) (below-spot n s (rec q false old rest) k .1))
+        let y = separator-named st n q (pages-of (w .setup)) (i .1 .1 .0) (omega (arith, i, w .at)) row v (w .below) free-beyond .row in
+        below-fill n s (rec q false old rest) (S .0 ⊹ rest) k (below-⊹ n (S .0) rest y (below-spot n s (rec q false old rest) k .1))
       where
-        free-beyond : Beyond n v
+        free-beyond : Beyond (g .setup .pages) v
         free-beyond p k h =
-            cond-case (λ (b : Bool). b ≡ true) (eqb p q) (λ e. absurd (omega (arith, eqb-true p q e, page-inside w, w .at))) (λ _. marked-beyond (w .marked) (w .past) p k h)
+            cond-case (λ (b : Bool). b ≡ true) (eqb p q) (λ e. absurd (omega (arith, eqb-true p q e, page-inside w, w .at)))
+            (λ _. marked-beyond (w .marked) (w .past) p k h)
 
     -- The record above goes on.
-    pub up-rising : {leans′ : ℤ} {len′ : ℕ} {l′ : List ℕ} → leans′ ≡ leanNow st row counts leans → Past n u′ → len′ ≡ recordSize next → l′ ≡ over 0 (recordBytes next) l
-        → Rising st was root c above next (S .1) dry n holder len′ (filled || f) (counts + 1) leans′ l′ u′ img₁
+    pub up-rising : {leans′ : ℤ} {len′ : ℕ} {l′ : List ℕ} → leans′ ≡ leanNow st row counts leans → Past (g .setup .pages) u′
+        → len′ ≡ recordSize next → l′ ≡ over 0 (recordBytes next) l
+        → Rising st was root c above next (S .1) (nearTo g holder) len′ (filled || r .full) (counts + 1) leans′ l′ u′ img₁
     up-rising {leans′} {len′} {l′} le past e k =
         let sizes = size-fill s (rec q false old rest) (S .0 ⊹ rest) keeps-root in
         record {
-          pages = w .pages;
+          setup = w .setup;
           reads = w .reads;
           held = w .held;
           at = at;
@@ -268,9 +270,9 @@ module _ {st : Config} {was : List ℕ} {root : Row} {c : Chain} {s : Spot} {q :
           below = next-below;
           marked = cut .marked;
           past = past;
-          full = ap (λ (b : Bool). b || f) (w .full) ∙ cut .full;
+          full = ap (λ (b : Bool). b || r .full) (w .full) ∙ cut .full;
           splits = add-one counts ∙ ap suc (w .splits) ∙ sym (cut .splits);
-          lean = le ∙ (λ i. cond (eqb (w .splits i) 0) (subℕ (startOfD st row) (splitPoint st (recordSize row))) (w .lean i)) ∙ sym (cut .lean);
+          lean = le ∙ (λ i. leanNow st row (w .splits i) (w .lean i)) ∙ sym (cut .lean);
           range = rw le (lean-in st row counts leans (w .range) (split .lean));
           short = omega (arith, w .short);
           fits = subst (λ (o : Out). Fits (o .0)) (sym next-goal) (w .fits);

@@ -10,7 +10,7 @@ use lib.ListN.{length, take, getD}
 use lib.IntN.{pos}
 use Rattle.model.specs.Limits.{pageSize, capacity}
 use Rattle.model.specs.Row.{Row, nil, agg, lit, rec, _⊹_, base, bytes, recordSize, recordBytes, Config}
-use Rattle.model.specs.Reading.{twoAt, settledAt}
+use Rattle.model.specs.Reading.{twoAt, nameAt, settledAt}
 use Rattle.model.specs.Tree.{New}
 use Rattle.model.specs.Growth.{Out, apart, asRow, taken}
 use Rattle.model.specs.declared.Place.{Place}
@@ -18,28 +18,34 @@ use Rattle.theory_rows.specs.Laws.{cond-case}
 use Rattle.theory_rows.specs.Image.{length-record}
 use Rattle.theory_decoding.specs.Decode.{two-bytes}
 use Rattle.theory_insert_point.specs.Chain.{fill, before, Chain, lastPage, lastSettled}
-use Rattle.grow_split.specs.Group.{Env}
+use Rattle.base_layout.specs.declared.Setup.{Setup}
+use Rattle.base_layout.specs.declared.Growing.{Growing}
+use Rattle.base_layout.specs.Setup.{setupOf}
+use Rattle.base_layout.specs.Growing.{dried}
+use Rattle.grow_groups.specs.Used.{InUse, Env}
 use Rattle.grow_write_back.specs.Off.{Off, leaves}
 use Rattle.theory_moves.specs.Moved.{movedRecord}
 use Rattle.theory_moves.specs.New.{newPlace}
-use Rattle.grow_new_node.specs.Placed.{ownPage, Placed}
-use Rattle.grow_split.specs.Same.{Marked}
+use Rattle.grow_new_node.specs.Placed.{ownPage, NodePlaced}
 use Rattle.base_numbers.specs.Over.{over}
+use Rattle.grow_locate.specs.declared.Receiver.{Receiver}
 use Rattle.grow_locate.specs.Aim.{receiverOf}
+use Rattle.grow_new_node.specs.declared.Fresh.{Fresh}
 use Rattle.grow_cascade.specs.Rising.{Rising, settled-is, off, env}
 use Rattle.grow_cascade.specs.Up.{lone-fill}
 use Rattle.grow_insert.specs.Begin as begin
 
 -- `new` are the bytes that stand for the node in its record, `content` the record's bytes with them at byte `off`.
-pub record Seat (img used : List ℕ) (n target tolerance page off : ℕ) (new content : List ℕ) : Type 0 where
+pub record Seat (img used : List ℕ) (g : Growing) (off : ℕ) (new content : List ℕ) : Type 0 where
   pub place : Place
   pub some : 1 ≤ length new
-  pub ready : Env n page used img
+  pub ready : Env (dried g) used img
   pub low : off < 65536
-  pub own : getD new 0 0 ≡ 3 → (8 ≤ length new) × (place ≡ record { page = twoAt new 6; offset = 0 })
-  pub kept : (getD new 0 0 ≡ 3 → ⊥) → length content ≤ capacity → place ≡ record { page = page; offset = off }
+  pub own : getD new 0 0 ≡ 3 → (8 ≤ length new) × (place ≡ record { page = nameAt new 0; offset = 0 })
+  pub kept : (getD new 0 0 ≡ 3 → ⊥) → length content ≤ capacity → place ≡ record { page = g .near; offset = off }
   pub split : (getD new 0 0 ≡ 3 → ⊥) → capacity < length content
-      → (o : Off n page target tolerance (settledAt img (pageSize * page)) content used) × (place ≡ movedRecord (o .st) page (o .row) (leaves (o .st) (o .stays) page (o .row) (o .work)) off)
+      → (o : Off (dried g) (settledAt img (pageSize * g .near)) content used)
+      × (place ≡ movedRecord (o .st) (g .near) (o .row) (leaves (o .st) (o .stays) (g .near) (o .row) (o .work)) off)
 
 -- ── the bytes say whether the node is apart ──
 
@@ -74,19 +80,25 @@ module _ (st : Config) (x : New) (q : ℕ) where
 -- ── the new node of an insert ──
 
 module _ {dry : Bool} {img : List ℕ} {above k left label : ℕ} {node : List ℕ} (w : begin.Begin dry img above k left label node)
-    {p n : ℕ} (at-page : p ≡ lastPage (begin.c w)) (pages : begin.st w .pages ≡ n) {u₀ : List ℕ} (marked : Marked u₀ (begin.W w))
-    {o₀ u img₁ out : List ℕ} {size₁ : ℕ} {full : Bool} (put : Placed (begin.st w) (w .x) (begin.h w) p (begin.W w) dry img o₀ size₁ full u img₁ out)
-    {off₁ par : ℕ} (off-is : off₁ ≡ receiverOf (w .aim .t) .at) (par-is : par ≡ receiverOf (w .aim .t) .par)
-    {len : ℕ} {l : List ℕ} (buf : List ℕ) (len-is : len ≡ recordSize (fill (begin.s w) (begin.P w ⊹ begin.rest w))) (l-is : l ≡ over 0 (recordBytes (fill (begin.s w) (begin.P w ⊹ begin.rest w))) buf)
-    {target tolerance : ℕ} (a : begin.st w .target ≡ target) (b : begin.st w .tolerance ≡ tolerance) where
+    {t : Receiver} (t-is : t ≡ receiverOf (w .aim .t)) {se : Setup} (setup : setupOf (begin.st w) ≡ se) {u₀ : List ℕ} (marked : InUse u₀ (begin.W w))
+    {o₀ u img₁ out : List ℕ} {f : Fresh}
+    (put : NodePlaced (begin.st w) (w .x) (begin.h w) (record { setup = se; near = t .page; dry = dry }) (begin.W w) img o₀ f u img₁ out)
+    {len : ℕ} {l : List ℕ} (buf : List ℕ) (len-is : len ≡ recordSize (fill (begin.s w) (begin.P w ⊹ begin.rest w)))
+    (l-is : l ≡ over 0 (recordBytes (fill (begin.s w) (begin.P w ⊹ begin.rest w))) buf) where
   abbrev S : Config
   S = begin.st w
 
   abbrev c : Chain
   c = begin.c w
 
-  rising : Rising S img (begin.root w) c (fill (begin.s w) (begin.rest w)) (begin.row w) (begin.O w .1) dry n p len full 0 (pos 0) l u img₁
-  rising = begin.begun w at-page pages marked put off-is par-is buf len-is l-is
+  abbrev g : Growing
+  g = begin.g w t-is setup marked
+
+  rising : Rising S img (begin.root w) c (fill (begin.s w) (begin.rest w)) (begin.row w) (begin.O w .1) g len (f .full) 0 (pos 0) l u img₁
+  rising = begin.begun w t-is setup marked put buf len-is l-is
+
+  at-page : t .page ≡ lastPage c
+  at-page = begin.at-page w t-is setup marked
 
   -- Where the rules put it.
   abbrev pub seatPlace : Place
@@ -98,23 +110,23 @@ module _ {dry : Bool} {img : List ℕ} {above k left label : ℕ} {node : List �
   abbrev q : ℕ
   q = ownPage S (w .x) (begin.h w) (lastPage c) (begin.W w)
 
-  new-is : take size₁ out ≡ bytes (begin.P w)
-  new-is = begin.placed-is w at-page pages marked put
+  new-is : take (f .size) out ≡ bytes (begin.P w)
+  new-is = begin.placed-is w t-is setup marked put
 
   content-long : length (take len l) ≡ recordSize (begin.row w)
   content-long = ap length (rising .is) ∙ length-record (begin.row w)
 
-  seat-own : getD (take size₁ out) 0 0 ≡ 3 → (8 ≤ length (take size₁ out)) × (seatPlace ≡ record { page = twoAt (take size₁ out) 6; offset = 0 })
+  seat-own : getD (take (f .size) out) 0 0 ≡ 3 → (8 ≤ length (take (f .size) out)) × (seatPlace ≡ record { page = nameAt (take (f .size) out) 0; offset = 0 })
   unfolding twoAt
   seat-own e =
       let z : set-apart ≡ true = is-apart S (w .x) q set-apart (ap (λ (i : List ℕ). getD i 0 0) (sym new-is) ∙ e) in
-      let m : take size₁ out ≡ bytes (rec q true (asRow S (w .x) nil) nil) = new-is ∙ ap (λ (b : Bool). bytes (placed S (w .x) q b)) z in
+      let m : take (f .size) out ≡ bytes (rec q true (asRow S (w .x) nil) nil) = new-is ∙ ap (λ (b : Bool). bytes (placed S (w .x) q b)) z in
       let few = begin.few w in
-      let o = begin.own-inside w at-page pages marked in
+      let o = begin.own-inside w t-is setup marked in
       (omega (arith, ap length m), rw (z, m) (ap (λ (i : ℕ). record { page = i; offset = 0 }) (sym (two-bytes q (omega arith)))))
 
   -- not apart
-  module _ (z : getD (take size₁ out) 0 0 ≡ 3 → ⊥) where
+  module _ (z : getD (take (f .size) out) 0 0 ≡ 3 → ⊥) where
     beside : set-apart ≡ false
     beside = not-apart S (w .x) q set-apart (λ e. z (ap (λ (i : List ℕ). getD i 0 0) new-is ∙ e))
 
@@ -123,40 +135,47 @@ module _ {dry : Bool} {img : List ℕ} {above k left label : ℕ} {node : List �
     r = fill (begin.s w) (asRow S (w .x) (begin.rest w))
 
     row-is : begin.row w ≡ r
-    row-is = ap (λ (x : Bool). fill (begin.s w) (cond {A = Out} x (rec q true (asRow S (w .x) nil) (begin.rest w), taken S q (begin.W w)) (asRow S (w .x) (begin.rest w), begin.W w) .0)) beside
+    row-is =
+        ap (λ (x : Bool). fill (begin.s w) (cond {A = Out} x (rec q true (asRow S (w .x) nil) (begin.rest w), taken S q (begin.W w))
+        (asRow S (w .x) (begin.rest w), begin.W w) .0)) beside
 
     work-is : begin.O w .1 ≡ begin.W w
-    work-is = ap (λ (x : Bool). cond {A = Out} x (rec q true (asRow S (w .x) nil) (begin.rest w), taken S q (begin.W w)) (asRow S (w .x) (begin.rest w), begin.W w) .1) beside
+    work-is =
+        ap (λ (x : Bool). cond {A = Out} x (rec q true (asRow S (w .x) nil) (begin.rest w), taken S q (begin.W w))
+        (asRow S (w .x) (begin.rest w), begin.W w) .1) beside
 
-    byte-is : off₁ ≡ base r + before (begin.s w)
+    byte-is : t .at ≡ base r + before (begin.s w)
     byte-is =
-        let e : base r ≡ base (fill (begin.s w) (begin.rest w)) = ap base (sym row-is ∙ begin.row-is w) ∙ ap (λ (x : Bool). cond x 0 6) (sym (lone-fill (begin.s w) (begin.rest w) (begin.P w ⊹ begin.rest w) (begin.keeps w))) in
-        omega (arith, off-is)
+        let e : base r ≡ base (fill (begin.s w) (begin.rest w)) =
+        ap base (sym row-is ∙ begin.row-is w) ∙ ap (λ (x : Bool). cond x 0 6)
+        (sym (lone-fill (begin.s w) (begin.rest w) (begin.P w ⊹ begin.rest w) (begin.keeps w))) in
+        omega (arith, ap (λ (r : Receiver). r .at) t-is)
 
-    seat-kept : length (take len l) ≤ capacity → seatPlace ≡ record { page = p; offset = off₁ }
+    seat-kept : length (take len l) ≤ capacity → seatPlace ≡ record { page = t .page; offset = t .at }
     seat-kept h =
         let m : leb (recordSize r) capacity ≡ true = le-leb (recordSize r) capacity (omega (arith, content-long, ap recordSize row-is)) in
         rw (beside, m) (λ i. record { page = sym at-page i; offset = sym byte-is i })
 
-    split-place : capacity < recordSize (begin.row w) → seatPlace ≡ movedRecord S p (begin.row w) (leaves S (lastSettled c) p (begin.row w) (begin.O w .1)) off₁
+    split-place : capacity < recordSize (begin.row w)
+        → seatPlace ≡ movedRecord S (t .page) (begin.row w) (leaves S (lastSettled c) (t .page) (begin.row w) (begin.O w .1)) (t .at)
     split-place big =
         let m : leb (recordSize r) capacity ≡ false = lt-leb (recordSize r) capacity (omega (arith, ap recordSize row-is)) in
         let e : seatPlace ≡ movedRecord S (lastPage c) r (leaves S (lastSettled c) (lastPage c) r (begin.W w)) (base r + before (begin.s w)) = rw (beside, m) in
         e ∙ (λ i. movedRecord S (sym at-page i) (sym row-is i) (leaves S (lastSettled c) (sym at-page i) (sym row-is i) (sym work-is i)) (sym byte-is i))
 
-    seat-split : capacity < length (take len l)
-        → (o : Off n p target tolerance (settledAt img₁ (pageSize * p)) (take len l) u) × (seatPlace ≡ movedRecord (o .st) p (o .row) (leaves (o .st) (o .stays) p (o .row) (o .work)) off₁)
+    seat-split : capacity < length (take len l) → (o : Off (dried g) (settledAt img₁ (pageSize * t .page)) (take len l) u)
+        × (seatPlace ≡ movedRecord (o .st) (t .page) (o .row) (leaves (o .st) (o .stays) (t .page) (o .row) (o .work)) (t .at))
     seat-split h =
         let big : capacity < recordSize (begin.row w) = omega (arith, content-long) in
-        (off rising a b big _ (settled-is rising), split-place big)
+        (off rising big true _ (settled-is rising), split-place big)
 
   -- What the code that finds it requires.
-  pub seat : Seat img₁ u n target tolerance p off₁ (take size₁ out) (take len l)
+  pub seat : Seat img₁ u g (t .at) (take (f .size) out) (take len l)
   seat = record {
     place = seatPlace;
     some = omega (arith, ap length new-is, some-byte S (w .x) q set-apart);
-    ready = env rising;
-    low = omega (arith, off-is, begin.taking-low w);
+    ready = env rising true;
+    low = omega (arith, ap (λ (r : Receiver). r .at) t-is, begin.taking-low w);
     own = seat-own;
     kept = seat-kept;
     split = seat-split;

@@ -8,6 +8,7 @@ use lib.ListN.{length, take, drop}
 use Rattle.model.specs.Limits.{pageSize, capacity, mostNode}
 use Rattle.model.specs.Row.{Row, _⊹_, size, base, bytes, recordSize, recordBytes, Held, recordPage, recordOn}
 use Rattle.model.specs.Reading.{pageOf, usedAt}
+use Rattle.base_layout.specs.Growing.{bufferSize}
 use Rattle.theory_rows.specs.Laws.{length-bytes}
 use Rattle.theory_rows.specs.Image.{length-record}
 use Rattle.theory_layout.specs.Here.{PageIn}
@@ -43,12 +44,13 @@ module _ {img : List ℕ} {page pos par : ℕ} {new : List ℕ} (w : Taken img p
   pub taken-used : usedAt img (pageSize * page) ≡ recordSize (fill (w .spot) (w .tail))
   taken-used = page-used img held (w .is) (w .small)
 
-  pub taken-part : (n : ℕ) → n ≡ usedAt img (pageSize * page) → take (pageSize * page + n - pageSize * page) (drop (pageSize * page) img) ≡ recordBytes (fill (w .spot) (w .tail))
+  pub taken-part : (n : ℕ) → n ≡ usedAt img (pageSize * page)
+      → take (pageSize * page + n - pageSize * page) (drop (pageSize * page) img) ≡ recordBytes (fill (w .spot) (w .tail))
   taken-part n e = page-part img held (w .is) (w .small) n e
 
   -- Where `splice` puts it.
   abbrev pub taken-place : (l : List ℕ) → l ≡ recordBytes (fill (w .spot) (w .tail)) → Place l pos par 0 new
   taken-place l e = put-in (w .spot) (w .put) (w .tail) l pos par new e (w .offset) (w .holder) (w .comes) (w .root)
 
-  pub taken-fits : (l : List ℕ) → l ≡ recordBytes (fill (w .spot) (w .tail)) → length l + length new ≤ 4608
+  pub taken-fits : (l : List ℕ) → l ≡ recordBytes (fill (w .spot) (w .tail)) → length l + length new ≤ bufferSize
   taken-fits l e = omega (arith, ap length e, length-record (fill (w .spot) (w .tail)), w .small, ap length (w .comes), length-bytes (w .put), w .most)

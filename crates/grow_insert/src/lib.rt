@@ -1,6 +1,11 @@
 // An insert on an image that passes the check: the node goes into the record that takes it, and growth goes on from there. First dry, then writing.
-use base_numbers::two;
-use grow_cascade::rise;
+use base_layout::Growing;
+use base_layout::label_at;
+use base_layout::name_at;
+use base_layout::settled_at;
+use base_layout::setup_on;
+use base_layout::used_at;
+use grow_cascade::cascade;
 use grow_locate::find_receiver;
 use grow_new_node::place_node;
 use grow_new_node::put_node;
@@ -17,21 +22,22 @@ ghost use mathlib.Core.Path.{_≡_};
 ghost use lib.ListN.{length};
 ghost use Rattle.model.specs.Row.{recordSize, recordBytes};
 ghost use Rattle.base_numbers.specs.Over.{over};
+ghost use Rattle.base_layout.specs.Growing.{bufferSize};
 ghost use Rattle.model.specs.Answers.{insertRefused};
 ghost use Rattle.model.specs.Calls.{checkOf, insertOf};
 ghost use Rattle.theory_layout.specs.Widths.{Widths};
 ghost use Rattle.grow_insert.specs.Taken.{Taken, taken};
-ghost use Rattle.grow_insert.specs.Begin.{Begin, Grew};
+ghost use Rattle.grow_insert.specs.Begin.{Begin, Inserted};
 ghost use Rattle.grow_insert.specs.Seat.{Seat};
 
 // Writes to the front of buf the record on the page with the new node's bytes at byte `at`, in the node at par, and gives its length.
 fn take_in(image: &[u8], page: usize, at: usize, par: usize, new: &[u8], buf: &mut [u8]) -> usize
-    requires { ⌜ Taken (now image) page at par (now new) × (length (now buf) ≡ 4608) ⌝ }
+    requires { ⌜ Taken (now image) page at par (now new) × (length (now buf) ≡ bufferSize) ⌝ }
     ensures { λ r. ⌜ ((w : Taken (now (image .entry)) page at par (now (new .entry)))
         → (r ≡ recordSize (taken w)) × (now (buf .exit) ≡ over 0 (recordBytes (taken w)) (now (buf .entry)))) ⌝ }
 {
     let a = Settings::PAGE * page;
-    let e = a + two(image, a + 4082);
+    let e = a + used_at(image, a);
     splice(&image[a..e], at, par, 0, new, buf)
 }
 
@@ -40,35 +46,40 @@ fn take_in(image: &[u8], page: usize, at: usize, par: usize, new: &[u8], buf: &m
 fn new_place(
     image: &mut [u8],
     used: [u8; Settings::PAGES],
-    pages: usize,
-    target: usize,
-    tolerance: usize,
-    page: usize,
+    g: Growing,
     at: usize,
     new: &[u8],
     content: &[u8],
 ) -> Place
-    requires { ⌜ Seat (now image) used pages target tolerance page at (now new) (now content) ⌝ }
-    ensures { λ r. ⌜ (now (image .exit) ≡ now (image .entry)) × ((w : Seat (now (image .entry)) used pages target tolerance page at (now (new .entry)) (now (content .entry))) → r ≡ w .place) ⌝ }
+    requires { ⌜ Seat (now image) used g at (now new) (now content) ⌝ }
+    ensures { λ r. ⌜ (now (image .exit) ≡ now (image .entry))
+        × ((w : Seat (now (image .entry)) used g at (now (new .entry)) (now (content .entry))) → r ≡ w .place) ⌝ }
 {
     if new[0] == 3 {
         return Place {
-            page: two(new, 6),
+            page: name_at(new, 0),
             offset: 0,
         };
     }
     let n = content.len();
+    let near = g.near;
     if n <= Settings::CAPACITY {
         return Place {
-            page: page,
+            page: near,
             offset: at,
         };
     }
     let mut marks = used;
-    let settled = image[Settings::PAGE * page + 4081] as usize;
-    leave(image, &mut marks, page, settled, true);
-    let p = split_point(target, n);
-    moved_to(content, at, p, tolerance, image, &mut marks, pages, page)
+    let settled = settled_at(image, Settings::PAGE * near);
+    let setup = g.setup;
+    let trial = Growing {
+        setup,
+        near,
+        dry: true,
+    };
+    leave(image, &mut marks, trial, settled);
+    let p = split_point(setup.target, n);
+    moved_to(content, at, p, image, &mut marks, trial)
 }
 
 // What a run of an insert gives: whether a page was missing, the records split, the lean of the first split, the new node's place.
@@ -79,7 +90,7 @@ struct Run {
     place: Place,
 }
 
-// Puts the node, whose label is `label`, as child k of the aggregate at the byte `parent`, behind the sibling at `left`, with all that growth does. A dry run counts and leaves the image.
+// Puts the node, whose label is `label`, as child k of the aggregate at the byte `parent`, behind the sibling at `left`, with all that growth does.
 fn once(
     image: &mut [u8],
     parent: usize,
@@ -90,55 +101,27 @@ fn once(
     dry: bool,
 ) -> Run
     requires { ⌜ Begin dry (now image) parent k left label (now node) ⌝ }
-    ensures { λ r. ⌜ ((w : Begin dry (now (image .entry)) parent k left label (now (node .entry))) → Grew w (r .full) (r .splits) (r .lean) (r .place) (now (image .exit))) ⌝ }
+    ensures { λ r. ⌜ ((w : Begin dry (now (image .entry)) parent k left label (now (node .entry))) → Inserted w r (now (image .exit))) ⌝ }
 {
-    let pages = image.len() / Settings::PAGE;
-    let target = image[2] as usize;
-    let tolerance = two(image, 4);
-    let above = two(image, parent + 2);
-    let mut used = usage(image, pages);
+    let setup = setup_on(image);
+    let above = label_at(image, parent);
+    let mut used = usage(image, setup.pages);
     let t = find_receiver(image, parent, k, left);
+    let g = Growing {
+        setup: setup,
+        near: t.page,
+        dry: dry,
+    };
     let mut new = [0u8; Settings::NODE];
-    let f = place_node(
-        image,
-        &mut used,
-        pages,
-        t.page,
-        above,
-        label,
-        node,
-        dry,
-        &mut new,
-    );
-    let mut buf = [0u8; 4608];
+    let f = place_node(image, &mut used, g, above, label, node, &mut new);
+    let mut buf = [0u8; Growing::BUFFER];
     let len = take_in(image, t.page, t.at, t.par, &new[..f.size], &mut buf);
-    let place = new_place(
-        image,
-        used,
-        pages,
-        target,
-        tolerance,
-        t.page,
-        t.at,
-        &new[..f.size],
-        &buf[..len],
-    );
-    let g = rise(
-        image,
-        &mut used,
-        pages,
-        target,
-        tolerance,
-        t.page,
-        &mut buf,
-        len,
-        f.full,
-        dry,
-    );
+    let place = new_place(image, used, g, t.at, &new[..f.size], &buf[..len]);
+    let c = cascade(image, &mut used, g, &mut buf, len, f.full);
     Run {
-        full: g.full,
-        splits: g.splits,
-        lean: g.lean,
+        full: c.full,
+        splits: c.splits,
+        lean: c.lean,
         place: place,
     }
 }

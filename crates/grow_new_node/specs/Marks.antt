@@ -16,8 +16,7 @@ use Rattle.theory_decoding.specs.Reading.{reads-valid, reads-length}
 use Rattle.theory_places.specs.Pages.{pages-count}
 use Rattle.theory_places.specs.Marks.{mark, mark-times}
 use Rattle.grow_pages.specs.Write.{usedBy}
-use Rattle.grow_split.specs.Group.{Past}
-use Rattle.grow_split.specs.Same.{Marked}
+use Rattle.grow_groups.specs.Used.{InUse, Past}
 
 -- From page 2 on the mark is how often proxies name the page.
 pub mark-count : (img : List ℕ) (st : Config) (root : Row) → Reads img st root → (q : ℕ) → 2 ≤ q → q < st .pages → mark img q ≡ count q root
@@ -26,7 +25,7 @@ mark-count img st root r q low high =
     let z : eqb q 1 ≡ false = ne-eqb q 1 (λ i. omega arith) in
     omega (arith, rw z at e)
 
-pub rest-past : (st : Config) (root : Row) (u : List ℕ) → Marked u (atRest st root) → Past (st .pages) u
+pub rest-past : (st : Config) (root : Row) (u : List ℕ) → InUse u (atRest st root) → Past (st .pages) u
 rest-past st root u t q a b = t .same q b ∙ rw (le-leb (st .pages) q a) (go (leb q 1))
   where
     go : (x : Bool) → ((x || true) || ltb 0 (count q root)) ≡ true
@@ -36,14 +35,14 @@ rest-past st root u t q a b = t .same q b ∙ rw (le-leb (st .pages) q a) (go (l
 -- ── the loop ──
 
 -- The pages from 2 to p have their marks, the others 1.
-pub record Filled (img u : List ℕ) (p : ℕ) : Type 0 where
+pub record MarkedTo (img u : List ℕ) (p : ℕ) : Type 0 where
   pub low : 2 ≤ p
   pub long : length u ≡ mostPages
   pub done : (q : ℕ) → 2 ≤ q → q < p → getD u q 0 ≡ mark img q
   pub first : (q : ℕ) → q < 2 → getD u q 0 ≡ 1
   pub rest : (q : ℕ) → p ≤ q → q < mostPages → getD u q 0 ≡ 1
 
-pub marked-start : (img u : List ℕ) → u ≡ replicate mostPages 1 → Filled img u 2
+pub marked-start : (img u : List ℕ) → u ≡ replicate mostPages 1 → MarkedTo img u 2
 marked-start img u e = record {
   low = omega arith;
   long = ap length e ∙ length-replicate {A = ℕ} mostPages 1;
@@ -52,7 +51,7 @@ marked-start img u e = record {
   rest = λ q a b. ap (λ (z : List ℕ). getD z q 0) e ∙ getD-replicate mostPages q 1 0 b;
 }
 
-pub marked-turn : (img u : List ℕ) (p : ℕ) → p < mostPages → Filled img u p → Filled img (set u p (mark img p)) (p + 1)
+pub marked-turn : (img u : List ℕ) (p : ℕ) → p < mostPages → MarkedTo img u p → MarkedTo img (set u p (mark img p)) (p + 1)
 marked-turn img u p h m = record {
   low = omega (arith, m .low);
   long = simp length-set (m .long);
@@ -68,8 +67,8 @@ marked-turn img u p h m = record {
     go q a b false e = getD-set-other u p q (mark img p) 0 (eqb-false q p e) ∙ m .done q a (omega (arith, eqb-false q p e))
 
 -- At the end they are the pages that growth starts with.
-pub marked-end : (img u : List ℕ) (p n : ℕ) → n ≤ p → p ≤ max 2 n → pageSize * n ≡ length img → Filled img u p
-    → (st : Config) (root : Row) → Reads img st root → Marked u (atRest st root)
+pub marked-end : (img u : List ℕ) (p n : ℕ) → n ≤ p → p ≤ max 2 n → pageSize * n ≡ length img → MarkedTo img u p
+    → (st : Config) (root : Row) → Reads img st root → InUse u (atRest st root)
 unfolding usedBy
 marked-end img u p n a b l m st root r = record { long = m .long; same = λ q h. go q h (leb q 1) (leb n q) refl refl }
   where
@@ -88,5 +87,6 @@ marked-end img u p n a b l m st root r = record { long = m .long; same = λ q h.
     go q h false true e f = rw (same, e, f, m .rest q (omega (arith, ends, leb-true n q f)) h)
     go q h false false e f =
         rw (same, e, f)
-        (ap (λ (i : ℕ). not (eqb i 0)) (m .done q (omega (arith, leb-false q 1 e)) (omega (arith, ends, leb-false n q f)) ∙ mark-count img st root r q (omega (arith, leb-false q 1 e)) (omega (arith, leb-false n q f, same)))
+        (ap (λ (i : ℕ). not (eqb i 0)) (m .done q (omega (arith, leb-false q 1 e)) (omega (arith, ends, leb-false n q f)) ∙ mark-count img st root r q
+        (omega (arith, leb-false q 1 e)) (omega (arith, leb-false n q f, same)))
         ∙ some (count q root))

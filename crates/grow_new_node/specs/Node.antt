@@ -50,12 +50,14 @@ module _ (st : Config) (k l : ℕ) (c : List ℕ) (b : kindBad (newOf k l c) ≡
   pub node-size : 6 + length c ≡ size (asRow st (newOf k l c) nil)
   node-size = ⊎-elim (λ e. rw (e .0, e .1)) (λ e. rw e (omega arith)) (kinds-are k l c b)
 
-  pub node-written : (o p q s t : List ℕ) → 6 + length c ≤ length o → p ≡ over 0 (two k) o → q ≡ over 2 (two l) p → s ≡ over 4 (two (6 + length c)) q → t ≡ over 6 c s
+  pub node-written : (o p q s t : List ℕ) → 6 + length c ≤ length o → p ≡ over 0 (two k) o → q ≡ over 2 (two l) p → s ≡ over 4 (two (6 + length c)) q
+      → t ≡ over 6 c s
       → t ≡ over 0 (bytes (asRow st (newOf k l c) nil)) o
   node-written o p q s t h pp pq ps pt =
       let w1 : q ≡ over 0 (two k ++ two l) o = over-then 0 2 (two k) (two l) o p q pp pq refl (omega arith) in
       let w2 : s ≡ over 0 (two k ++ two l ++ two (6 + length c)) o = over-then 0 4 (two k ++ two l) (two (6 + length c)) o q s w1 ps refl (omega arith) in
-      let w3 : t ≡ over 0 (two k ++ two l ++ two (6 + length c) ++ c) o = over-then 0 6 (two k ++ two l ++ two (6 + length c)) c o s t w2 pt refl (omega arith) in
+      let w3 : t ≡ over 0 (two k ++ two l ++ two (6 + length c) ++ c) o =
+      over-then 0 6 (two k ++ two l ++ two (6 + length c)) c o s t w2 pt refl (omega arith) in
       w3 ∙ ap (λ (z : List ℕ). over 0 z o) node-is
 
 -- ── the matrix ──
@@ -72,15 +74,16 @@ class-low st l h = sym (rw (lt-ltb l 15 h))
 pub class-high : (st : Config) (l : ℕ) → 15 ≤ l → 15 ≡ class st l
 class-high st l h = sym (rw (le-ltb l 15 h))
 
--- The entry of the matrix, in the image.
-pub entry : (img : List ℕ) (st : Config) (root : Row) → Reads img st root → (h c : Head) (i j : ℕ) → i ≡ class st (h .label) → j ≡ class st (c .label) → i < 16 → j < 16
-    → eqb (getD img (16 + 16 * i + j) 0) 0 ≡ apart st h c
-entry img st root r h c i j ei ej bi bj =
+-- The entry of the matrix, which stands in the image from byte n on.
+pub entry : (img : List ℕ) (st : Config) (root : Row) → Reads img st root → (n : ℕ) → 16 ≡ n → (h c : Head) (i j : ℕ)
+    → i ≡ class st (h .label) → j ≡ class st (c .label) → i < 16 → j < 16 → eqb (getD img (n + 16 * i + j) 0) 0 ≡ apart st h c
+entry img st root r n s h c i j ei ej bi bj =
     let v = reads-valid img st root r in
     let k = 16 * i + j in
-    let m : take 256 (drop 16 img) ≡ st .matrix = ap (λ (l : List ℕ). take 256 (drop 16 l)) (r .same) ∙ ap (λ (s : Config). s .matrix) (config-image st root v) in
-    let z : 16 + 16 * i + j ≡ 16 + k = omega arith in
-    let g : getD img (16 + 16 * i + j) 0 ≡ getD (st .matrix) k 2 =
+    let m : take 256 (drop 16 img) ≡ st .matrix =
+    ap (λ (l : List ℕ). take 256 (drop 16 l)) (r .same) ∙ ap (λ (s : Config). s .matrix) (config-image st root v) in
+    let z : n + 16 * i + j ≡ 16 + k = omega arith in
+    let g : getD img (n + 16 * i + j) 0 ≡ getD (st .matrix) k 2 =
     ap (λ (n : ℕ). getD img n 0) z
     ∙ sym (getD-drop 16 img k 0)
     ∙ sym (getD-take 256 (drop 16 img) k 0 (omega arith))

@@ -12,9 +12,11 @@ use Rattle.model.specs.Growth.{Work, freeFrom}
 use Rattle.theory_rows.specs.Laws.{length-bytes}
 use Rattle.grow_pages.specs.Write.{usedBy, free-same, free-below}
 use Rattle.grow_split_point.specs.Stands.{Node, node, sizeOf}
-use Rattle.grow_split.specs.Group.{some-size}
-use Rattle.grow_split.specs.Cutting.{groupI}
-use Rattle.grow_split.specs.Same.{Marked}
+use Rattle.base_layout.specs.declared.Growing.{Growing}
+use Rattle.base_layout.specs.Setup.{setupOf}
+use Rattle.base_layout.specs.Growing.{pages-of}
+use Rattle.grow_groups.specs.Used.{InUse, some-config}
+use Rattle.grow_groups.specs.Group.{groupI, some-size}
 use Rattle.theory_moves.specs.Moved.{groupPlace}
 
 -- The bytes l are those of a row.
@@ -82,32 +84,29 @@ base-low r = go (lone r)
     go false = omega arith
 
 -- The page that is free is below 1024, whatever the tree's other settings.
-module _ (n near : ℕ) (u : List ℕ) (few : n ≤ mostPages) (start : near < n) where
-  pub page-in : (q : ℕ) → ((st : Config) → st .pages ≡ n → q ≡ freeFrom st n (usedBy u) near) → q < mostPages
+module _ (g : Growing) (u : List ℕ) (few : g .setup .pages ≤ mostPages) (start : g .near < g .setup .pages) where
+  pub page-in : (q : ℕ) → ((st : Config) → st .pages ≡ g .setup .pages → q ≡ freeFrom st (g .setup .pages) (usedBy u) (g .near)) → q < mostPages
   page-in q e =
-      let st : Config = record { pages = n; target = 0; tolerance = 0; form = 0; matrix = [] } in
-      omega (arith, e st refl, free-below st few (usedBy u) n near (omega arith))
+      let n = g .setup .pages in
+      omega (arith, e (some-config n) refl, free-below (some-config n) few (usedBy u) n (g .near) (omega arith))
 
-  module _ (st : Config) (pages : st .pages ≡ n) where
-    free-is : (q : ℕ) (work : Work) → Marked u work → q ≡ freeFrom st n (usedBy u) near → q ≡ freeFrom st (st .pages) (work .used) near
-    free-is q work m e =
-        e ∙ ap (λ (i : ℕ). freeFrom st i (usedBy u) near) (sym pages) ∙ free-same st (omega (arith, pages)) (usedBy u) (work .used) (m .same) (st .pages) near (omega arith)
+  module _ (st : Config) (setup : setupOf st ≡ g .setup) (q : ℕ) (e : q ≡ freeFrom st (g .setup .pages) (usedBy u) (g .near)) where
+    found : q ≡ freeFrom st (st .pages) (usedBy u) (g .near)
+    found = e ∙ ap (λ (i : ℕ). freeFrom st i (usedBy u) (g .near)) (sym (pages-of setup))
 
     -- The page and the offset of a node of a group.
-    pub place-is : (g : Row) (q b o at target : ℕ) (work : Work) → Marked u work → q ≡ freeFrom st n (usedBy u) near → b ≡ base g → o ≡ b + (target - at)
-        → record { page = q; offset = o } ≡ groupPlace st near g work at target
-    place-is g q b o at target work m e z k =
-        let f = free-is q work m e in
-        let y : o ≡ base g + (target - at) = omega arith in
+    pub place-is : (r : Row) (b o at target : ℕ) (work : Work) → InUse u work → b ≡ base r → o ≡ b + (target - at)
+        → record { page = q; offset = o } ≡ groupPlace st (g .near) r work at target
+    place-is r b o at target work m z k =
+        let f = found ∙ free-same st (omega (arith, pages-of setup)) (usedBy u) (work .used) (m .same) (st .pages) (g .near) (omega arith) in
+        let y : o ≡ base r + (target - at) = omega arith in
         λ i. record { page = f i; offset = y i }
 
     -- The marks after a group.
-    pub marks-fresh : (g : Row) (q : ℕ) (img : List ℕ) → false ≡ (isNil g || loneRec g) → q ≡ freeFrom st n (usedBy u) near → set u q 1 ≡ groupI st near true g u img .used
+    pub marks-fresh : (r : Row) (img : List ℕ) → false ≡ (isNil r || loneRec r) → set u q 1 ≡ groupI st g r u img .used
     unfolding groupI
-    marks-fresh g q img h e =
-        let k : q ≡ freeFrom st (st .pages) (usedBy u) near = e ∙ ap (λ (i : ℕ). freeFrom st i (usedBy u) near) (sym pages) in
-        rw (sym h) (ap (λ (i : ℕ). set u i 1) k)
+    marks-fresh r img h = rw (sym h) (ap (λ (i : ℕ). set u i 1) found)
 
-    pub marks-kept : (g : Row) (img : List ℕ) → true ≡ (isNil g || loneRec g) → u ≡ groupI st near true g u img .used
-    unfolding groupI
-    marks-kept g img h = rw (sym h) refl
+pub marks-kept : (st : Config) (g : Growing) (r : Row) (u img : List ℕ) → true ≡ (isNil r || loneRec r) → u ≡ groupI st g r u img .used
+unfolding groupI
+marks-kept st g r u img h = rw (sym h) refl

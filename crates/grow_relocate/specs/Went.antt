@@ -1,74 +1,48 @@
 -- A level of the split that a node is followed through: what the code needs there.
 use mathlib.Core.Path.{_≡_, refl, sym, ap, subst, _∙_}
 use mathlib.Core.Bool.{Bool, true, false, cond, not, _||_, false≢true, true≢false}
-use mathlib.Core.List.{List, []}
+use mathlib.Core.List.{List}
 use Prim.Native.Nat.{ℕ, _+_, _-_, _<_, _≤_}
 use native.Mathlib.Omega.{arith}
 use borrow.Author.Tests.{lt-ltb, le-ltb}
 use lib.ListN.{length, take, drop, replicate, length-replicate}
 use lib.Dec.{ltb}
 use Rattle.model.specs.Limits.{mostPages}
-use Rattle.model.specs.Row.{Row, nil, agg, lit, rec, _⊹_, size, isNil, lone, loneRec, bytes, Config}
+use Rattle.model.specs.Row.{Row, nil, size, isNil, loneRec, bytes, Config}
 use Rattle.model.specs.Reading.{sizeAt}
-use Rattle.model.specs.Growth.{Work, goOn, stops, group, separate, rootRow}
+use Rattle.model.specs.Growth.{Work, group, separate}
 use Rattle.model.specs.declared.Place.{Place}
 use Rattle.theory_rows.specs.Laws.{cond-case}
 use Rattle.base_numbers.specs.Over.{over}
 use Rattle.grow_split_point.specs.Stands.{first, kidsOf, restOf}
 use Rattle.grow_split_point.specs.Chosen.{passed, goesInto}
 use Rattle.grow_split_point.specs.Level.{kids-bytes, left-bytes, level-sizes, inner, inner-size, after-bytes}
-use Rattle.grow_split.specs.Cutting.{Cutting, groupI, twoGroupsI, separateI}
-use Rattle.grow_split.specs.Group.{Env, Left}
+use Rattle.base_layout.specs.declared.Growing.{Growing}
+use Rattle.base_layout.specs.Growing.{separatorSize, pages-of}
+use Rattle.grow_groups.specs.Used.{InUse, Env}
+use Rattle.grow_groups.specs.Group.{Cutting, groupI, Outcome}
+use Rattle.grow_split.specs.declared.Children.{Children}
+use Rattle.grow_split.specs.Cutting.{separateI, separate-keeps}
 use Rattle.grow_split.specs.Separate.{Sep, L, F, A, at-x, belows, below-kids, env-left, inside-fits, inside-within}
-use Rattle.grow_split.specs.Same.{Marked, group-same, separate-same}
-use Rattle.grow_split.specs.Ready.{root-row}
-use Rattle.grow_split.specs.Severed.{Large, large-sep, many, inside, whole, beneath}
+use Rattle.grow_split.specs.Same.{group-same, separate-same}
+use Rattle.grow_split.specs.Severed.{Large, large-sep, level}
 use Rattle.theory_moves.specs.Moved.{groupPlace, moved, movedRecord}
 use Rattle.grow_relocate.specs.Span.{Span}
 use Rattle.grow_relocate.specs.Jump.{inChosen, moved-jump}
 
 -- ── a dry run leaves the image ──
 
-module _ (st : Config) (near : ℕ) where
-  group-dry : (g : Row) (u img : List ℕ) → groupI st near true g u img .img ≡ img
+module _ (st : Config) (g : Growing) (dry : g .dry ≡ true) where
+  group-dry : (r : Row) (u img : List ℕ) → groupI st g r u img .img ≡ img
   unfolding groupI
-  group-dry g u img = cond-case (λ (c : Cutting). c .img ≡ img) (isNil g || loneRec g) (λ _. refl) (λ _. refl)
+  group-dry r u img = cond-case (λ (c : Cutting). c .img ≡ img) (isNil r || loneRec r) (λ _. refl) (λ _. rw dry)
 
-  two-dry : (p : ℕ) (a b : Row) (u img : List ℕ) → twoGroupsI st near true p a b u img .img ≡ img
-  unfolding twoGroupsI
-  two-dry p a b u img = group-dry b (groupI st near true a u img .used) (groupI st near true a u img .img) ∙ group-dry a u img
-
-  pub separate-dry : (p at : ℕ) (left row : Row) (u img : List ℕ) → separateI st near true p at left row u img .img ≡ img
-  unfolding separateI
-  separate-dry p at left nil u img = group-dry left u img
-  separate-dry p at left (agg hd cs rest) u img =
-      let a = groupI st near true left u img in
-      let b = separateI st near true p (at + 6) nil cs (a .used) (a .img) in
-      cond-case (λ (c : Cutting). c .img ≡ img) (goOn st p at (6 + size cs) rest)
-      (λ _. separate-dry p (at + (6 + size cs)) (left ⊹ agg hd cs nil) rest u img)
-      (λ _. cond-case (λ (c : Cutting). c .img ≡ img) (stops st cs)
-      (λ _. two-dry p left (agg hd cs rest) u img)
-      (λ _. group-dry rest (b .used) (b .img) ∙ separate-dry p (at + 6) nil cs (a .used) (a .img) ∙ group-dry left u img))
-  separate-dry p at left (lit hd c rest) u img =
-      cond-case (λ (c : Cutting). c .img ≡ img) (goOn st p at (6 + length c) rest)
-      (λ _. separate-dry p (at + (6 + length c)) (left ⊹ lit hd c nil) rest u img)
-      (λ _. two-dry p left (lit hd c rest) u img)
-  separate-dry p at left (rec q s r rest) u img =
-      cond-case (λ (c : Cutting). c .img ≡ img) (goOn st p at 8 rest)
-      (λ _. separate-dry p (at + 8) (left ⊹ rec q s r nil) rest u img)
-      (λ _. two-dry p left (rec q s r rest) u img)
+  pub separate-dry : (p at : ℕ) (left row : Row) (u img : List ℕ) → separateI st g p at left row u img .img ≡ img
+  separate-dry p at left row u img = separate-keeps st g (λ (u i : List ℕ). i ≡ img) (λ r u i e. group-dry r u i ∙ e) p at left row u img refl
 
 -- The same level with its room by another name.
-abbrev pub roomed : {n near p tol : ℕ} {l u img : List ℕ} {pos end : ℕ} → Sep n near p tol true l u img pos end 512 → (m : ℕ) → m ≡ 512 → Sep n near p tol true l u img pos end m
-roomed w m e = record {
-  st = w .st;
-  pages = w .pages;
-  tolerance = w .tolerance;
-  kids = w .kids;
-  below = w .below;
-  fits = w .fits;
-  within = omega (arith, w .within);
-}
+abbrev pub roomed : {g : Growing} {ch : Children} {l u img : List ℕ} → Sep g ch l u img separatorSize → (m : ℕ) → m ≡ separatorSize → Sep g ch l u img m
+roomed w m e = record { st = w .st; setup = w .setup; kids = w .kids; below = w .below; fits = w .fits; within = omega (arith, w .within) }
 
 -- ── four ways ──
 
@@ -101,73 +75,77 @@ in-after true false false g a d c e f h = refl
 -- ── a level ──
 
 abbrev pub blank : List ℕ
-blank = replicate 512 0
+blank = replicate separatorSize 0
 
-module _ {n near p tol : ℕ} {l u img : List ℕ} {pos end x : ℕ} (w : Sep n near p tol true l u img pos end 512)
-    (xe : x ≡ pos + size (passed p pos (w .kids .row))) where
-  abbrev pub left-span : Span (take (x - pos) (drop pos l))
-  left-span = record { row = L w xe; is = left-bytes (w .kids) p x xe; small = omega (arith, level-sizes (w .kids) p x xe, w .kids .ends, w .kids .small) }
+module _ {g : Growing} {ch : Children} {l u img : List ℕ} {x : ℕ} (w : Sep g ch l u img separatorSize)
+    (xe : x ≡ ch .pos + size (passed (ch .p) (ch .pos) (w .kids .row))) where
+  pub small-rows : (size (L w xe) < 65536) × ((size (F w xe) < 65536) × (size (restOf (F w xe)) < 65536))
+  small-rows = omega (arith, level-sizes (w .kids) (ch .p) x xe, first (at-x w xe) .total, w .kids .ends, w .kids .small)
 
-  abbrev pub right-span : Span (take (end - x) (drop x l))
-  right-span = record { row = F w xe; is = kids-bytes (at-x w xe); small = omega (arith, level-sizes (w .kids) p x xe, w .kids .ends, w .kids .small) }
+  abbrev pub left-span : Span (take (x - ch .pos) (drop (ch .pos) l))
+  left-span = record { row = L w xe; is = left-bytes (w .kids) (ch .p) x xe; small = small-rows .0 }
 
-  abbrev pub rest-span : goesInto (w .st) (F w xe) ≡ true → (k : ℕ) → k ≡ sizeAt l x → Span (take (end - (x + k)) (drop (x + k) l))
-  rest-span e k is = record {
-    row = restOf (F w xe);
-    is = after-bytes (at-x w xe) (w .st) e k is;
-    small = omega (arith, level-sizes (w .kids) p x xe, first (at-x w xe) .total, w .kids .ends, w .kids .small);
-  }
+  abbrev pub right-span : Span (take (ch .end - x) (drop x l))
+  right-span = record { row = F w xe; is = kids-bytes (at-x w xe); small = small-rows .1 .0 }
+
+  abbrev pub rest-span : goesInto (w .st) (F w xe) ≡ true → (k : ℕ) → k ≡ sizeAt l x → Span (take (ch .end - (x + k)) (drop (x + k) l))
+  rest-span e k is = record { row = restOf (F w xe); is = after-bytes (at-x w xe) (w .st) e k is; small = small-rows .1 .1 }
 
   -- after the left group
-  module _ {u₁ : List ℕ} (ue : u₁ ≡ groupI (w .st) near true (L w xe) u img .used) where
-    pub past-left : Left (A w xe) 0 (size (A w xe .row)) (A w xe .full) u₁ img (over 0 (bytes (A w xe .row)) blank) blank
-    past-left = record { used = ue; image = sym (group-dry (w .st) near (L w xe) u img); filled = refl; written = refl; next = omega arith }
+  module _ (dry : g .dry ≡ true) {u₁ : List ℕ} (ue : u₁ ≡ A w xe .used) where
+    pub past-left : Outcome (A w xe) 0 (record { end = size (A w xe .row); full = A w xe .full }) u₁ img (over 0 (bytes (A w xe .row)) blank) blank
+    past-left = record { used = ue; image = sym (group-dry (w .st) g dry (L w xe) u img); filled = refl; written = refl; next = omega arith }
 
-    pub next-env : Env n near u img → Env n near u₁ img
-    next-env env = env-left w xe env past-left refl
+    pub next-env : Env g u img → Env g u₁ img
+    next-env env = env-left w xe past-left env refl
+
+    pub blank-long : 0 + separatorSize ≤ length blank
+    blank-long = omega (arith, length-replicate {A = ℕ} separatorSize 0)
 
     -- The level inside the chosen child.
-    abbrev pub next-sep : goesInto (w .st) (F w xe) ≡ true → (k : ℕ) → k ≡ sizeAt l x → Sep n near p tol true l u₁ img (x + 6) (x + k) 512
+    abbrev pub next-sep : goesInto (w .st) (F w xe) ≡ true → (k : ℕ) → k ≡ sizeAt l x
+        → Sep g (record { pos = x + 6; end = x + k; p = ch .p }) l u₁ img separatorSize
     next-sep e k is = record {
       st = w .st;
-      pages = w .pages;
-      tolerance = w .tolerance;
+      setup = w .setup;
       kids = inner (at-x w xe) (w .st) e k is;
-      below = below-kids n (F w xe) (belows w xe .1);
-      fits = inside-fits w xe e past-left;
-      within = omega (arith, inside-within w xe e past-left (omega (arith, length-replicate {A = ℕ} 512 0)) 512 (sym (length-replicate {A = ℕ} 512 0)));
+      below = below-kids (g .setup .pages) (F w xe) (belows w xe .1);
+      fits = inside-fits w xe e past-left blank-long;
+      within = omega (arith, inside-within w xe e past-left blank-long separatorSize (sym (length-replicate {A = ℕ} separatorSize 0)));
     }
 
-  module _ (env : Env n near u img) (work : Work) (m : Marked u work) where
+  module _ (env : Env g u img) (work : Work) (m : InUse u work) where
     few-pages : w .st .pages ≤ mostPages
-    few-pages = omega (arith, w .pages, env .few)
+    few-pages = omega (arith, pages-of (w .setup), env .few)
 
-    near-low : near < mostPages
+    near-low : g .near < mostPages
     near-low = omega (arith, env .few, env .start)
 
-    pub left-marked : {u₁ : List ℕ} → u₁ ≡ groupI (w .st) near true (L w xe) u img .used → Marked u₁ (group (w .st) near (L w xe) work .1)
+    pub left-marked : {u₁ : List ℕ} → u₁ ≡ A w xe .used → InUse u₁ (group (w .st) (g .near) (L w xe) work .1)
     left-marked {u₁} e =
-        subst (λ (z : List ℕ). Marked z (group (w .st) near (L w xe) work .1)) (sym e) (group-same (w .st) few-pages near near-low true (L w xe) u img work m .used)
+        subst (λ (z : List ℕ). InUse z (group (w .st) (g .near) (L w xe) work .1)) (sym e) (group-same (w .st) few-pages g near-low (L w xe) u img work m .used)
 
-    pub inner-marked : {u₁ u₂ : List ℕ} → u₁ ≡ groupI (w .st) near true (L w xe) u img .used → u₂ ≡ separateI (w .st) near true p (x + 6) nil (kidsOf (F w xe)) u₁ img .used
-        → Marked u₂ (separate (w .st) near p (x + 6) nil (kidsOf (F w xe)) (group (w .st) near (L w xe) work .1) .1)
+    pub inner-marked : {u₁ u₂ : List ℕ} → u₁ ≡ A w xe .used → u₂ ≡ separateI (w .st) g (ch .p) (x + 6) nil (kidsOf (F w xe)) u₁ img .used
+        → InUse u₂ (separate (w .st) (g .near) (ch .p) (x + 6) nil (kidsOf (F w xe)) (group (w .st) (g .near) (L w xe) work .1) .1)
     inner-marked {u₁} {u₂} e d =
-        let a = group (w .st) near (L w xe) work in
-        subst (λ (z : List ℕ). Marked z (separate (w .st) near p (x + 6) nil (kidsOf (F w xe)) (a .1) .1)) (sym d)
-        (separate-same (w .st) few-pages near near-low true p (x + 6) nil (kidsOf (F w xe)) u₁ img (a .1) (left-marked e) .used)
+        let a = group (w .st) (g .near) (L w xe) work in
+        subst (λ (z : List ℕ). InUse z (separate (w .st) (g .near) (ch .p) (x + 6) nil (kidsOf (F w xe)) (a .1) .1)) (sym d)
+        (separate-same (w .st) few-pages g near-low (ch .p) (x + 6) nil (kidsOf (F w xe)) u₁ img (a .1) (left-marked e) .used)
 
   module _ (work : Work) (target : ℕ) (r : Place) where
     abbrev goal : Place
-    goal = moved (w .st) near p pos pos nil (w .kids .row) work target
+    goal = moved (w .st) (g .near) (ch .p) (ch .pos) (ch .pos) nil (w .kids .row) work target
 
-    by-jump : inChosen (w .st) near p pos x (L w xe) (F w xe) work target ≡ goal
+    by-jump : inChosen (w .st) (g .near) (ch .p) (ch .pos) x (L w xe) (F w xe) work target ≡ goal
     by-jump =
-        ap (λ (i : ℕ). inChosen (w .st) near p pos i (L w xe) (F w xe) work target) xe ∙ sym (moved-jump (w .st) near p pos pos nil (w .kids .row) work target (w .kids .some))
+        ap (λ (i : ℕ). inChosen (w .st) (g .near) (ch .p) (ch .pos) i (L w xe) (F w xe) work target) xe
+        ∙ sym (moved-jump (w .st) (g .near) (ch .p) (ch .pos) (ch .pos) nil (w .kids .row) work target (w .kids .some))
 
-    pub done-left : target < x → r ≡ groupPlace (w .st) near (L w xe) work pos target → r ≡ goal
+    pub done-left : target < x → r ≡ groupPlace (w .st) (g .near) (L w xe) work (ch .pos) target → r ≡ goal
     done-left h e = e ∙ in-left (goesInto (w .st) (F w xe)) (ltb target x) _ _ _ (lt-ltb target x h) ∙ by-jump
 
-    pub done-right : x ≤ target → goesInto (w .st) (F w xe) ≡ false → r ≡ groupPlace (w .st) near (F w xe) (group (w .st) near (L w xe) work .1) x target → r ≡ goal
+    pub done-right : x ≤ target → goesInto (w .st) (F w xe) ≡ false
+        → r ≡ groupPlace (w .st) (g .near) (F w xe) (group (w .st) (g .near) (L w xe) work .1) x target → r ≡ goal
     done-right h b e = e ∙ in-right (goesInto (w .st) (F w xe)) (ltb target x) _ _ _ b (le-ltb target x h) ∙ by-jump
 
     module _ (h : x ≤ target) (b : goesInto (w .st) (F w xe) ≡ true) (k : ℕ) (is : k ≡ sizeAt l x) where
@@ -177,31 +155,28 @@ module _ {n near p tol : ℕ} {l u img : List ℕ} {pos end x : ℕ} (w : Sep n 
       abbrev next : ℕ
       next = x + (6 + size (kidsOf (F w xe)))
 
-      pub done-under : target < x + k → r ≡ moved (w .st) near p (x + 6) (x + 6) nil (kidsOf (F w xe)) (group (w .st) near (L w xe) work .1) target → r ≡ goal
-      done-under g e =
-          e ∙ in-under (goesInto (w .st) (F w xe)) (ltb target x) (ltb target next) _ _ _ _ b (le-ltb target x h) (lt-ltb target next (omega (arith, size-is))) ∙ by-jump
+      abbrev a : Work
+      a = group (w .st) (g .near) (L w xe) work .1
+
+      pub done-under : target < x + k → r ≡ moved (w .st) (g .near) (ch .p) (x + 6) (x + 6) nil (kidsOf (F w xe)) a target → r ≡ goal
+      done-under y e =
+          e ∙ in-under (goesInto (w .st) (F w xe)) (ltb target x) (ltb target next) _ _ _ _ b (le-ltb target x h)
+          (lt-ltb target next (omega (arith, size-is))) ∙ by-jump
 
       pub done-after : x + k ≤ target
-          → r ≡ groupPlace (w .st) near (restOf (F w xe)) (separate (w .st) near p (x + 6) nil (kidsOf (F w xe)) (group (w .st) near (L w xe) work .1) .1) (x + k) target → r ≡ goal
-      done-after g e =
-          let a = group (w .st) near (L w xe) work in
-          let v = separate (w .st) near p (x + 6) nil (kidsOf (F w xe)) (a .1) in
-          e ∙ ap (λ (i : ℕ). groupPlace (w .st) near (restOf (F w xe)) (v .1) (x + i) target) size-is
-          ∙ in-after (goesInto (w .st) (F w xe)) (ltb target x) (ltb target next) _ _ _ _ b (le-ltb target x h) (le-ltb target next (omega (arith, size-is))) ∙ by-jump
+          → r ≡ groupPlace (w .st) (g .near) (restOf (F w xe)) (separate (w .st) (g .near) (ch .p) (x + 6) nil (kidsOf (F w xe)) a .1) (x + k) target → r ≡ goal
+      done-after y e =
+          let v = separate (w .st) (g .near) (ch .p) (x + 6) nil (kidsOf (F w xe)) a in
+          e ∙ ap (λ (i : ℕ). groupPlace (w .st) (g .near) (restOf (F w xe)) (v .1) (x + i) target) size-is
+          ∙ in-after (goesInto (w .st) (F w xe)) (ltb target x) (ltb target next) _ _ _ _ b (le-ltb target x h) (le-ltb target next (omega (arith, size-is)))
+          ∙ by-jump
 
 -- ── the record ──
 
-module _ {n near p tol : ℕ} {l u img : List ℕ} (w : Large n near p tol l u) (env : Env n near u img) where
-  pub room : 512 ≤ cond (lone (w .row)) 6 0 + 512
-  room = omega arith
+module _ {g : Growing} {p : ℕ} {l u img : List ℕ} (w : Large g p l u) (env : Env g u img) where
+  abbrev pub root-sep : Sep g (record { pos = 6; end = length l; p = p }) l u img separatorSize
+  root-sep = large-sep w env separatorSize (omega arith)
 
-  abbrev pub root-sep : Sep n near p tol true l u img 6 (length l) 512
-  root-sep = large-sep w true env 512 room
-
-  root-is : root-sep .kids .row ≡ rootRow (w .st) (lone (w .row)) (w .row)
-  root-is =
-      root-row (w .st) near 512 512 true l u img [] (w .work) (many w true env) (inside w true env) (w .marked) (w .row) (whole w true env 512 room) (w .fits) (w .big) (w .small)
-      (beneath w true env 512 room) (w .good) (w .most) room
-
-  pub done-root : (target : ℕ) (r : Place) → r ≡ moved (w .st) near p 6 6 nil (root-sep .kids .row) (w .work) target → r ≡ movedRecord (w .st) near (w .row) (w .work) target
-  done-root target r e = e ∙ (λ i. moved (w .st) near (w .point i) 6 6 nil (root-is i) (w .work) target)
+  pub done-root : (target : ℕ) (r : Place) → r ≡ moved (w .st) (g .near) p 6 6 nil (root-sep .kids .row) (w .work) target
+      → r ≡ movedRecord (w .st) (g .near) (w .row) (w .work) target
+  done-root target r e = e ∙ (λ i. moved (w .st) (g .near) (w .point i) 6 6 nil (level w .1 i) (w .work) target)

@@ -1,6 +1,8 @@
-// Where a split moves the nodes of the record that it splits, without a walk over the tree.
-use base_numbers::two;
+// Where a split moves the nodes of the record that it splits, without a walk over the tree. The run is dry: the marks are the caller's copy, the image stays.
+use base_layout::Growing;
+use base_layout::size_at;
 use grow_pages::first_free;
+use grow_split::Children;
 use grow_split::separate;
 use grow_split_point::child;
 use grow_split_point::enters;
@@ -14,10 +16,12 @@ ghost use Prim.Native.Nat.{ℕ, _+_, _≤_, _<_};
 ghost use Rattle.model.specs.Limits.{mostPages};
 ghost use Rattle.model.specs.Row.{Row, nil, bytes, base, Config};
 ghost use Rattle.model.specs.Growth.{Work};
-ghost use Rattle.grow_split.specs.Cutting.{groupI, separateI};
-ghost use Rattle.grow_split.specs.Group.{Env};
+ghost use Rattle.base_layout.specs.Setup.{setupOf};
+ghost use Rattle.base_layout.specs.Growing.{separatorSize};
+ghost use Rattle.grow_groups.specs.Used.{InUse, Env};
+ghost use Rattle.grow_groups.specs.Group.{groupI};
+ghost use Rattle.grow_split.specs.Cutting.{separateI};
 ghost use Rattle.grow_split.specs.Separate.{Sep};
-ghost use Rattle.grow_split.specs.Same.{Marked};
 ghost use Rattle.grow_split.specs.Severed.{Large};
 ghost use Rattle.theory_moves.specs.Moved.{groupPlace, moved, movedRecord};
 ghost use Rattle.grow_relocate.specs.Span.{Span};
@@ -30,7 +34,7 @@ pub fn base_of(part: &[u8]) -> usize
     if stays(part) {
         return 6;
     }
-    if two(part, 4) == part.len() {
+    if size_at(part, 0) == part.len() {
         return 0;
     }
     6
@@ -40,15 +44,15 @@ pub fn base_of(part: &[u8]) -> usize
 pub fn in_group(
     part: &[u8],
     used: &[u8; Settings::PAGES],
-    pages: usize,
-    near: usize,
+    g: Growing,
     start: usize,
     target: usize,
 ) -> Place
-    requires { ⌜ (1 ≤ near) × ((near < pages) × ((pages ≤ mostPages) × ((target < 65536) × Span (now part)))) ⌝ }
-    ensures { λ r. ⌜ ((w : Span (now (part .entry))) (st : Config) → st .pages ≡ pages → (work : Work) → Marked (now (used .entry)) work → r ≡ groupPlace st near (w .row) work start target) ⌝ }
+    requires { ⌜ (1 ≤ g .near) × ((g .near < g .setup .pages) × ((g .setup .pages ≤ mostPages) × ((target < 65536) × Span (now part)))) ⌝ }
+    ensures { λ r. ⌜ ((w : Span (now (part .entry))) (st : Config) → setupOf st ≡ g .setup → (work : Work) → InUse (now (used .entry)) work
+        → r ≡ groupPlace st (g .near) (w .row) work start target) ⌝ }
 {
-    let page = first_free(used, pages, near);
+    let page = first_free(used, g.setup.pages, g.near);
     let base = base_of(part);
     if target <= start {
         return Place {
@@ -63,110 +67,91 @@ pub fn in_group(
 }
 
 // Marks the page that a group's record takes.
-pub fn mark_group(part: &[u8], used: &mut [u8; Settings::PAGES], pages: usize, near: usize)
-    requires { ⌜ (1 ≤ near) × ((near < pages) × (pages ≤ mostPages)) ⌝ }
-    ensures { λ _. ⌜ ((g : Row) → now (part .entry) ≡ bytes g → (st : Config) → st .pages ≡ pages → (img : List ℕ) → now (used .exit) ≡ groupI st near true g (now (used .entry)) img .used) ⌝ }
+pub fn mark_group(part: &[u8], used: &mut [u8; Settings::PAGES], g: Growing)
+    requires { ⌜ (1 ≤ g .near) × ((g .near < g .setup .pages) × (g .setup .pages ≤ mostPages)) ⌝ }
+    ensures { λ _. ⌜ ((row : Row) → now (part .entry) ≡ bytes row → (st : Config) → setupOf st ≡ g .setup → (img : List ℕ)
+        → now (used .exit) ≡ groupI st g row (now (used .entry)) img .used) ⌝ }
 {
     if stays(part) {
         return;
     }
-    let q = first_free(used, pages, near);
+    let q = first_free(used, g.setup.pages, g.near);
     used[q] = 1;
 }
 
-// Marks the pages that the records of a level's groups take; the image stays.
+// Marks the pages that the records of a level's groups take.
 pub fn mark_level(
     buf: &[u8],
-    pos: usize,
-    end: usize,
-    p: usize,
-    tolerance: usize,
+    row: Children,
     image: &mut [u8],
     used: &mut [u8; Settings::PAGES],
-    pages: usize,
-    near: usize,
+    g: Growing,
 )
-    requires { ⌜ Env pages near (now used) (now image) × Sep pages near p tolerance true (now buf) (now used) (now image) pos end 512 ⌝ }
-    ensures { λ _. ⌜ (now (image .exit) ≡ now (image .entry)) × ((w : Sep pages near p tolerance true (now (buf .entry)) (now (used .entry)) (now (image .entry)) pos end 512) →
-        now (used .exit) ≡ separateI (w .st) near true p pos nil (w .kids .row) (now (used .entry)) (now (image .entry)) .used) ⌝ }
+    requires { ⌜ (g .dry ≡ true) × (Env g (now used) (now image) × Sep g row (now buf) (now used) (now image) separatorSize) ⌝ }
+    ensures { λ _. ⌜ (now (image .exit) ≡ now (image .entry))
+        × ((w : Sep g row (now (buf .entry)) (now (used .entry)) (now (image .entry)) separatorSize) → now (used .exit)
+        ≡ separateI (w .st) g (row .p) (row .pos) nil (w .kids .row) (now (used .entry)) (now (image .entry)) .used) ⌝ }
 {
-    let mut spare = [0u8; 512];
-    separate(
-        buf,
-        pos,
-        end,
-        p,
-        tolerance,
-        image,
-        used,
-        pages,
-        near,
-        true,
-        &mut spare,
-        0,
-    );
+    let mut spare = [0u8; Growing::SEPARATOR];
+    separate(buf, row, image, used, g, &mut spare, 0);
 }
 
-// Where the node at `target` goes if it is in a group of the level from pos to end, or of one inside it.
+// Where the node at `target` goes if it is in a group of the level, or of one inside it.
 pub fn moved_in(
     buf: &[u8],
-    pos: usize,
-    end: usize,
-    p: usize,
-    tolerance: usize,
+    row: Children,
     image: &mut [u8],
     used: &mut [u8; Settings::PAGES],
-    pages: usize,
-    near: usize,
+    g: Growing,
     target: usize,
 ) -> Place
-    requires { ⌜ Env pages near (now used) (now image) × ((target < 65536) × Sep pages near p tolerance true (now buf) (now used) (now image) pos end 512) ⌝ }
-    ensures { λ r. ⌜ (now (image .exit) ≡ now (image .entry)) × ((w : Sep pages near p tolerance true (now (buf .entry)) (now (used .entry)) (now (image .entry)) pos end 512) (work : Work) →
-        Marked (now (used .entry)) work → r ≡ moved (w .st) near p pos pos nil (w .kids .row) work target) ⌝ }
+    requires { ⌜ (g .dry ≡ true) × (Env g (now used) (now image) × ((target < 65536)
+        × Sep g row (now buf) (now used) (now image) separatorSize)) ⌝ }
+    ensures { λ r. ⌜ (now (image .exit) ≡ now (image .entry))
+        × ((w : Sep g row (now (buf .entry)) (now (used .entry)) (now (image .entry)) separatorSize) (work : Work)
+        → InUse (now (used .entry)) work → r ≡ moved (w .st) (g .near) (row .p) (row .pos) (row .pos) nil (w .kids .row) work target) ⌝ }
 {
-    let x = child(buf, pos, end, p);
+    let pos = row.pos;
+    let end = row.end;
+    let x = child(buf, pos, end, row.p);
     if target < x {
-        return in_group(&buf[pos..x], used, pages, near, pos, target);
+        return in_group(&buf[pos..x], used, g, pos, target);
     }
-    mark_group(&buf[pos..x], used, pages, near);
-    if !enters(buf, x, tolerance) {
-        return in_group(&buf[x..end], used, pages, near, x, target);
+    mark_group(&buf[pos..x], used, g);
+    if !enters(buf, x, g.setup.tolerance) {
+        return in_group(&buf[x..end], used, g, x, target);
     }
     let inner = x + 6;
-    let next = x + two(buf, x + 4);
+    let next = x + size_at(buf, x);
+    let kids = Children {
+        pos: inner,
+        end: next,
+        p: row.p,
+    };
     if target < next {
-        return moved_in(
-            buf,
-            inner,
-            next,
-            p,
-            tolerance,
-            image,
-            used,
-            pages,
-            near,
-            target,
-        );
+        return moved_in(buf, kids, image, used, g, target);
     }
-    mark_level(buf, inner, next, p, tolerance, image, used, pages, near);
-    in_group(&buf[next..end], used, pages, near, next, target)
+    mark_level(buf, kids, image, used, g);
+    in_group(&buf[next..end], used, g, next, target)
 }
 
-// Where the node at byte `target` of the record that buf is goes when the record is split. The marks are the caller's copy; the image stays.
+// Where the node at byte `target` of the record that buf is goes when the record is split.
 pub fn moved_to(
     buf: &[u8],
     target: usize,
     p: usize,
-    tolerance: usize,
     image: &mut [u8],
     used: &mut [u8; Settings::PAGES],
-    pages: usize,
-    near: usize,
+    g: Growing,
 ) -> Place
-    requires { ⌜ Env pages near (now used) (now image) × ((target < 65536) × Large pages near p tolerance (now buf) (now used)) ⌝ }
-    ensures { λ r. ⌜ (now (image .exit) ≡ now (image .entry)) × ((w : Large pages near p tolerance (now (buf .entry)) (now (used .entry))) →
-        r ≡ movedRecord (w .st) near (w .row) (w .work) target) ⌝ }
+    requires { ⌜ (g .dry ≡ true) × (Env g (now used) (now image) × ((target < 65536) × Large g p (now buf) (now used))) ⌝ }
+    ensures { λ r. ⌜ (now (image .exit) ≡ now (image .entry))
+        × ((w : Large g p (now (buf .entry)) (now (used .entry))) → r ≡ movedRecord (w .st) (g .near) (w .row) (w .work) target) ⌝ }
 {
-    let n = buf.len();
-    moved_in(buf, 6, n, p, tolerance, image, used, pages, near, target)
+    let row = Children {
+        pos: 6,
+        end: buf.len(),
+        p: p,
+    };
+    moved_in(buf, row, image, used, g, target)
 }

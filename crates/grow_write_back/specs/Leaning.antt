@@ -12,16 +12,18 @@ use Rattle.model.specs.Growth.{noWork, splitPoint, startOf, startOfD, rootRow}
 use Rattle.theory_rows.specs.Fits.{Ranges, Fits}
 use Rattle.theory_rows.specs.Image.{length-record}
 use Rattle.theory_rows.specs.Bound.{depth, split-good}
+use Rattle.base_layout.specs.declared.Setup.{Setup}
+use Rattle.base_layout.specs.Setup.{setupOf}
+use Rattle.base_layout.specs.Growing.{bufferSize, target-of}
 use Rattle.grow_split_point.specs.Stands.{Kids}
 use Rattle.grow_split_point.specs.Lean.{lean-bounds}
 use Rattle.grow_split_point.specs.Level.{root-kids, root-some}
 
 -- The bytes l are a record that is too large, and no deeper than a store's records are.
-pub record Leaning (l : List ℕ) (target tolerance : ℕ) : Type 0 where
+pub record Leaning (l : List ℕ) (s : Setup) : Type 0 where
   pub st : Config
+  pub setup : setupOf st ≡ s
   pub ranges : Ranges st
-  pub targ : st .target ≡ target
-  pub tol : st .tolerance ≡ tolerance
   pub row : Row
   pub is : l ≡ recordBytes row
   pub fits : Fits row
@@ -29,12 +31,12 @@ pub record Leaning (l : List ℕ) (target tolerance : ℕ) : Type 0 where
   pub most : recordSize row ≤ (capacity + mostNode)
   pub deep : depth (rootRow st (lone row) row) ≤ 23
 
-module _ {l : List ℕ} {target tol : ℕ} (w : Leaning l target tol) where
+module _ {l : List ℕ} {s : Setup} (w : Leaning l s) where
   pub leaning-length : length l ≡ recordSize (w .row)
   leaning-length = ap length (w .is) ∙ length-record (w .row)
 
-  pub leaning-sizes : (target ≤ 192) × (length l ≤ 4608)
-  leaning-sizes = omega (arith, leaning-length, w .most, w .targ, w .ranges .high)
+  pub leaning-sizes : (s .target ≤ 192) × (length l ≤ bufferSize)
+  leaning-sizes = omega (arith, leaning-length, w .most, target-of (w .setup), w .ranges .high)
 
   pub level : (k : Kids l 6 (recordSize (w .row))) × (k .row ≡ rootRow (w .st) (lone (w .row)) (w .row))
   level =

@@ -10,18 +10,17 @@ use Rattle.model.specs.Row.{Row, nil, agg, lit, rec, _⊹_, size, isNil, lone, 
 use Rattle.model.specs.Growth.{Work, Out, freeFrom, goOn, stops, splitPoint, rootRow, withRow, group, twoGroups, separate, separator}
 use Rattle.theory_rows.specs.Laws.{cond-case}
 use Rattle.grow_pages.specs.Links.{Below, below-⊹}
-use Rattle.grow_split.specs.Group.{Past, free-within}
-use Rattle.grow_split.specs.Same.{Marked}
-use Rattle.grow_split.specs.Ready.{below-root}
+use Rattle.grow_groups.specs.Used.{InUse, Past, free-within}
+use Rattle.grow_split.specs.Severed.{below-root}
 
 -- Growth takes no page from n on.
 abbrev pub Beyond : (n : ℕ) → Work → Type 0
 Beyond n w = (q : ℕ) → n ≤ q → q < mostPages → w .used q ≡ true
 
-pub marked-beyond : {n : ℕ} {u : List ℕ} {w : Work} → Marked u w → Past n u → Beyond n w
+pub marked-beyond : {n : ℕ} {u : List ℕ} {w : Work} → InUse u w → Past n u → Beyond n w
 marked-beyond m past q k h = sym (m .same q h) ∙ past q k h
 
-pub marked-past : {n : ℕ} {u : List ℕ} {w : Work} → Marked u w → Beyond n w → Past n u
+pub marked-past : {n : ℕ} {u : List ℕ} {w : Work} → InUse u w → Beyond n w → Past n u
 marked-past m beyond q k h = m .same q h ∙ beyond q k h
 
 -- Of what a step gives: the proxies name pages below n, and no page from n on becomes free.
@@ -85,6 +84,7 @@ module _ (st : Config) (n near : ℕ) (e : st .pages ≡ n) (few : n ≤ mostPag
       let a : Named n o = separate-named p 6 nil (rootRow st (lone r) r) w tt (below-root st n (lone r) r b) h in
       record { row = below-with st n (lone r) r (o .0) b (a .row); used = a .used }
 
-pub below-separator : (st : Config) (n near : ℕ) (u : List ℕ) (w : Work) → st .pages ≡ n → n ≤ mostPages → near < n → Marked u w → Past n u → (r : Row) → Below n r
+pub below-separator : (st : Config) (n near : ℕ) (u : List ℕ) (w : Work) → st .pages ≡ n → n ≤ mostPages → near < n → InUse u w → Past n u → (r : Row)
+    → Below n r
     → Below n (separator st near r w .0)
 below-separator st n near u w e few start m past r b = separator-named st n near e few start r w b (marked-beyond m past) .row

@@ -1,6 +1,6 @@
 -- A record that is too large leaves its page, unless it is settled, and is split: what the code requires, and what it leaves.
 use mathlib.Core.Path.{_≡_, refl, ap, subst, _∙_}
-use mathlib.Core.Bool.{Bool, true, false, cond, _||_}
+use mathlib.Core.Bool.{Bool, true, false, cond, _||_, or-false}
 use mathlib.Core.List.{List}
 use Prim.Native.Nat.{ℕ, _+_, _*_, _<_, _≤_}
 use native.Mathlib.Omega.{arith}
@@ -9,14 +9,18 @@ use lib.ListN.{length, set, length-set, length-replicate}
 use Rattle.model.specs.Limits.{mostPages, pageSize, capacity}
 use Rattle.model.specs.Row.{Row, size, recordSize, recordBytes, Config}
 use Rattle.model.specs.Growth.{Work, counted, freed, splitPoint, separator}
+use Rattle.theory_rows.specs.Laws.{cond-case}
 use Rattle.theory_rows.specs.Fits.{Fits}
 use Rattle.theory_rows.specs.Image.{length-record}
 use Rattle.theory_page_memory.specs.Memory.{blank}
 use Rattle.grow_pages.specs.Write.{setPage, used-set}
 use Rattle.grow_pages.specs.Links.{Below}
 use Rattle.grow_pages.specs.Paged.{length-setPage}
-use Rattle.grow_split.specs.Group.{Past, Env, set-past}
-use Rattle.grow_split.specs.Same.{Marked}
+use Rattle.base_layout.specs.declared.Growing.{Growing}
+use Rattle.base_layout.specs.Setup.{setupOf}
+use Rattle.base_layout.specs.Growing.{bufferSize, separatorSize, pages-of}
+use Rattle.grow_groups.specs.declared.Output.{Output}
+use Rattle.grow_groups.specs.Used.{InUse, Past, Env, env-with, set-past}
 use Rattle.grow_split.specs.Severed.{Large, Severed}
 use Rattle.grow_write_back.specs.Names.{marked-beyond, marked-past, separator-named}
 
@@ -24,54 +28,60 @@ use Rattle.grow_write_back.specs.Names.{marked-beyond, marked-past, sepa
 abbrev pub leaves : (st : Config) → (stays : Bool) → (q : ℕ) → Row → Work → Work
 leaves st stays q r w = cond stays (counted st r w) (freed st q (counted st r w))
 
--- The image, with page q free.
-abbrev pub leftImage : (dry stays : Bool) → (q : ℕ) → (image : List ℕ) → List ℕ
-leftImage dry stays q img = cond (dry || stays) img (setPage q blank img)
+-- The image, with the page free.
+abbrev pub leftImage : (g : Growing) → (stays : Bool) → (image : List ℕ) → List ℕ
+leftImage g stays img = cond (g .dry || stays) img (setPage (g .near) blank img)
 
--- The bytes l are a record that is too large, and its separator has at most 512 bytes.
-pub record Off (n near target tolerance settled : ℕ) (l u : List ℕ) : Type 0 where
+-- The bytes l are a record that is too large, and its separator has room.
+pub record Off (g : Growing) (settled : ℕ) (l u : List ℕ) : Type 0 where
   pub st : Config
-  pub pages : st .pages ≡ n
-  pub targ : st .target ≡ target
-  pub range : target ≤ 192
-  pub tol : st .tolerance ≡ tolerance
+  pub setup : setupOf st ≡ g .setup
+  pub range : g .setup .target ≤ 192
   pub stays : Bool
   pub bit : settled ≡ cond stays 1 0
   pub row : Row
   pub is : l ≡ recordBytes row
   pub fits : Fits row
   pub big : capacity < recordSize row
-  pub small : recordSize row ≤ 4608
-  pub below : Below n row
+  pub small : recordSize row ≤ bufferSize
+  pub below : Below (g .setup .pages) row
   pub work : Work
-  pub marked : Marked u work
-  pub good : Fits (separator st near row (leaves st stays near row work) .0)
-  pub most : size (separator st near row (leaves st stays near row work) .0) ≤ 512
+  pub marked : InUse u work
+  pub good : Fits (separator st (g .near) row (leaves st stays (g .near) row work) .0)
+  pub most : size (separator st (g .near) row (leaves st stays (g .near) row work) .0) ≤ separatorSize
+
+-- What the split leaves of a record, which stays on its page or not.
+abbrev pub SplitOff : (st : Config) → (g : Growing) → (row : Row) → (work : Work) → (stays : Bool) → (r : Output) → (u img img₁ out₀ out₁ : List ℕ) → Type 0
+SplitOff st g row work stays r u img img₁ out₀ out₁ = Severed st g row (leaves st stays (g .near) row work) r u (leftImage g stays img) img₁ out₀ out₁
 
 -- ── the page that is left ──
 
-pub left-settled : (settled q : ℕ) (dry : Bool) (u img : List ℕ) → (settled ≡ 0 → ⊥) → (stays : Bool) → settled ≡ cond stays 1 0
-    → (u ≡ cond stays u (set u q 0)) × (img ≡ leftImage dry stays q img)
-left-settled settled q true u img h true e = (refl, refl)
-left-settled settled q false u img h true e = (refl, refl)
-left-settled settled q dry u img h false e = absurd (h e)
+pub left-settled : (settled : ℕ) (g : Growing) (u img : List ℕ) → (settled ≡ 0 → ⊥) → (stays : Bool) → settled ≡ cond stays 1 0
+    → (u ≡ cond stays u (set u (g .near) 0)) × (img ≡ leftImage g stays img)
+left-settled settled g u img h true e = (refl, go (g .dry))
+  where
+    go : (d : Bool) → img ≡ cond (d || true) img (setPage (g .near) blank img)
+    go true = refl
+    go false = refl
+left-settled settled g u img h false e = absurd (h e)
 
-pub left-marked : (settled q : ℕ) (dry : Bool) (u img b : List ℕ) → settled ≡ 0 → b ≡ cond dry img (setPage q blank img) → (stays : Bool) → settled ≡ cond stays 1 0
-    → (set u q 0 ≡ cond stays u (set u q 0)) × (b ≡ leftImage dry stays q img)
-left-marked settled q dry u img b h pb true e = absurd (omega arith)
-left-marked settled q true u img b h pb false e = (refl, pb)
-left-marked settled q false u img b h pb false e = (refl, pb)
+pub left-marked : (settled : ℕ) (g : Growing) (u img b : List ℕ) → settled ≡ 0 → b ≡ cond (g .dry) img (setPage (g .near) blank img)
+    → (stays : Bool) → settled ≡ cond stays 1 0
+    → (set u (g .near) 0 ≡ cond stays u (set u (g .near) 0)) × (b ≡ leftImage g stays img)
+left-marked settled g u img b h pb true e = absurd (omega arith)
+left-marked settled g u img b h pb false e = (refl, rw or-false pb)
 
-length-left : (dry stays : Bool) (q : ℕ) (img : List ℕ) → pageSize * q + pageSize ≤ length img → length (leftImage dry stays q img) ≡ length img
-length-left true stays q img h = refl
-length-left false true q img h = refl
-length-left false false q img h = length-setPage q blank img (length-replicate {A = ℕ} pageSize 0) h
+pub length-left : (g : Growing) (stays : Bool) (img : List ℕ) → pageSize * g .near + pageSize ≤ length img → length (leftImage g stays img) ≡ length img
+length-left g stays img h =
+    cond-case (λ (i : List ℕ). length i ≡ length img) (g .dry || stays) (λ _. refl)
+    (λ _. length-setPage (g .near) blank img (length-replicate {A = ℕ} pageSize 0) h)
 
 past-left : (n q : ℕ) (stays : Bool) (u : List ℕ) → q < n → Past n u → Past n (cond stays u (set u q 0))
 past-left n q true u h past = past
 past-left n q false u h past = set-past n q 0 u h past
 
-marked-left : (st : Config) (q : ℕ) (stays : Bool) (u : List ℕ) (r : Row) (w : Work) → q < mostPages → Marked u w → Marked (cond stays u (set u q 0)) (leaves st stays q r w)
+marked-left : (st : Config) (q : ℕ) (stays : Bool) (u : List ℕ) (r : Row) (w : Work) → q < mostPages → InUse u w
+    → InUse (cond stays u (set u q 0)) (leaves st stays q r w)
 marked-left st q true u r w h m = record { long = m .long; same = m .same }
 marked-left st q false u r w h m = record {
   long = length-set u q 0 ∙ m .long;
@@ -80,47 +90,43 @@ marked-left st q false u r w h m = record {
 
 -- ── the split ──
 
-module _ {n near target tol settled : ℕ} {l u img : List ℕ} (w : Off n near target tol settled l u) (env : Env n near u img) where
+module _ {g : Growing} {settled : ℕ} {l u img : List ℕ} (w : Off g settled l u) (env : Env g u img) where
   abbrev W : Work
-  W = leaves (w .st) (w .stays) near (w .row) (w .work)
+  W = leaves (w .st) (w .stays) (g .near) (w .row) (w .work)
 
-  pub off-length : length l ≡ recordSize (w .row)
+  off-length : length l ≡ recordSize (w .row)
   off-length = ap length (w .is) ∙ length-record (w .row)
 
-  pub off-sizes : (target ≤ 192) × (length l ≤ 4608)
+  pub off-sizes : (g .setup .target ≤ 192) × (length l ≤ bufferSize)
   off-sizes = (w .range, omega (arith, off-length, w .small))
 
-  pub off-page : (near < mostPages) × (pageSize * near + pageSize ≤ length img)
+  off-page : (g .near < mostPages) × (pageSize * g .near + pageSize ≤ length img)
   off-page = omega (arith, env .few, env .start, env .image)
 
-  module _ (dry : Bool) {u′ i′ : List ℕ} (ue : u′ ≡ cond (w .stays) u (set u near 0)) (ie : i′ ≡ leftImage dry (w .stays) near img) where
-    pub marks : Marked u′ W
-    marks = rw ue (marked-left (w .st) near (w .stays) u (w .row) (w .work) (off-page .0) (w .marked))
+  module _ {u′ i′ : List ℕ} (ue : u′ ≡ cond (w .stays) u (set u (g .near) 0)) (ie : i′ ≡ leftImage g (w .stays) img) where
+    pub marks : InUse u′ W
+    marks = rw ue (marked-left (w .st) (g .near) (w .stays) u (w .row) (w .work) (off-page .0) (w .marked))
 
-    past : Past n u′
-    past = rw ue (past-left n near (w .stays) u (env .start) (env .past))
+    past : Past (g .setup .pages) u′
+    past = rw ue (past-left (g .setup .pages) (g .near) (w .stays) u (env .start) (env .past))
 
-    pub off-env : Env n near u′ i′
-    off-env = record {
-      few = env .few;
-      image = omega (arith, ap length ie, length-left dry (w .stays) near img (off-page .1), env .image);
-      low = env .low;
-      start = env .start;
-      past = past;
-    }
+    pub off-env : Env g u′ i′
+    off-env = env-with env (ap length ie ∙ length-left g (w .stays) img (off-page .1)) past
 
     module _ {p : ℕ} (pe : p ≡ splitPoint (w .st) (length l)) where
-      abbrev pub off-large : Large n near p tol l u′
+      pub point-is : p ≡ splitPoint (w .st) (recordSize (w .row))
+      point-is = pe ∙ ap (splitPoint (w .st)) off-length
+
+      abbrev pub off-large : Large g p l u′
       off-large = record {
         st = w .st;
-        pages = w .pages;
-        tol = w .tol;
+        setup = w .setup;
         row = w .row;
         is = w .is;
         fits = w .fits;
         big = w .big;
         small = omega (arith, w .small);
-        point = pe ∙ ap (splitPoint (w .st)) off-length;
+        point = point-is;
         below = w .below;
         work = W;
         marked = marks;
@@ -128,9 +134,11 @@ module _ {n near target tol settled : ℕ} {l u img : List ℕ} (w : Off n near 
         most = w .most;
       }
 
-      pub off-done : {last : ℕ} {full : Bool} {u″ i″ o₀ o₁ : List ℕ} → Severed (w .st) near (w .row) W dry last full u″ i′ i″ o₀ o₁
-          → Severed (w .st) near (w .row) W dry last full u″ (leftImage dry (w .stays) near img) i″ o₀ o₁ × Past n u″
-      off-done {last} {full} {u″} {i″} {o₀} {o₁} s = (
-        subst (λ (x : List ℕ). Severed (w .st) near (w .row) W dry last full u″ x i″ o₀ o₁) ie s,
-        marked-past (s .marked) (separator-named (w .st) n near (w .pages) (env .few) (env .start) (w .row) W (w .below) (marked-beyond marks past) .used),
+      pub off-done : {r : Output} {u″ i″ o₀ o₁ : List ℕ} → Severed (w .st) g (w .row) W r u″ i′ i″ o₀ o₁
+          → SplitOff (w .st) g (w .row) (w .work) (w .stays) r u″ img i″ o₀ o₁ × Past (g .setup .pages) u″
+      off-done {r} {u″} {i″} {o₀} {o₁} s = (
+        subst (λ (x : List ℕ). Severed (w .st) g (w .row) W r u″ x i″ o₀ o₁) ie s,
+        marked-past (s .marked)
+            (separator-named (w .st) (g .setup .pages) (g .near) (pages-of (w .setup)) (env .few) (env .start) (w .row) W (w .below)
+            (marked-beyond marks past) .used),
       )

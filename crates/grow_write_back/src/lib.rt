@@ -1,8 +1,10 @@
 // What an insert does to the record that it changed: the record goes back to its page, or it is split.
+use base_layout::Growing;
+use base_layout::Setup;
+use grow_groups::Output;
 use grow_pages::clear_page;
 use grow_pages::put_record;
 use grow_pages::relink;
-use grow_split::Put;
 use grow_split::separator;
 use grow_split_point::lean;
 use grow_split_point::split_point;
@@ -16,26 +18,26 @@ ghost use lib.IntN.{subℕ};
 ghost use Rattle.model.specs.Limits.{mostPages, pageSize};
 ghost use Rattle.model.specs.Row.{Row, base, recordSize, recordBytes};
 ghost use Rattle.model.specs.Growth.{splitPoint, startOfD};
+ghost use Rattle.base_layout.specs.Growing.{separatorSize};
 ghost use Rattle.grow_pages.specs.Relinked.{written};
-ghost use Rattle.grow_split.specs.Group.{Past, Env};
-ghost use Rattle.grow_split.specs.Severed.{Severed};
+ghost use Rattle.grow_groups.specs.Used.{Past, Env};
 ghost use Rattle.grow_write_back.specs.Leaning.{Leaning};
 ghost use Rattle.grow_write_back.specs.Content.{Content};
-ghost use Rattle.grow_write_back.specs.Off.{leaves, leftImage, Off};
+ghost use Rattle.grow_write_back.specs.Off.{leftImage, Off, SplitOff};
 
 // The lean of a split: the start of d minus p.
-pub fn first_lean(buf: &[u8], target: usize, tolerance: usize) -> i32
-    requires { ⌜ Leaning (now buf) target tolerance ⌝ }
-    ensures { λ r. ⌜ ((w : Leaning (now (buf .entry)) target tolerance) → r ≡ subℕ (startOfD (w .st) (w .row)) (splitPoint (w .st) (recordSize (w .row)))) ⌝ }
+pub fn first_lean(buf: &[u8], setup: Setup) -> i32
+    requires { ⌜ Leaning (now buf) setup ⌝ }
+    ensures { λ r. ⌜ ((w : Leaning (now (buf .entry)) setup) → r ≡ subℕ (startOfD (w .st) (w .row)) (splitPoint (w .st) (recordSize (w .row)))) ⌝ }
 {
     let n = buf.len();
-    let p = split_point(target, n);
-    let d = start_of(buf, 6, n, p, tolerance);
+    let p = split_point(setup.target, n);
+    let d = start_of(buf, 6, n, p, setup.tolerance);
     lean(d, p)
 }
 
 // Where a record's row starts: a helper's header is not part of it.
-fn row_start(content: &[u8]) -> usize
+fn first_node(content: &[u8]) -> usize
     requires { ⌜ 1 ≤ length (now content) ⌝ }
     ensures { λ r. ⌜ ((row : Row) → now (content .entry) ≡ recordBytes row → r ≡ base row) ⌝ }
 {
@@ -45,40 +47,30 @@ fn row_start(content: &[u8]) -> usize
     0
 }
 
-// Writes a record's new content to its page, and the back links of the records that it holds. A dry run leaves the image.
-pub fn keep(
-    image: &mut [u8],
-    pages: usize,
-    page: usize,
-    content: &[u8],
-    settled: usize,
-    holder: usize,
-    dry: bool,
-)
-    requires { ⌜ (pages ≤ mostPages) × ((pageSize * pages ≤ length (now image)) × ((page < pages) × ((settled ≤ 1) × ((holder < mostPages) × Content (now content) pages)))) ⌝ }
-    ensures { λ _. ⌜ ((w : Content (now (content .entry)) pages) (s : Bool) → settled ≡ cond s 1 0
-        → now (image .exit) ≡ cond dry (now (image .entry)) (written page s holder (w .row) (now (image .entry)))) ⌝ }
+// Writes a record's new content to its page, and the back links of the records that it holds.
+pub fn keep(image: &mut [u8], g: Growing, content: &[u8], settled: usize, holder: usize)
+    requires { ⌜ (g .setup .pages ≤ mostPages) × ((pageSize * g .setup .pages ≤ length (now image)) × ((g .near < g .setup .pages)
+        × ((settled ≤ 1) × ((holder < mostPages) × Content (now content) (g .setup .pages))))) ⌝ }
+    ensures { λ _. ⌜ ((w : Content (now (content .entry)) (g .setup .pages)) (s : Bool) → settled ≡ cond s 1 0
+        → now (image .exit) ≡ cond (g .dry) (now (image .entry)) (written (g .near) s holder (w .row) (now (image .entry)))) ⌝ }
 {
-    if dry {
+    if g.dry {
         return;
     }
-    put_record(image, page, content, settled, holder);
-    let from = row_start(content);
-    relink(&content[from..], image, pages, page);
+    put_record(image, g.near, content, settled, holder);
+    let from = first_node(content);
+    relink(&content[from..], image, g.setup.pages, g.near);
 }
 
-// Frees the page of a record that is split, unless the record is settled. A dry run leaves the image.
-pub fn leave(
-    image: &mut [u8],
-    used: &mut [u8; Settings::PAGES],
-    page: usize,
-    settled: usize,
-    dry: bool,
-)
-    requires { ⌜ (page < mostPages) × (pageSize * page + pageSize ≤ length (now image)) ⌝ }
+// Frees the page of a record that is split, unless the record is settled.
+pub fn leave(image: &mut [u8], used: &mut [u8; Settings::PAGES], g: Growing, settled: usize)
+    requires { ⌜ (g .near < mostPages) × (pageSize * g .near + pageSize ≤ length (now image)) ⌝ }
     ensures { λ _. ⌜ ((stays : Bool) → settled ≡ cond stays 1 0
-        → (now (used .exit) ≡ cond stays (now (used .entry)) (set (now (used .entry)) page 0)) × (now (image .exit) ≡ leftImage dry stays page (now (image .entry)))) ⌝ }
+        → (now (used .exit) ≡ cond stays (now (used .entry)) (set (now (used .entry)) (g .near) 0))
+        × (now (image .exit) ≡ leftImage g stays (now (image .entry)))) ⌝ }
 {
+    let page = g.near;
+    let dry = g.dry;
     if settled != 0 {
         return;
     }
@@ -93,22 +85,18 @@ pub fn leave(
 // The separator's row goes to the front of out.
 pub fn split_off(
     buf: &[u8],
-    target: usize,
-    tolerance: usize,
     image: &mut [u8],
     used: &mut [u8; Settings::PAGES],
-    pages: usize,
-    page: usize,
+    g: Growing,
     settled: usize,
-    dry: bool,
     out: &mut [u8],
-) -> Put
-    requires { ⌜ Env pages page (now used) (now image) × ((length (now out) ≡ 512) × Off pages page target tolerance settled (now buf) (now used)) ⌝ }
-    ensures { λ r. ⌜ ((w : Off pages page target tolerance settled (now (buf .entry)) (now (used .entry))) →
-        Severed (w .st) page (w .row) (leaves (w .st) (w .stays) page (w .row) (w .work)) dry (r .end) (r .full) (now (used .exit)) (leftImage dry (w .stays) page (now (image .entry))) (now (image .exit)) (now (out .entry)) (now (out .exit))
-        × Past pages (now (used .exit))) ⌝ }
+) -> Output
+    requires { ⌜ Env g (now used) (now image) × ((length (now out) ≡ separatorSize) × Off g settled (now buf) (now used)) ⌝ }
+    ensures { λ r. ⌜ ((w : Off g settled (now (buf .entry)) (now (used .entry)))
+        → SplitOff (w .st) g (w .row) (w .work) (w .stays) r
+        (now (used .exit)) (now (image .entry)) (now (image .exit)) (now (out .entry)) (now (out .exit)) × Past (g .setup .pages) (now (used .exit))) ⌝ }
 {
-    leave(image, used, page, settled, dry);
-    let p = split_point(target, buf.len());
-    separator(buf, p, tolerance, image, used, pages, page, dry, out)
+    leave(image, used, g, settled);
+    let p = split_point(g.setup.target, buf.len());
+    separator(buf, p, image, used, g, out)
 }

@@ -1,6 +1,9 @@
--- `insert::once`: the node is placed, goes into the record that takes it, and growth goes on from there.
+-- `grow_insert::once`: the node is placed, goes into the record that takes it, and growth goes on from there.
+-- In each need: x the place after place_node, y that after take_in, w what once requires; e is where the node goes, f what page 0 says, m the marks,
+-- z what placing the node left, t the record with it.
 use mathlib.Core.Path.{_≡_, refl, sym, ap, subst, _∙_}
-use Prim.Native.Nat.{_/_, _≤_}
+use mathlib.Core.List.{List}
+use Prim.Native.Nat.{ℕ, _≤_}
 use native.Mathlib.Omega.{arith}
 use borrow.Author.Needs.{needs}
 use lib.ListN.{length, replicate}
@@ -8,77 +11,87 @@ use lib.Seq.{length-take-le}
 use lib.IntN.{ℤ}
 use mir.Syntax.{w32}
 use mir.Facts.{toZ-ofZ}
-use Rattle.model.specs.Limits.{pageSize, mostNode}
-use Rattle.grow_split_point.specs.Lean.{lean-signed}
-use Rattle.base_numbers.specs.Over.{over}
-use Rattle.theory_insert_point.specs.Chain.{fill}
+use Rattle.model.specs.Limits.{mostNode}
 use Rattle.model.specs.Row.{nil, _⊹_, recordSize, recordBytes}
 use Rattle.model.specs.Growth.{asRow}
 use Rattle.theory_rows.specs.Laws.{length-bytes}
-use Rattle.grow_split.specs.Same.{Marked}
-use Rattle.grow_locate.specs.declared.Receiver.{Receiver}
+use Rattle.theory_insert_point.specs.Chain.{fill}
+use Rattle.base_numbers.specs.Over.{over}
+use Rattle.base_layout.specs.declared.Growing.{Growing}
+use Rattle.base_layout.specs.Setup.{setupOf}
+use Rattle.base_layout.specs.Growing.{bufferSize, pages-of, matrix-of}
+use Rattle.grow_split_point.specs.Lean.{lean-signed}
+use Rattle.grow_groups.specs.Used.{InUse}
 use Rattle.grow_locate.specs.Aim.{receiverOf}
-use Rattle.grow_refusals.specs.Label.{parent-label, parent-low}
-use Rattle.grow_new_node.specs.Placed.{Placed}
-use Rattle.grow_insert.specs.Begin.{Begin, node-most, st, root, h, W, long, few, target-is, target-most, tolerance-is, start-env, placed-size, into-record, begun, cascade, once-done, Grew, new-lean, s as spot, rest, P}
+use Rattle.grow_refusals.specs.Label.{parent-label}
+use Rattle.grow_new_node.specs.Placed.{NodePlaced}
+use Rattle.grow_insert.specs.Begin.{Begin, Inserted, node-most, st, root, h, W, long, few, setup-is, start-env, placed-size, into-record}
+use Rattle.grow_insert.specs.Begin.{begun, cascade-ready, once-done, new-lean, s as spot, rest, P}
 use Rattle.grow_insert.specs.Seat.{seat, seat-is}
 use Rattle.grow_insert.proofs.once.Statement.{statement}
 use Rattle.grow_insert.proofs.once.Tie as tie
 
-slice-read-target : tie.Need-slice-read-target
-slice-read-target c = let w = c .before .before .before .pre in omega (arith, long w, few w)
+-- what once requires
+abbrev Given : tie.Start → Type 0
+Given s = let a = s .args in Begin (a .dry) (a .image .now) (a .parent) (a .k) (a .left) (a .label) (a .node .now)
 
-cast-target : tie.Need-cast-target
-cast-target c = let w = c .before .before .before .pre in omega (arith, target-is w, target-most w)
+setup-on-requires : tie.Need-setup-on-requires
+setup-on-requires c κs = let w = c .before .before .before .pre in omega (arith, long w, few w)
 
-two-requires : tie.Need-two-requires
-two-requires c κs = let w = c .before .before .before .before .pre in omega (arith, long w, few w)
-
-add-two : tie.Need-add-two
-add-two c = let w = c .before .before .before .before .before .before .pre in omega (arith, parent-low _ _ _ (w .aim))
-
-two-requires-2 : tie.Need-two-requires-2
-two-requires-2 c κs = let w = c .before .before .before .before .before .before .pre in omega (arith, parent-label _ _ _ (w .aim) .0)
+label-at-requires : tie.Need-label-at-requires
+label-at-requires c κs = parent-label _ _ _ (c .before .before .before .before .before .pre .aim) .0
 
 usage-requires : tie.Need-usage-requires
-usage-requires c κs = let w = c .before .before .before .before .before .before .before .before .pre in (omega (arith, long w, few w), omega (arith, long w))
+usage-requires c κs =
+    let w = c .before .before .before .before .before .before .before .pre in
+    let e = pages-of (setup-is w (c .before .before .before .setup-on .ensures)) in
+    (omega (arith, few w, e), omega (arith, long w, e))
 
 find-receiver-requires : tie.Need-find-receiver-requires
-find-receiver-requires c κs = let w = c .before .before .before .before .before .before .before .before .before .before .pre in (w .aim, w .sibling)
+find-receiver-requires c κs = let w = c .before .before .before .before .before .before .before .before .before .pre in (w .aim, w .sibling)
 
 slice-aggregate-place-node : tie.Need-slice-aggregate-place-node
 slice-aggregate-place-node c = search needs
 
 place-node-requires : tie.Need-place-node-requires
 place-node-requires c κs =
-    let s = c .before .before .before .before .before .before .before .before .before .before .before .before .before .before in
+    let u = c .before .before .before .before .before in
+    let s = u .before .before .before .before .before .before .before .before in
     let w = s .pre in
-    let z : length (s .args .node .now) ≤ mostNode = omega (arith, ap length (w .is), length-bytes (asRow (st w) (w .x) nil), node-most (st w) (w .x) (w .fits)) in
-    (start-env w (ap (λ (r : Receiver). r .page) (c .before .before .before .find-receiver .ensures (w .aim))) (omega (arith, long w)) (c .before .before .before .before .before .usage .ensures (st w) (root w) (w .aim .reads)), (omega arith, (z, omega arith)))
+    let f = setup-is w (u .before .before .before .before .setup-on .ensures) in
+    let z : length (s .args .node .now) ≤ mostNode =
+    omega (arith, ap length (w .is), length-bytes (asRow (st w) (w .x) nil), node-most (st w) (w .x) (w .fits)) in
+    let m = u .usage .ensures (st w) (root w) (w .aim .reads) in
+    (start-env w (c .before .before .before .find-receiver .ensures (w .aim)) f m, (omega (arith, matrix-of f, long w, few w), (omega arith, (z, omega arith))))
 
--- where the node goes
-where-is : (x : tie.After-place-node) → let s = x .before .before .before .before .before .before .before .before .before .before .before .before .before .before .before in (w : Begin (s .args .dry) (s .args .image .now) (s .args .parent) (s .args .k) (s .args .left) (s .args .label) (s .args .node .now))
-    → x .before .before .before .before .find-receiver .result ≡ receiverOf (w .aim .t)
+abbrev start : tie.After-place-node → tie.Start
+start x = x .before .before .before .before .before .before .before .before .before .before .before .before .before .before
+
+-- where the node goes, what page 0 says, the pages in use, and what placing the node leaves
+where-is : (x : tie.After-place-node) → (w : Given (start x)) → x .before .before .before .before .find-receiver .result ≡ receiverOf (w .aim .t)
 where-is x w = x .before .before .before .before .find-receiver .ensures (w .aim)
 
-pages-is : (x : tie.After-place-node) → let s = x .before .before .before .before .before .before .before .before .before .before .before .before .before .before .before in (w : Begin (s .args .dry) (s .args .image .now) (s .args .parent) (s .args .k) (s .args .left) (s .args .label) (s .args .node .now))
-    → st w .pages ≡ length (s .args .image .now) / pageSize
-pages-is x w = omega (arith, long w)
+setup-of : (x : tie.After-place-node) → (w : Given (start x))
+    → setupOf (st w) ≡ x .before .before .before .before .before .before .before .before .before .before .setup-on .result
+setup-of x w = setup-is w (x .before .before .before .before .before .before .before .before .before .before .setup-on .ensures)
 
-marks-is : (x : tie.After-place-node) → let s = x .before .before .before .before .before .before .before .before .before .before .before .before .before .before .before in (w : Begin (s .args .dry) (s .args .image .now) (s .args .parent) (s .args .k) (s .args .left) (s .args .label) (s .args .node .now))
-    → Marked (x .before .before .before .before .before .before .usage .result) (W w)
+marks-is : (x : tie.After-place-node) → (w : Given (start x)) → InUse (x .before .before .before .before .before .before .usage .result) (W w)
 marks-is x w = x .before .before .before .before .before .before .usage .ensures (st w) (root w) (w .aim .reads)
 
-placed-is : (x : tie.After-place-node) → let s = x .before .before .before .before .before .before .before .before .before .before .before .before .before .before .before in (w : Begin (s .args .dry) (s .args .image .now) (s .args .parent) (s .args .k) (s .args .left) (s .args .label) (s .args .node .now)) → let z = x .place-node .last in
-    Placed (st w) (w .x) (h w) (x .before .before .before .before .find-receiver .result .page) (W w) (s .args .dry) (s .args .image .now) (replicate mostNode 0) (x .place-node .result .size) (x .place-node .result .full) (z .1 .0) (z .0) (z .1 .1 .1 .1 .1 .1 .1 .1 .0)
+placed-is : (x : tie.After-place-node) → let s = start x in let t = x .before .before .before .before in let u = t .before .before in (w : Given s)
+    → let z = x .place-node .last in
+    let g : Growing = record { setup = u .before .before .before .before .setup-on .result; near = t .find-receiver .result .page; dry = s .args .dry } in
+    NodePlaced (st w) (w .x) (h w) g (W w)
+    (s .args .image .now) (replicate mostNode 0) (x .place-node .result) (z .1 .0) (z .0) (z .1 .1 .1 .1 .1 .1 .0)
 placed-is x w =
-    x .place-node .ensures (st w) (root w) (w .aim .reads) (pages-is x w) (W w) (marks-is x w) (w .x) (h w)
-    (sym (x .before .before .before .before .before .before .before .before .two2 .ensures .0 ∙ parent-label _ _ _ (w .aim) .1)) (w .named) (w .is)
+    x .place-node .ensures (st w) (root w) (w .aim .reads) (setup-of x w) (W w) (marks-is x w) (w .x) (h w)
+    (sym (x .before .before .before .before .before .before .before .before .label-at .ensures .0 ∙ parent-label _ _ _ (w .aim) .1)) (w .named) (w .is)
 
-fits-new : (x : tie.After-place-node) → x .place-node .result .size ≤ length (x .place-node .last .1 .1 .1 .1 .1 .1 .1 .1 .0)
+fits-new : (x : tie.After-place-node) → x .place-node .result .size ≤ length (x .place-node .last .1 .1 .1 .1 .1 .1 .0)
 fits-new x =
-    let w = x .before .before .before .before .before .before .before .before .before .before .before .before .before .before .before .pre in
-    omega (arith, placed-size w (ap (λ (r : Receiver). r .page) (where-is x w)) (pages-is x w) (marks-is x w) (placed-is x w), x .place-node .kept .1 .1 .1 .1 .1 .1 .1 .1 .0)
+    let w = start x .pre in
+    let z = placed-size w (where-is x w) (setup-of x w) (marks-is x w) (placed-is x w) in
+    omega (arith, z, x .place-node .kept .1 .1 .1 .1 .1 .1 .0)
 
 array-share-prefix-new : tie.Need-array-share-prefix-new
 array-share-prefix-new c = fits-new (c .before .before .before .before)
@@ -92,27 +105,25 @@ slice-aggregate-take-in-2 c = search needs
 take-in-requires : tie.Need-take-in-requires
 take-in-requires c κs =
     let x = c .before .before .before .before .before .before in
-    let w = x .before .before .before .before .before .before .before .before .before .before .before .before .before .before .before .pre in
-    let e = where-is x w in
-    (into-record w (ap (λ (r : Receiver). r .page) e) (pages-is x w) (marks-is x w) (placed-is x w) (ap (λ (r : Receiver). r .at) e) (ap (λ (r : Receiver). r .par) e), refl)
+    let w = start x .pre in
+    (into-record w (where-is x w) (setup-of x w) (marks-is x w) (placed-is x w), refl)
 
 -- the record with the node
-taken-is : (x : tie.After-take-in) → let y = x .before .before .before .before .before .before .before in let s = y .before .before .before .before .before .before .before .before .before .before .before .before .before .before .before in (w : Begin (s .args .dry) (s .args .image .now) (s .args .parent) (s .args .k) (s .args .left) (s .args .label) (s .args .node .now))
-    → let l = x .take-in .last .1 .1 .1 .1 .1 .0 in let r = fill (spot w) (P w ⊹ rest w) in (x .take-in .result ≡ recordSize r) × (l ≡ over 0 (recordBytes r) (replicate 4608 0))
-taken-is x w =
-    let y = x .before .before .before .before .before .before .before in
-    let e = where-is y w in
-    x .take-in .ensures (into-record w (ap (λ (r : Receiver). r .page) e) (pages-is y w) (marks-is y w) (placed-is y w) (ap (λ (r : Receiver). r .at) e) (ap (λ (r : Receiver). r .par) e))
+taken-is : (y : tie.After-take-in) → let x = y .before .before .before .before .before .before .before in (w : Given (start x))
+    → let r = fill (spot w) (P w ⊹ rest w) in
+    (y .take-in .result ≡ recordSize r) × (y .take-in .last .1 .1 .1 .1 .1 .0 ≡ over 0 (recordBytes r) (replicate bufferSize 0))
+taken-is y w =
+    let x = y .before .before .before .before .before .before .before in
+    y .take-in .ensures (into-record w (where-is x w) (setup-of x w) (marks-is x w) (placed-is x w))
 
 -- its length
-fits-buf : (x : tie.After-take-in) → x .take-in .result ≤ length (x .take-in .last .1 .1 .1 .1 .1 .0)
-fits-buf x =
-    let y = x .before .before .before .before .before .before .before in
-    let w = y .before .before .before .before .before .before .before .before .before .before .before .before .before .before .before .pre in
-    let e = where-is y w in
-    let t = taken-is x w in
-    let r = begun w (ap (λ (r : Receiver). r .page) e) (pages-is y w) (marks-is y w) (placed-is y w) (ap (λ (r : Receiver). r .at) e) (ap (λ (r : Receiver). r .par) e) (replicate 4608 0) (t .0) (t .1) in
-    omega (arith, r .long, r .most, x .take-in .kept .1 .1 .1 .1 .1 .0)
+fits-buf : (y : tie.After-take-in) → y .take-in .result ≤ length (y .take-in .last .1 .1 .1 .1 .1 .0)
+fits-buf y =
+    let x = y .before .before .before .before .before .before .before in
+    let w = start x .pre in
+    let t = taken-is y w in
+    let r = begun w (where-is x w) (setup-of x w) (marks-is x w) (placed-is x w) (replicate bufferSize 0) (t .0) (t .1) in
+    omega (arith, r .long, r .most, y .take-in .kept .1 .1 .1 .1 .1 .0)
 
 array-share-prefix-new-2 : tie.Need-array-share-prefix-new-2
 array-share-prefix-new-2 c = fits-new (c .before .before .before .before .before .before .before .before .before)
@@ -126,78 +137,56 @@ array-share-prefix-buf c = fits-buf (c .before .before .before)
 slice-aggregate-new-place-2 : tie.Need-slice-aggregate-new-place-2
 slice-aggregate-new-place-2 c = sym (length-take-le _ _ (fits-buf (c .before .before .before .before)))
 
-slice-aggregate-rise : tie.Need-slice-aggregate-rise
-slice-aggregate-rise c = search needs
+slice-aggregate-cascade : tie.Need-slice-aggregate-cascade
+slice-aggregate-cascade c = search needs
 
 new-place-requires : tie.Need-new-place-requires
 new-place-requires c κs =
-    let x = c .before .before .before .before in
-    let y = x .before .before .before .before .before .before .before in
-    let w = y .before .before .before .before .before .before .before .before .before .before .before .before .before .before .before .pre in
-    let e = where-is y w in
-    let t = taken-is x w in
-    seat w (ap (λ (r : Receiver). r .page) e) (pages-is y w) (marks-is y w) (placed-is y w) (ap (λ (r : Receiver). r .at) e) (ap (λ (r : Receiver). r .par) e) (replicate 4608 0) (t .0) (t .1)
-    (sym (target-is w)) (sym (tolerance-is w) ∙ sym (y .before .before .before .before .before .before .before .before .before .before .two .ensures .0))
+    let y = c .before .before .before .before in
+    let x = y .before .before .before .before .before .before .before in
+    let w = start x .pre in
+    let t = taken-is y w in
+    seat w (where-is x w) (setup-of x w) (marks-is x w) (placed-is x w) (replicate bufferSize 0) (t .0) (t .1)
 
-rise-requires : tie.Need-rise-requires
-rise-requires c κs =
-    let x = c .before .before .before .before .before .before .before .before .before .before in
-    let y = x .before .before .before .before .before .before .before in
-    let w = y .before .before .before .before .before .before .before .before .before .before .before .before .before .before .before .pre in
-    let e = where-is y w in
-    let t = taken-is x w in (
-      x .take-in .kept .1 .1 .1 .1 .1 .0,
-      cascade w (ap (λ (r : Receiver). r .page) e) (pages-is y w) (marks-is y w) (placed-is y w) (ap (λ (r : Receiver). r .at) e) (ap (λ (r : Receiver). r .par) e) (replicate 4608 0) (t .0) (t .1)
-          (sym (target-is w)) (sym (tolerance-is w) ∙ sym (y .before .before .before .before .before .before .before .before .before .before .two .ensures .0)) (c .before .before .before .before .before .new-place .ensures .0),
-    )
+cascade-requires : tie.Need-cascade-requires
+cascade-requires c κs =
+    let n = c .before .before .before .before .before in
+    let y = n .before .before .before .before .before in
+    let x = y .before .before .before .before .before .before .before in
+    let w = start x .pre in
+    let t = taken-is y w in
+    let b : List ℕ = replicate bufferSize 0 in
+    let k = cascade-ready w (where-is x w) (setup-of x w) (marks-is x w) (placed-is x w) b (t .0) (t .1) (n .new-place .ensures .0) in
+    (y .take-in .kept .1 .1 .1 .1 .1 .0, k)
 
 same-length : tie.Need-same-length
-same-length c = let x = c .before .before .before .before .before .before .before .before .before .before .before .before .before .before .before .before .before .before .before .before .before .before in c .before .before .before .before .rise .kept .0 ∙ c .before .before .before .before .before .before .before .before .before .before .new-place .kept .0 ∙ x .place-node .kept .0
+same-length c =
+    let n = c .before .before .before .before .before .before .before .before .before .before in
+    c .before .before .before .before .cascade .kept .0 ∙ n .new-place .kept .0
+    ∙ n .before .before .before .before .before .before .before .before .before .before .before .before .place-node .kept .0
 
 returns : tie.Need-returns
 returns c =
     λ w.
-    let x = c .before .before .before .before .before .before .before .before .before .before .before .before .before .before .before in
-    let y = x .before .before .before .before .before .before .before in
-    let e = where-is y w in
-    let pe = ap (λ (r : Receiver). r .page) e in
-    let ae = ap (λ (r : Receiver). r .at) e in
-    let re = ap (λ (r : Receiver). r .par) e in
-    let m = marks-is y w in
-    let z = placed-is y w in
-    let t = taken-is x w in
-    let a = sym (target-is w) in
-    let b = sym (tolerance-is w) ∙ sym (y .before .before .before .before .before .before .before .before .before .before .two .ensures .0) in
-    let n = c .before .before .before .before .before .before .before .before .before .before .new-place .ensures in
-    let i = n .0 in
-    let g = once-done w pe (pages-is y w) m z ae re (replicate 4608 0) (t .0) (t .1) a b i (c .before .before .before .before .rise .ensures (cascade w pe (pages-is y w) m z ae re (replicate 4608 0) (t .0) (t .1) a b i))
-    (n .1 (seat w pe (pages-is y w) m z ae re (replicate 4608 0) (t .0) (t .1) a b) ∙ seat-is w pe (pages-is y w) m z ae re (replicate 4608 0) (t .0) (t .1) a b) in
-    subst (λ (l : ℤ). Grew w (c .before .before .before .before .rise .result .full) (c .before .before .before .before .rise .result .splits) l (c .before .before .before .before .before .before .before .before .before .before .new-place .result) (c .before .before .before .before .rise .last .0))
-    (sym (toZ-ofZ {w = w32} (lean-signed (c .before .before .before .before .rise .result .lean) (rw (g .lean) (new-lean w))))) g
+    let a = c .before .before .before .before in
+    let n = a .before .before .before .before .before .before in
+    let y = n .before .before .before .before .before in
+    let x = y .before .before .before .before .before .before .before in
+    let e = where-is x w in
+    let f = setup-of x w in
+    let m = marks-is x w in
+    let z = placed-is x w in
+    let b : List ℕ = replicate bufferSize 0 in
+    let t = taken-is y w in
+    let v = n .new-place .ensures in
+    let r = a .cascade .result in
+    let g = once-done w e f m z b (t .0) (t .1) (v .0) (a .cascade .ensures (cascade-ready w e f m z b (t .0) (t .1) (v .0)))
+    (v .1 (seat w e f m z b (t .0) (t .1)) ∙ seat-is w e f m z b (t .0) (t .1)) in
+    subst (λ (l : ℤ). Inserted w (record { full = r .full; splits = r .splits; lean = l; place = n .new-place .result }) (a .cascade .last .0))
+    (sym (toZ-ofZ {w = w32} (lean-signed (r .lean) (rw (g .lean) (new-lean w))))) g
 
 pub once-spec : {M : Type 1} → statement M
 once-spec =
-    tie.close
-    (tie.spec
-    slice-read-target
-    cast-target
-    two-requires
-    add-two
-    two-requires-2
-    usage-requires
-    find-receiver-requires
-    slice-aggregate-place-node
-    place-node-requires
-    array-share-prefix-new
-    slice-aggregate-take-in
-    slice-aggregate-take-in-2
-    take-in-requires
-    array-share-prefix-new-2
-    slice-aggregate-new-place
-    array-share-prefix-buf
-    slice-aggregate-new-place-2
-    new-place-requires
-    slice-aggregate-rise
-    rise-requires
-    same-length
-    returns)
+    tie.close (tie.spec setup-on-requires label-at-requires usage-requires find-receiver-requires slice-aggregate-place-node place-node-requires
+    array-share-prefix-new slice-aggregate-take-in slice-aggregate-take-in-2 take-in-requires array-share-prefix-new-2 slice-aggregate-new-place
+    array-share-prefix-buf slice-aggregate-new-place-2 new-place-requires slice-aggregate-cascade cascade-requires same-length returns)

@@ -1,4 +1,4 @@
--- `insert::take_in`: the record's bytes, and the new node's place in them.
+-- `grow_insert::take_in`: the record's bytes, and the new node's place in them.
 use native.Mathlib.Omega.{arith}
 use borrow.Author.Needs.{needs}
 use Rattle.grow_insert.specs.Taken.{taken-used, taken-part, taken-place, taken-fits}
@@ -8,11 +8,8 @@ use Rattle.grow_insert.proofs.take_in.Tie as tie
 mul-a : tie.Need-mul-a
 mul-a c = search needs
 
-add-two : tie.Need-add-two
-add-two c = search needs
-
-two-requires : tie.Need-two-requires
-two-requires c κs = search needs
+used-at-requires : tie.Need-used-at-requires
+used-at-requires c κs = search needs
 
 add-e : tie.Need-add-e
 add-e c = search needs
@@ -24,13 +21,13 @@ part-splice-start : tie.Need-part-splice-start
 part-splice-start c = search needs
 
 part-splice-end : tie.Need-part-splice-end
-part-splice-end c = let w = c .before .before .before .before .pre .0 in omega (arith, taken-used w, c .two .ensures .0, w .small, w .on .inside)
+part-splice-end c = let w = c .before .before .before .before .pre .0 in omega (arith, taken-used w, c .used-at .ensures .0, w .small, w .on .inside)
 
 splice-requires : tie.Need-splice-requires
 splice-requires c κs =
     let s = c .before .before .before .before .before .before in
     let w = s .pre .0 in
-    let e = taken-part w _ (c .before .before .two .ensures .0) in
+    let e = taken-part w _ (c .before .before .used-at .ensures .0) in
     let n = taken-fits w _ e in
     (taken-place w _ e, (omega arith, (omega (arith, n, s .pre .1), omega (arith, n))))
 
@@ -38,19 +35,8 @@ same-length : tie.Need-same-length
 same-length c = search needs
 
 returns : tie.Need-returns
-returns c = λ w. c .before .before .splice .ensures (taken-place w _ (taken-part w _ (c .before .before .before .before .before .two .ensures .0)))
+returns c = λ w. c .before .before .splice .ensures (taken-place w _ (taken-part w _ (c .before .before .before .before .before .used-at .ensures .0)))
 
 pub take-in-spec : {M : Type 1} → statement M
 take-in-spec =
-    tie.close
-    (tie.spec
-    mul-a
-    add-two
-    two-requires
-    add-e
-    sub-splice
-    part-splice-start
-    part-splice-end
-    splice-requires
-    same-length
-    returns)
+    tie.close (tie.spec mul-a used-at-requires add-e sub-splice part-splice-start part-splice-end splice-requires same-length returns)

@@ -6,8 +6,10 @@ use native.Mathlib.Omega.{arith}
 use lib.ListN.{length}
 use borrow.Author.Needs.{needs}
 use Rattle.grow_pages.specs.Write.{setPage, pageBytesOf}
-use Rattle.grow_split.specs.Group.{wet, still}
-use Rattle.grow_new_node.specs.Apart.{found-inside, own}
+use Rattle.base_layout.specs.Growing.{pages-of}
+use Rattle.grow_groups.specs.Used.{found-inside}
+use Rattle.grow_groups.specs.Group.{wet, still}
+use Rattle.grow_new_node.specs.Apart.{own}
 use Rattle.grow_new_node.proofs.place_apart.Statement.{statement}
 use Rattle.grow_new_node.proofs.place_apart.Tie as tie
 
@@ -17,18 +19,18 @@ first-free-requires c κs = search needs
 element-write-used : tie.Need-element-write-used
 element-write-used c =
     let s = c .before .before .before .before .before in
-    omega (arith, s .pre .0 .few, found-inside _ _ _ _ _ (s .pre .0) (c .first-free .ensures))
+    omega (arith, s .pre .0 .few, found-inside (s .pre .0) _ (c .first-free .ensures))
 
 put-record-requires : tie.Need-put-record-requires
 put-record-requires c κs =
     let s = c .before .before .before .before .before .before .before in
     let v = s .pre .0 in
-    omega (arith, v .few, v .image, v .start, s .pre .1 .0, found-inside _ _ _ _ _ v (c .before .before .first-free .ensures))
+    omega (arith, v .few, v .image, v .start, s .pre .1 .0, found-inside v _ (c .before .before .first-free .ensures))
 
 put-proxy-requires : tie.Need-put-proxy-requires
 put-proxy-requires c κs =
     let s = c .before .before .before .before .before .before .before in
-    omega (arith, s .pre .0 .few, s .pre .1 .1, found-inside _ _ _ _ _ (s .pre .0) (c .before .before .first-free .ensures))
+    omega (arith, s .pre .0 .few, s .pre .1 .1, found-inside (s .pre .0) _ (c .before .before .first-free .ensures))
 
 same-length : tie.Need-same-length
 same-length c = ⊎-elim (λ w. ap length (w .5) ∙ w .2 .kept .0) (λ w. ap length (w .1)) (c .before .before .before .before .if1 .came)
@@ -40,21 +42,15 @@ returns : tie.Need-returns
 returns c =
     let f = c .before .before .before .before .before in
     let s = f .before .before .before .before .before in
+    let g = s .args .g in
     let q = f .first-free .result in
     let old = s .args .image .now in
-    let new = setPage q (pageBytesOf (s .args .node .now) 1 (s .args .page)) old in
-    let i : c .before .before .before .before .if1 .image ≡ cond (s .args .dry) old new =
-    ⊎-elim (λ w. wet (s .args .dry) _ old new (w .0 .taken) (w .5 ∙ w .2 .ensures)) (λ w. still (s .args .dry) _ old new (w .0 .left) (w .1)) (c .before .before .before .before .if1 .came) in
-    λ st e row l b. own st _ q _ (s .args .dry) row (s .args .node .now) _ old _ _ _ e (f .first-free .ensures st e) l b i (c .before .before .put-proxy .ensures)
+    let new = setPage q (pageBytesOf (s .args .node .now) 1 (g .near)) old in
+    let i : c .before .before .before .before .if1 .image ≡ cond (g .dry) old new =
+    ⊎-elim (λ w. wet (g .dry) _ old new (w .0 .taken) (w .5 ∙ w .2 .ensures)) (λ w. still (g .dry) _ old new (w .0 .left) (w .1))
+    (c .before .before .before .before .if1 .came) in
+    λ st e row l b. own st g e q row (s .args .node .now) _ old _ _ _ (f .first-free .ensures st (pages-of e)) l b i (c .before .before .put-proxy .ensures)
 
 pub place-apart-spec : {M : Type 1} → statement M
 place-apart-spec =
-    tie.close
-    (tie.spec
-    first-free-requires
-    element-write-used
-    put-record-requires
-    put-proxy-requires
-    same-length
-    same-length-2
-    returns)
+    tie.close (tie.spec first-free-requires element-write-used put-record-requires put-proxy-requires same-length same-length-2 returns)

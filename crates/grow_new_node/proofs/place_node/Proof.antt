@@ -1,6 +1,5 @@
 -- By the matrix: the node's own record, or the node itself.
 use mathlib.Core.Path.{sym, _∙_}
-use native.Mathlib.Omega.{arith}
 use borrow.Author.Needs.{needs}
 use Rattle.model.specs.Growth.{asRow}
 use Rattle.model.specs.Row.{nil}
@@ -24,11 +23,10 @@ returns : tie.Need-returns
 returns c =
     let f = c .before .before .before .before in
     let i = f .before .before .before .before in
-    let s = i .before .before .before .before .before .before in
-    let v = s .pre .0 in
+    let s = i .before .before .before .before .before .before .before in
     λ st root r e w t x h eh ex b.
-    placed-apart st x h (s .args .page) w (s .args .dry) (s .args .used .now) (s .args .image .now) (s .args .out .now) (omega (arith, v .few, e)) (omega (arith, v .start, e)) t (λ q k m. v .past q (omega (arith, e)) m)
-    _ _ _ _ (sym (i .before .is-apart .ensures st root r h (x .head) eh ex) ∙ i .if1 .taken) (f .place-apart .ensures st e (asRow st x nil) (as-lone st x) b)
+    placed-apart st x h (s .args .out .now) e (s .pre .0) t _ _ _ _
+    (sym (i .before .is-apart .ensures st root r e h (x .head) eh ex) ∙ i .if1 .taken) (f .place-apart .ensures st e (asRow st x nil) (as-lone st x) b)
 
 copy-in-requires : tie.Need-copy-in-requires
 copy-in-requires c κs = search needs
@@ -42,22 +40,12 @@ same-length-4 c = search needs
 returns-2 : tie.Need-returns-2
 returns-2 c =
     let i = c .before .before .before .before in
-    let s = i .before .before .before .before .before .before in
-    let v = s .pre .0 in
+    let s = i .before .before .before .before .before .before .before in
     λ st root r e w t x h eh ex b.
-    placed-within st x h (s .args .page) w (s .args .dry) (s .args .used .now) (s .args .image .now) (s .args .out .now) (omega (arith, v .few, e)) (omega (arith, v .start, e)) t (λ q k m. v .past q (omega (arith, e)) m)
-    (s .args .node .now) _ (sym (i .before .is-apart .ensures st root r h (x .head) eh ex) ∙ i .if1 .left) b (c .before .before .copy-in .ensures)
+    placed-within st x h (s .args .out .now) e (s .pre .0) t
+    (s .args .node .now) _ (sym (i .before .is-apart .ensures st root r e h (x .head) eh ex) ∙ i .if1 .left) b (c .before .before .copy-in .ensures)
 
 pub place-node-spec : {M : Type 1} → statement M
 place-node-spec =
-    tie.close
-    (tie.spec
-    is-apart-requires
-    place-apart-requires
-    same-length
-    same-length-2
-    returns
-    copy-in-requires
-    same-length-3
-    same-length-4
+    tie.close (tie.spec is-apart-requires place-apart-requires same-length same-length-2 returns copy-in-requires same-length-3 same-length-4
     returns-2)

@@ -8,7 +8,8 @@ add-n : tie.Need-add-n
 add-n c = search needs
 
 put16-requires : tie.Need-put16-requires
-put16-requires c κs = let s = c .before .before .before in omega (arith, s .pre .1, node-kind (s .args .kind) (s .args .label) (s .args .content .now) (s .pre .0 .kinds))
+put16-requires c κs =
+    let s = c .before .before .before in omega (arith, s .pre .1, node-kind (s .args .kind) (s .args .label) (s .args .content .now) (s .pre .0 .kinds))
 
 put16-requires-2 : tie.Need-put16-requires-2
 put16-requires-2 c κs = search needs
@@ -31,17 +32,12 @@ returns c =
     let s = a .before .before .before .before in
     let k = s .args .kind in
     let l = s .args .label in
-    let t = s .args .content .now in
-    (λ st. node-size st k l t (s .pre .0 .kinds), λ st. node-written st k l t (s .pre .0 .kinds) _ _ _ _ _ (s .pre .1) (a .put16 .ensures) (b .put162 .ensures) (e .put163 .ensures) (d .copy-in .ensures))
+    let t = s .args .content .now in (
+      λ st. node-size st k l t (s .pre .0 .kinds),
+      λ st. node-written st k l t (s .pre .0 .kinds) _ _ _ _ _ (s .pre .1) (a .put16 .ensures)
+          (b .put162 .ensures) (e .put163 .ensures) (d .copy-in .ensures),
+    )
 
 pub put-node-spec : {M : Type 1} → statement M
 put-node-spec =
-    tie.close
-    (tie.spec
-    add-n
-    put16-requires
-    put16-requires-2
-    put16-requires-3
-    copy-in-requires
-    same-length
-    returns)
+    tie.close (tie.spec add-n put16-requires put16-requires-2 put16-requires-3 copy-in-requires same-length returns)

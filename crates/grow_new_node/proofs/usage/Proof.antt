@@ -2,12 +2,12 @@
 use mathlib.Core.Path.{refl}
 use Prim.Native.Nat.{_-_, _≤_, max}
 use native.Mathlib.Omega.{arith}
-use Rattle.grow_new_node.specs.Marks.{Filled, marked-start, marked-turn, marked-end}
+use Rattle.grow_new_node.specs.Marks.{MarkedTo, marked-start, marked-turn, marked-end}
 use Rattle.grow_new_node.proofs.usage.Statement.{statement}
 use Rattle.grow_new_node.proofs.usage.Tie as tie
 
 abbrev Inv-loop : tie.InvT-loop
-Inv-loop image pages used₀ p₀ used p = Filled image used p × (p ≤ max 2 pages)
+Inv-loop image pages used₀ p₀ used p = MarkedTo image used p × (p ≤ max 2 pages)
 
 abbrev μ-loop : tie.MeasureT-loop
 μ-loop image pages used₀ p₀ used p = pages - p
@@ -42,16 +42,4 @@ returns c =
 
 pub usage-spec : {M : Type 1} → statement M
 usage-spec =
-    tie.close
-    (tie.spec
-    Inv-loop
-    μ-loop
-    loop-holds
-    mul-used
-    add-used
-    shared-slice-read-used
-    array-write-used
-    add-p
-    loop-less
-    loop-again
-    returns)
+    tie.close (tie.spec Inv-loop μ-loop loop-holds mul-used add-used shared-slice-read-used array-write-used add-p loop-less loop-again returns)

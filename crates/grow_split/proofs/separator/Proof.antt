@@ -1,11 +1,12 @@
--- `split::separator`: the children of the root are split; a root that stays gets its header before them, and its new size after.
--- In each need: s the start, w the record, y, v, o the calls of copy_in, separate and put16; e says what the root is, k that there is room.
+-- `grow_split::separator`: the children of the root are split; a root that stays gets its header before them, and its new size after.
+-- In each need: s the start, w the record, y, v the places after copy_in and separate; e says what the root is, k that there is room.
 use native.Mathlib.Omega.{arith}
 use lib.ListN.{length, length-take}
 use lib.Seq.{length-take-le}
 use mathlib.Core.Path.{sym}
 use Prim.Native.Nat.{_-_}
-use Rattle.grow_split.specs.Severed.{large-long, stays-lone, drops-helper, lone-room, helper-room, large-sep, end-small, done-lone, done-helper}
+use Rattle.grow_split.specs.Severed.{large-long, stays-lone, drops-helper, lone-room, helper-room, large-sep}
+use Rattle.grow_split.specs.Severed.{end-small, done-lone, done-helper}
 use borrow.Author.Needs.{needs}
 use Rattle.grow_split.proofs.separator.Statement.{statement}
 use Rattle.grow_split.proofs.separator.Tie as tie
@@ -25,23 +26,25 @@ copy-in-requires c κs =
 
 separate-requires : tie.Need-separate-requires
 separate-requires c κs =
-    let s = c .before .before .before .before .before .before .before .before .before .before .before .before .before in
+    let y = c .before .before .before .before .before in
+    let s = y .before .before .before .before .before .before .before .before in
     let w = s .pre .1 .1 in
-    let y = c .before .before .before .before .before .copy-in in
-    let e = stays-lone w (c .before .before .before .before .before .before .before .before .if1 .taken) in
-    let k = lone-room w (length (y .last .1 .0) - 6) e (omega (arith, y .kept .1 .0, s .pre .1 .0)) in
-    (s .pre .0, (omega (arith, y .kept .1 .0, s .pre .1 .0), (omega (arith, y .kept .1 .0, s .pre .1 .0), large-sep w (s .args .dry) (s .pre .0) _ k)))
+    let e = stays-lone w (y .before .before .before .if1 .taken) in
+    let k = lone-room w (length (y .copy-in .last .1 .0) - 6) e (omega (arith, y .copy-in .kept .1 .0, s .pre .1 .0)) in
+    let m = y .copy-in .kept .1 .0 in
+    (s .pre .0, (omega (arith, m, s .pre .1 .0), (omega (arith, m, s .pre .1 .0), large-sep w (s .pre .0) _ k)))
 
 put16-requires : tie.Need-put16-requires
 put16-requires c κs =
-    let s = c .before .before .before .before .before .before .before .before .before .before .before .before .before .before .before .before .before .before .before in
+    let v = c .before .before .before .before .before in
+    let y = v .before .before .before .before .before .before in
+    let s = y .before .before .before .before .before .before .before .before in
     let w = s .pre .1 .1 in
-    let y = c .before .before .before .before .before .before .before .before .before .before .before .copy-in in
-    let e = stays-lone w (c .before .before .before .before .before .before .before .before .before .before .before .before .before .before .if1 .taken) in
-    let k = lone-room w (length (y .last .1 .0) - 6) e (omega (arith, y .kept .1 .0, s .pre .1 .0)) in
-    let v = c .before .before .before .before .before .separate in
-    let ml = v .ensures (large-sep w (s .args .dry) (s .pre .0) _ k) in
-    (omega (arith, v .kept .1 .1 .1 .1 .1 .1 .1 .1 .1 .1 .0, y .kept .1 .0, s .pre .1 .0), omega (arith, end-small w (s .args .dry) (s .pre .0) _ k ml, y .kept .1 .0, s .pre .1 .0))
+    let e = stays-lone w (y .before .before .before .if1 .taken) in
+    let k = lone-room w (length (y .copy-in .last .1 .0) - 6) e (omega (arith, y .copy-in .kept .1 .0, s .pre .1 .0)) in
+    let ml = v .separate .ensures (large-sep w (s .pre .0) _ k) in
+    let m = y .copy-in .kept .1 .0 in
+    (omega (arith, v .separate .kept .1 .1 .1 .1 .1 .0, m, s .pre .1 .0), omega (arith, end-small w (s .pre .0) _ k ml, m, s .pre .1 .0))
 
 same-length : tie.Need-same-length
 same-length c = search needs
@@ -52,20 +55,20 @@ same-length-2 c = search needs
 returns : tie.Need-returns
 returns c =
     λ w.
-    let s = c .before .before .before .before .before .before .before .before .before .before .before .before .before .before .before .before .before .before .before .before .before .before in
-    let y = c .before .before .before .before .before .before .before .before .before .before .before .before .before .before .copy-in in
-    let e = stays-lone w (c .before .before .before .before .before .before .before .before .before .before .before .before .before .before .before .before .before .if1 .taken) in
-    let k = lone-room w (length (y .last .1 .0) - 6) e (omega (arith, y .kept .1 .0, s .pre .1 .0)) in
-    let v = c .before .before .before .before .before .before .before .before .separate in
-    let ml = v .ensures (large-sep w (s .args .dry) (s .pre .0) _ k) in
-    done-lone w (s .args .dry) (s .pre .0) _ k e (omega (arith, y .kept .1 .0, s .pre .1 .0)) (y .ensures) ml (c .before .before .put16 .ensures)
+    let v = c .before .before .before .before .before .before .before .before in
+    let y = v .before .before .before .before .before .before in
+    let s = y .before .before .before .before .before .before .before .before in
+    let e = stays-lone w (y .before .before .before .if1 .taken) in
+    let k = lone-room w (length (y .copy-in .last .1 .0) - 6) e (omega (arith, y .copy-in .kept .1 .0, s .pre .1 .0)) in
+    let ml = v .separate .ensures (large-sep w (s .pre .0) _ k) in
+    done-lone w (s .pre .0) _ k e (omega (arith, y .copy-in .kept .1 .0, s .pre .1 .0)) (y .copy-in .ensures) ml (c .before .before .put16 .ensures)
 
 separate-requires-2 : tie.Need-separate-requires-2
 separate-requires-2 c κs =
     let s = c .before .before .before .before .before .before .before .before in
     let w = s .pre .1 .1 in
     let k = helper-room w (length (s .args .out .now) - 0) (drops-helper w (c .before .before .before .if1 .left)) (omega (arith, s .pre .1 .0)) in
-    (s .pre .0, (omega arith, (omega (arith, s .pre .1 .0), large-sep w (s .args .dry) (s .pre .0) _ k)))
+    (s .pre .0, (omega arith, (omega (arith, s .pre .1 .0), large-sep w (s .pre .0) _ k)))
 
 same-length-3 : tie.Need-same-length-3
 same-length-3 c = search needs
@@ -79,21 +82,9 @@ returns-2 c =
     let s = c .before .before .before .before .before .before .before .before .before .before .before .before .before in
     let e = drops-helper w (c .before .before .before .before .before .before .before .before .if1 .left) in
     let k = helper-room w (length (s .args .out .now) - 0) e (omega (arith, s .pre .1 .0)) in
-    done-helper w (s .args .dry) (s .pre .0) _ k e (c .before .before .before .before .separate2 .ensures (large-sep w (s .args .dry) (s .pre .0) _ k))
+    done-helper w (s .pre .0) _ k e (c .before .before .before .before .separate2 .ensures (large-sep w (s .pre .0) _ k))
 
 pub separator-spec : {M : Type 1} → statement M
 separator-spec =
-    tie.close
-    (tie.spec
-    shared-slice-read-if1
-    slice-aggregate-copy-in
-    copy-in-requires
-    separate-requires
-    put16-requires
-    same-length
-    same-length-2
-    returns
-    separate-requires-2
-    same-length-3
-    same-length-4
-    returns-2)
+    tie.close (tie.spec shared-slice-read-if1 slice-aggregate-copy-in copy-in-requires separate-requires put16-requires same-length same-length-2
+    returns separate-requires-2 same-length-3 same-length-4 returns-2)

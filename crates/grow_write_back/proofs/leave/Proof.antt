@@ -1,9 +1,9 @@
--- `step::leave`: a settled record keeps its page; else the mark goes, and a run that writes clears the page.
+-- `grow_write_back::leave`: a settled record keeps its page; else the mark goes, and a run that writes clears the page.
 use mathlib.Core.Path.{refl, ap}
 use mathlib.Core.Bool.{not}
 use Rattle.theory_page_memory.specs.Memory.{blank}
 use Rattle.grow_pages.specs.Write.{setPage}
-use Rattle.grow_split.specs.Group.{wet, still}
+use Rattle.grow_groups.specs.Group.{wet, still}
 use Rattle.grow_write_back.specs.Off.{left-settled, left-marked}
 use borrow.Author.Needs.{needs}
 use Rattle.grow_write_back.proofs.leave.Statement.{statement}
@@ -12,7 +12,7 @@ use Rattle.grow_write_back.proofs.leave.Tie as tie
 returns : tie.Need-returns
 returns c =
     let a = c .before .before .args in
-    λ stays e. left-settled (a .settled) (a .page) (a .dry) (a .used .now) (a .image .now) (c .if1 .taken) stays e
+    λ stays e. left-settled (a .settled) (a .g) (a .used .now) (a .image .now) (c .if1 .taken) stays e
 
 element-write-used : tie.Need-element-write-used
 element-write-used c = search needs
@@ -20,8 +20,8 @@ element-write-used c = search needs
 returns-2 : tie.Need-returns-2
 returns-2 c =
     let a = c .before .before .before .args in
-    λ stays e. left-marked (a .settled) (a .page) (a .dry) (a .used .now) (a .image .now) _ (c .before .if1 .left)
-    (still (a .dry) (a .image .now) (a .image .now) (setPage (a .page) blank (a .image .now)) (ap not (c .if2 .taken)) refl) stays e
+    λ stays e. left-marked (a .settled) (a .g) (a .used .now) (a .image .now) _ (c .before .if1 .left)
+    (still (a .g .dry) (a .image .now) (a .image .now) (setPage (a .g .near) blank (a .image .now)) (ap not (c .if2 .taken)) refl) stays e
 
 clear-page-requires : tie.Need-clear-page-requires
 clear-page-requires c κs = search needs
@@ -32,10 +32,10 @@ same-length c = search needs
 returns-3 : tie.Need-returns-3
 returns-3 c =
     let a = c .before .before .before .before .before .before .before .args in
-    λ stays e. left-marked (a .settled) (a .page) (a .dry) (a .used .now) (a .image .now) _ (c .before .before .before .before .before .if1 .left)
-    (wet (a .dry) _ (a .image .now) (setPage (a .page) blank (a .image .now)) (ap not (c .before .before .before .before .if2 .left)) (c .before .before .clear-page .ensures)) stays e
+    λ stays e. left-marked (a .settled) (a .g) (a .used .now) (a .image .now) _ (c .before .before .before .before .before .if1 .left)
+    (wet (a .g .dry) _ (a .image .now) (setPage (a .g .near) blank (a .image .now)) (ap not (c .before .before .before .before .if2 .left))
+    (c .before .before .clear-page .ensures)) stays e
 
 pub leave-spec : {M : Type 1} → statement M
 leave-spec =
-    tie.close
-    (tie.spec returns element-write-used returns-2 clear-page-requires same-length returns-3)
+    tie.close (tie.spec returns element-write-used returns-2 clear-page-requires same-length returns-3)

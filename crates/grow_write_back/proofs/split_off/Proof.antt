@@ -1,5 +1,6 @@
--- `step::split_off`: the page is left, then the record is split.
+-- `grow_write_back::split_off`: the page is left, then the record is split.
 -- In each need: s the start, w the record, d what `leave` did.
+use Rattle.base_layout.specs.Growing.{target-of}
 use Rattle.grow_write_back.specs.Off.{off-sizes, off-env, off-large, off-done}
 use borrow.Author.Needs.{needs}
 use Rattle.grow_write_back.proofs.split_off.Statement.{statement}
@@ -18,7 +19,8 @@ separator-requires c κs =
     let s = c .before .before .before .before .before .before .before .before .before .before .before .before in
     let w = s .pre .1 .1 in
     let d = c .before .before .before .before .before .before .leave .ensures (w .stays) (w .bit) in
-    (off-env w (s .pre .0) (s .args .dry) (d .0) (d .1), (s .pre .1 .0, off-large w (s .pre .0) (s .args .dry) (d .0) (d .1) (c .before .before .before .split-point .ensures (w .st) (w .targ))))
+    let p = c .before .before .before .split-point .ensures (w .st) (target-of (w .setup)) in
+    (off-env w (s .pre .0) (d .0) (d .1), (s .pre .1 .0, off-large w (s .pre .0) (d .0) (d .1) p))
 
 same-length : tie.Need-same-length
 same-length c = search needs
@@ -31,16 +33,9 @@ returns c =
     λ w.
     let s = c .before .before .before .before .before .before .before .before .before .before .before .before .before .before .before .before .before in
     let d = c .before .before .before .before .before .before .before .before .before .before .before .leave .ensures (w .stays) (w .bit) in
-    let p = c .before .before .before .before .before .before .before .before .split-point .ensures (w .st) (w .targ) in
-    off-done w (s .pre .0) (s .args .dry) (d .0) (d .1) p (c .before .before .before .before .separator .ensures (off-large w (s .pre .0) (s .args .dry) (d .0) (d .1) p))
+    let p = c .before .before .before .before .before .before .before .before .split-point .ensures (w .st) (target-of (w .setup)) in
+    off-done w (s .pre .0) (d .0) (d .1) p (c .before .before .before .before .separator .ensures (off-large w (s .pre .0) (d .0) (d .1) p))
 
 pub split-off-spec : {M : Type 1} → statement M
 split-off-spec =
-    tie.close
-    (tie.spec
-    leave-requires
-    split-point-requires
-    separator-requires
-    same-length
-    same-length-2
-    returns)
+    tie.close (tie.spec leave-requires split-point-requires separator-requires same-length same-length-2 returns)

@@ -1,8 +1,8 @@
--- `split::put_proxy`: four two-byte numbers in a row.
-use Rattle.grow_split.specs.Group.{proxy-written}
+-- `grow_groups::put_proxy`: four two-byte numbers in a row.
+use Rattle.grow_groups.specs.Group.{proxy-written}
 use borrow.Author.Needs.{needs}
-use Rattle.grow_split.proofs.put_proxy.Statement.{statement}
-use Rattle.grow_split.proofs.put_proxy.Tie as tie
+use Rattle.grow_groups.proofs.put_proxy.Statement.{statement}
+use Rattle.grow_groups.proofs.put_proxy.Tie as tie
 
 put16-requires : tie.Need-put16-requires
 put16-requires c κs = search needs
@@ -38,14 +38,4 @@ returns c =
 
 pub put-proxy-spec : {M : Type 1} → statement M
 put-proxy-spec =
-    tie.close
-    (tie.spec
-    put16-requires
-    add-put16
-    put16-requires-2
-    add-put16-2
-    put16-requires-3
-    add-put16-3
-    put16-requires-4
-    same-length
-    returns)
+    tie.close (tie.spec put16-requires add-put16 put16-requires-2 add-put16-2 put16-requires-3 add-put16-3 put16-requires-4 same-length returns)

@@ -1,8 +1,8 @@
--- `step::row_start`: the first byte says whether the record is a helper.
+-- `grow_write_back::first_node`: the first byte says whether the record is a helper.
 use Rattle.grow_write_back.specs.Content.{helper-start, node-start}
 use borrow.Author.Needs.{needs}
-use Rattle.grow_write_back.proofs.row_start.Statement.{statement}
-use Rattle.grow_write_back.proofs.row_start.Tie as tie
+use Rattle.grow_write_back.proofs.first_node.Statement.{statement}
+use Rattle.grow_write_back.proofs.first_node.Tie as tie
 
 shared-slice-read-if1 : tie.Need-shared-slice-read-if1
 shared-slice-read-if1 c = search needs
@@ -13,5 +13,5 @@ returns c = λ row is. helper-start _ row is (c .if1 .taken)
 returns-2 : tie.Need-returns-2
 returns-2 c = λ row is. node-start _ row is (c .if1 .left)
 
-pub row-start-spec : {M : Type 1} → statement M
-row-start-spec = tie.close (tie.spec shared-slice-read-if1 returns returns-2)
+pub first-node-spec : {M : Type 1} → statement M
+first-node-spec = tie.close (tie.spec shared-slice-read-if1 returns returns-2)

@@ -1,0 +1,289 @@
+-- `grow_cascade::cascade`: at each record, growth from there upwards gives what it gave from the first one.
+-- In each need: l the loop's variables, x the place after split_off, w what cascade requires, o and k what the loop goes by, r the record that it is at.
+use mathlib.Core.Path.{_≡_, refl, sym, _∙_}
+use mathlib.Core.Bool.{true, _||_, cond}
+use Prim.Native.Nat.{_+_, _-_, _≤_, _<_}
+use native.Mathlib.Omega.{arith}
+use borrow.Author.Needs.{needs}
+use lib.ListN.{length, take, replicate}
+use lib.Seq.{length-take-le}
+use lib.IntN.{pos}
+use mir.Syntax.{w32}
+use mir.Val.{toZ, ofZ}
+use mir.Facts.{toZ-ofZ}
+use Rattle.model.specs.Limits.{mostPages, capacity}
+use Rattle.model.specs.Row.{recordSize}
+use Rattle.base_layout.specs.Growing.{bufferSize, separatorSize, nearTo}
+use Rattle.grow_split_point.specs.Lean.{lean-signed}
+use Rattle.theory_insert_point.specs.Chain.{lastSettled}
+use Rattle.grow_groups.specs.Used.{Past}
+use Rattle.grow_write_back.specs.Off.{leaves, SplitOff}
+use Rattle.grow_cascade.specs.Rising.{inside, long-image, settled-is, settled-most, holder-is, holder-high, env, leaning, good, off}
+use Rattle.grow_cascade.specs.Low.{content, low-done}
+use Rattle.grow_cascade.specs.Settled.{leanNow, leaning-in, lean-in, severed-long, severed-content, settled-done}
+use Rattle.grow_cascade.specs.Cascade.{Cascade, goalOf, memOf, Onward, onward-start, onward-end, bit-stays, bit-goes, severed-end, Upward, upward}
+use Rattle.grow_cascade.proofs.cascade.Statement.{statement}
+use Rattle.grow_cascade.proofs.cascade.Tie as tie
+
+abbrev Inv-loop : tie.InvT-loop
+Inv-loop image₀ used₀ buf₀ size missing setup dry near₀ len₀ full₀ splits₀ lean₀ image used buf near len full splits lean =
+    ((w : Cascade (record { setup = setup; near = near₀; dry = dry }) size missing 0 (pos 0) buf₀ used₀ image₀)
+    → Onward (goalOf w) (memOf w) image₀ (record { setup = setup; near = near; dry = dry }) len full splits (toZ w32 lean) buf used image)
+    × (length buf ≡ bufferSize)
+
+abbrev μ-loop : tie.MeasureT-loop
+μ-loop image₀ used₀ buf₀ size missing setup dry near₀ len₀ full₀ splits₀ lean₀ image used buf near len full splits lean = mostPages - splits
+
+loop-holds : tie.Need-loop-holds Inv-loop μ-loop
+loop-holds c = (λ w. onward-start w, c .before .before .before .pre .0)
+
+-- what cascade requires
+abbrev Given : tie.Start Inv-loop μ-loop → Type 0
+Given s =
+    let a = s .args in
+    Cascade (a .start) (a .size) (a .missing) 0 (pos 0) (a .buf .now) (a .used .now) (a .image .now)
+
+abbrev at-start : tie.At-loop Inv-loop μ-loop → tie.Start Inv-loop μ-loop
+at-start c = c .before .before .before .before
+
+-- the record that the loop is at
+here : (c : tie.At-loop Inv-loop μ-loop) → let s = c .before .before .before .before in let w = s .pre .1 in let l = c .loop in
+    Onward (goalOf w) (memOf w) (s .args .image .now) (nearTo (s .args .start) (l .near)) (l .len) (l .full) (l .splits) (toZ w32 (l .lean))
+    (l .buf) (l .used) (l .image)
+here c = c .loop .inv .0 (c .before .before .before .before .pre .1)
+
+mul-settled-at : tie.Need-mul-settled-at Inv-loop μ-loop
+mul-settled-at c = omega (arith, inside (here (c .before) .now .rising))
+
+settled-at-requires : tie.Need-settled-at-requires Inv-loop μ-loop
+settled-at-requires c κs = omega (arith, inside (here (c .before) .now .rising))
+
+mul-back-at : tie.Need-mul-back-at Inv-loop μ-loop
+mul-back-at c = omega (arith, inside (here (c .before .before .before) .now .rising))
+
+back-at-requires : tie.Need-back-at-requires Inv-loop μ-loop
+back-at-requires c κs = omega (arith, inside (here (c .before .before .before) .now .rising))
+
+-- the length of the new content
+fits-buffer : (c : tie.At-loop Inv-loop μ-loop) → c .loop .len ≤ length (c .loop .buf)
+fits-buffer c = let r = here c .now .rising in omega (arith, r .long, r .most, c .loop .inv .1)
+
+taken-length : (c : tie.At-loop Inv-loop μ-loop) → c .loop .len ≡ length (take (c .loop .len) (c .loop .buf))
+taken-length c = sym (length-take-le (c .loop .len) (c .loop .buf) (fits-buffer c))
+
+slice-reshare-prefix-keep : tie.Need-slice-reshare-prefix-keep Inv-loop μ-loop
+slice-reshare-prefix-keep c = fits-buffer (c .before .before .before .before .before .before)
+
+slice-aggregate-keep : tie.Need-slice-aggregate-keep Inv-loop μ-loop
+slice-aggregate-keep c = taken-length (c .before .before .before .before .before .before .before)
+
+-- the trailer of its page
+settled-in : (c : tie.After-back-at Inv-loop μ-loop) → (c .before .before .settled-at .result ≤ 1) × (c .back-at .result < mostPages)
+settled-in c =
+    let r = here (c .before .before .before .before) .now .rising in
+    omega (arith, c .before .before .settled-at .ensures .0, settled-most r, c .back-at .ensures .0, holder-is r, holder-high r)
+
+bit-of : (c : tie.After-back-at Inv-loop μ-loop) → let l = c .before .before .before .before in (w : Given (at-start l))
+    → c .before .before .settled-at .result ≡ cond (lastSettled (l .loop .inv .0 w .now .chain)) 1 0
+bit-of c w = c .before .before .settled-at .ensures .0 ∙ settled-is (c .before .before .before .before .loop .inv .0 w .now .rising)
+
+keep-requires : tie.Need-keep-requires Inv-loop μ-loop
+keep-requires c κs =
+    let b = c .before .before .before in
+    let r = here (b .before .before .before .before) .now .rising in
+    let i = inside r in (
+      i .1 .1 .0,
+      (
+        omega (arith, long-image r),
+        (
+          i .1 .0,
+          (
+            settled-in b .0,
+            (settled-in b .1, content r (omega (arith, r .long, c .before .before .if1 .taken))),
+          ),
+        ),
+      ),
+    )
+
+same-length : tie.Need-same-length Inv-loop μ-loop
+same-length c = c .before .before .keep .kept .0 ∙ here (c .before .before .before .before .before .before .before .before .before .before) .same
+
+same-length-2 : tie.Need-same-length-2 Inv-loop μ-loop
+same-length-2 c = search needs
+
+returns : tie.Need-returns Inv-loop μ-loop
+returns c =
+    λ w.
+    let b = c .before .before .before .before .before .before in
+    let o = b .before .before .before .before .loop .inv .0 w in
+    let r = o .now .rising in
+    let fit : recordSize (o .now .row) ≤ capacity = omega (arith, r .long, c .before .before .before .before .before .if1 .taken) in
+    onward-end o (low-done r fit (b .back-at .ensures .0 ∙ holder-is r)
+    (c .before .before .keep .ensures (content r fit) (lastSettled (o .now .chain)) (bit-of b w)))
+
+slice-reshare-prefix-lean-now : tie.Need-slice-reshare-prefix-lean-now Inv-loop μ-loop
+slice-reshare-prefix-lean-now c = fits-buffer (c .before .before .before .before .before)
+
+slice-aggregate-lean-now : tie.Need-slice-aggregate-lean-now Inv-loop μ-loop
+slice-aggregate-lean-now c = taken-length (c .before .before .before .before .before .before)
+
+lean-now-requires : tie.Need-lean-now-requires Inv-loop μ-loop
+lean-now-requires c κs =
+    let r = here (c .before .before .before .before .before .before) .now .rising in
+    (r .range, leaning r (omega (arith, r .long, c .before .if1 .left)))
+
+add-splits : tie.Need-add-splits Inv-loop μ-loop
+add-splits c = omega (arith, here (c .before .before .before .before .before .before .before) .now .rising .short)
+
+slice-reshare-prefix-split-off : tie.Need-slice-reshare-prefix-split-off Inv-loop μ-loop
+slice-reshare-prefix-split-off c = fits-buffer (c .before .before .before .before .before .before .before)
+
+slice-aggregate-split-off : tie.Need-slice-aggregate-split-off Inv-loop μ-loop
+slice-aggregate-split-off c = taken-length (c .before .before .before .before .before .before .before .before)
+
+slice-aggregate-split-off-2 : tie.Need-slice-aggregate-split-off-2 Inv-loop μ-loop
+slice-aggregate-split-off-2 c = refl
+
+split-off-requires : tie.Need-split-off-requires Inv-loop μ-loop
+split-off-requires c κs =
+    let b = c .before .before .before .before .before .before .before in
+    let s = b .before .before .before .before .before .before .before .before in
+    let d = s .args .start .dry in
+    let r = b .before .before .before .before .loop .inv .0 (s .pre .1) .now .rising in
+    (env r d, (refl, off r (omega (arith, r .long, c .before .before .before .before .before .before .if1 .left)) d _ (bit-of b (s .pre .1))))
+
+-- the record is split
+abbrev at-loop : tie.After-split-off Inv-loop μ-loop → tie.At-loop Inv-loop μ-loop
+at-loop x = x .before .before .before .before .before .before .before .before .before .before .before .before
+
+large : (x : tie.After-split-off Inv-loop μ-loop) → let l = at-loop x in (w : Given (at-start l)) → capacity < recordSize (l .loop .inv .0 w .now .row)
+large x w = omega (arith, at-loop x .loop .inv .0 w .now .rising .long, x .before .before .before .before .before .before .before .if1 .left)
+
+cut-of : (x : tie.After-split-off Inv-loop μ-loop) → let l = at-loop x in let s = at-start l in (w : Given s)
+    → let k = l .loop .inv .0 w .now in let z = x .split-off .last .1 in
+    SplitOff (k .st) (nearTo (s .args .start) (l .loop .near)) (k .row) (k .work) (lastSettled (k .chain)) (x .split-off .result)
+    (z .1 .0) (l .loop .image) (z .0) (replicate separatorSize 0) (z .1 .1 .1 .1 .0) × Past (s .args .start .setup .pages) (z .1 .0)
+cut-of x w =
+    let x₁ = x .before .before .before .before .before .before .before in
+    let l = at-loop x in
+    x .split-off .ensures (off (l .loop .inv .0 w .now .rising) (large x w) (at-start l .args .start .dry) _ (bit-of (x₁ .before) w))
+
+lean-of : (x : tie.After-split-off Inv-loop μ-loop) → let y = at-loop x in let l = y .loop in (w : Given (at-start y))
+    → let k =
+    l .inv .0 w .now in toZ w32 (ofZ w32 (x .before .before .before .before .before .lean-now .result)) ≡ leanNow (k .st) (k .row) (l .splits)
+    (toZ w32 (l .lean))
+lean-of x w =
+    let l = at-loop x .loop in
+    let k = l .inv .0 w .now in
+    let t = leaning (k .rising) (large x w) in
+    let e = x .before .before .before .before .before .lean-now .ensures t in
+    toZ-ofZ {w = w32} (lean-signed _ (rw e (lean-in (k .st) (k .row) (l .splits) (toZ w32 (l .lean)) (k .rising .range) (leaning-in t)))) ∙ e
+
+-- the separator is within its array
+ends : (x : tie.After-split-off Inv-loop μ-loop) → x .split-off .result .end ≤ length (x .split-off .last .1 .1 .1 .1 .1 .0)
+ends x =
+    let l = at-loop x in
+    let w = at-start l .pre .1 in
+    let k = l .loop .inv .0 w .now in
+    let v = leaves (k .st) (lastSettled (k .chain)) (l .loop .near) (k .row) (k .work) in
+    severed-end (cut-of x w .0) (omega (arith, good (k .rising) (large x w) v .small))
+
+taken-end : (x : tie.After-split-off Inv-loop μ-loop) → let r = x .split-off .result .end in r ≡ length (take r (x .split-off .last .1 .1 .1 .1 .1 .0))
+taken-end x = sym (length-take-le _ _ (ends x))
+
+array-share-prefix-sep : tie.Need-array-share-prefix-sep Inv-loop μ-loop
+array-share-prefix-sep c = ends (c .before .before .before .before .before .before)
+
+slice-aggregate-keep-2 : tie.Need-slice-aggregate-keep-2 Inv-loop μ-loop
+slice-aggregate-keep-2 c = taken-end (c .before .before .before .before .before .before .before)
+
+-- the split record is settled
+stays-of : (x : tie.After-split-off Inv-loop μ-loop)
+    → let a = x .before .before .before .before .before .before .before .before .before .before in let l = at-loop x in
+    a .settled-at .result ≡ 1 → (w : Given (at-start l)) → lastSettled (l .loop .inv .0 w .now .chain) ≡ true
+stays-of x e w =
+    let b = x .before .before .before .before .before .before .before .before in
+    bit-stays (lastSettled (at-loop x .loop .inv .0 w .now .chain)) _ (bit-of b w) e
+
+keep-requires-2 : tie.Need-keep-requires-2 Inv-loop μ-loop
+keep-requires-2 c κs =
+    let x = c .before .before .before .before .before .before .before in
+    let b = x .before .before .before .before .before .before .before .before in
+    let w = at-start (at-loop x) .pre .1 in
+    let r = at-loop x .loop .inv .0 w .now .rising in
+    let i = inside r in
+    let y = stays-of x (c .before .before .if2 .taken) w in
+    let v = cut-of x w .0 in (
+      i .1 .1 .0,
+      (
+        omega (arith, long-image r, severed-long r (large x w) y v),
+        (i .1 .0, (settled-in b .0, (settled-in b .1, severed-content r (large x w) y v))),
+      ),
+    )
+
+same-length-3 : tie.Need-same-length-3 Inv-loop μ-loop
+same-length-3 c =
+    let x = c .before .before .before .before .before .before .before .before .before .before in
+    c .before .before .keep2 .kept .0 ∙ x .split-off .kept .1 .0 ∙ here (at-loop x) .same
+
+same-length-4 : tie.Need-same-length-4 Inv-loop μ-loop
+same-length-4 c = search needs
+
+returns-2 : tie.Need-returns-2 Inv-loop μ-loop
+returns-2 c =
+    λ w.
+    let x = c .before .before .before .before .before .before .before .before .before .before in
+    let b = x .before .before .before .before .before .before .before .before in
+    let o = at-loop x .loop .inv .0 w in
+    let r = o .now .rising in
+    let y = stays-of x (c .before .before .before .before .before .if2 .taken) w in
+    let v = cut-of x w .0 in
+    onward-end o (settled-done r (large x w) y v (lean-of x w) (b .back-at .ensures .0 ∙ holder-is r)
+    (c .before .before .keep2 .ensures (severed-content r (large x w) y v) (lastSettled (o .now .chain)) (bit-of b w)))
+
+array-share-prefix-sep-2 : tie.Need-array-share-prefix-sep-2 Inv-loop μ-loop
+array-share-prefix-sep-2 c = ends (c .before .before .before .before .before .before)
+
+slice-aggregate-lift : tie.Need-slice-aggregate-lift Inv-loop μ-loop
+slice-aggregate-lift c = taken-end (c .before .before .before .before .before .before .before)
+
+-- the record above
+above : (x : tie.After-split-off Inv-loop μ-loop)
+    → let b = x .before .before .before .before .before .before .before .before in let y = at-loop x in let l = y .loop in let s = at-start y in
+    let z = x .split-off .last .1 in let q = x .split-off .result in (b .before .before .settled-at .result ≡ 1 → ⊥) → (w : Given s)
+    → Upward (goalOf w) (memOf w) (s .args .image .now) (nearTo (s .args .start) (l .near)) (b .back-at .result) (q .end) (l .full || q .full) (l .splits + 1)
+    (toZ w32 (ofZ w32 (x .before .before .before .before .before .lean-now .result))) (l .buf) (z .1 .0) (z .0) (z .1 .1 .1 .1 .0)
+above x e w =
+    let b = x .before .before .before .before .before .before .before .before in
+    let o = at-loop x .loop .inv .0 w in
+    let v = cut-of x w in
+    upward o (large x w) (bit-goes (lastSettled (o .now .chain)) _ (bit-of b w) e) (b .back-at .ensures .0 ∙ holder-is (o .now .rising)) (v .0) (v .1)
+    (lean-of x w)
+
+lift-requires : tie.Need-lift-requires Inv-loop μ-loop
+lift-requires c κs =
+    let x = c .before .before .before .before .before .before .before .before in
+    let l = at-loop x in
+    (above x (c .before .before .before .if2 .left) (at-start l .pre .1) .lift, omega (arith, l .loop .inv .1))
+
+loop-less : tie.Need-loop-less Inv-loop μ-loop
+loop-less c =
+    let x = c .before .before .before .before .before .before .before .before .before .before .before in
+    let a = above x (c .before .before .before .before .before .before .if2 .left) (at-start (at-loop x) .pre .1) in
+    let e = c .before .before .lift .ensures (a .lift) in
+    omega (arith, a .next _ _ (e .0) (e .1) .now .rising .short)
+
+loop-again : tie.Need-loop-again Inv-loop μ-loop
+loop-again c =
+    let x = c .before .before .before .before .before .before .before .before .before .before .before in
+    let t = c .before .before .lift in
+    let n = c .before .before .before .before .before .before .if2 .left in
+    (λ w. let a = above x n w in let e = t .ensures (a .lift) in a .next _ _ (e .0) (e .1), t .kept .1 .1 .1 .1 .0 ∙ at-loop x .loop .inv .1)
+
+pub cascade-spec : {M : Type 1} → statement M
+cascade-spec =
+    tie.close (tie.spec Inv-loop μ-loop loop-holds mul-settled-at settled-at-requires mul-back-at back-at-requires slice-reshare-prefix-keep
+    slice-aggregate-keep keep-requires same-length same-length-2 returns slice-reshare-prefix-lean-now slice-aggregate-lean-now lean-now-requires
+    add-splits slice-reshare-prefix-split-off slice-aggregate-split-off slice-aggregate-split-off-2 split-off-requires array-share-prefix-sep
+    slice-aggregate-keep-2 keep-requires-2 same-length-3 same-length-4 returns-2 array-share-prefix-sep-2 slice-aggregate-lift lift-requires loop-less
+    loop-again)

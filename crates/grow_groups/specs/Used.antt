@@ -1,0 +1,73 @@
+-- The marks of used pages, and the free page that a search finds.
+use mathlib.Core.Path.{_≡_, refl, sym, ap, _∙_}
+use mathlib.Core.Bool.{Bool, true, false, cond, not, true≢false}
+use mathlib.Core.List.{List, []}
+use mathlib.Core.Logic.{_⊎_, inl, inr}
+use Prim.Native.Nat.{ℕ, zero, suc, _*_, _<_, _≤_}
+use native.Mathlib.Omega.{arith}
+use borrow.Author.Tests.{ltb-true, ltb-false}
+use lib.Dec.{eqb, ltb}
+use lib.ListN.{length, set}
+use lib.Seq.{getD-set-other}
+use Rattle.model.specs.Limits.{mostPages, pageSize}
+use Rattle.model.specs.Row.{Config}
+use Rattle.model.specs.Growth.{Work, freeFrom}
+use Rattle.theory_rows.specs.Laws.{cond-case}
+use Rattle.base_layout.specs.declared.Growing.{Growing}
+use Rattle.grow_pages.specs.Write.{usedBy, free-below}
+
+-- The marks say of each page what growth carries along.
+pub record InUse (u : List ℕ) (w : Work) : Type 0 where
+  pub long : length u ≡ mostPages
+  pub same : (x : ℕ) → x < mostPages → usedBy u x ≡ w .used x
+
+-- Pages from n on are marked as used.
+abbrev pub Past : (n : ℕ) → List ℕ → Type 0
+Past n u = (q : ℕ) → n ≤ q → q < mostPages → usedBy u q ≡ true
+
+-- The numbers, the marks and the image that growth goes by.
+pub record Env (g : Growing) (u img : List ℕ) : Type 0 where
+  pub few : g .setup .pages ≤ mostPages
+  pub image : pageSize * g .setup .pages ≤ length img
+  pub low : 1 ≤ g .near
+  pub start : g .near < g .setup .pages
+  pub past : Past (g .setup .pages) u
+
+-- With other marks, and another image of that length.
+pub env-with : {g : Growing} {u img u′ img′ : List ℕ} → Env g u img → length img′ ≡ length img → Past (g .setup .pages) u′ → Env g u′ img′
+env-with env e past = record { few = env .few; image = omega (arith, env .image); low = env .low; start = env .start; past = past }
+
+free-or : (st : Config) (used : ℕ → Bool) (k q : ℕ) → (used (freeFrom st k used q) ≡ false) ⊎ (freeFrom st k used q ≡ 0)
+unfolding freeFrom
+free-or st used zero q = inr refl
+free-or st used (suc k) q =
+    let r = freeFrom st k used (cond (ltb (suc q) (st .pages)) (suc q) 2) in
+    cond-case (λ (i : ℕ). (used i ≡ false) ⊎ (i ≡ 0)) (used q) (λ _. free-or st used k (cond (ltb (suc q) (st .pages)) (suc q) 2)) (λ e. inl e)
+
+-- A page is found inside the image, or it is 0.
+pub free-within : (st : Config) (n near : ℕ) (used : ℕ → Bool) → st .pages ≡ n → n ≤ mostPages → near < n
+    → ((q : ℕ) → n ≤ q → q < mostPages → used q ≡ true) → (k : ℕ) → freeFrom st k used near < n
+free-within st n near used e few start past k =
+    let q = freeFrom st k used near in
+    let h : q < mostPages = free-below st (omega (arith, e)) used k near (omega arith) in
+    go q h (free-or st used k near) (ltb q n) refl
+  where
+    go : (q : ℕ) → q < mostPages → (used q ≡ false) ⊎ (q ≡ 0) → (b : Bool) → ltb q n ≡ b → q < n
+    go q h f true g = ltb-true q n g
+    go q h (inl f) false g = absurd (true≢false (sym (past q (ltb-false q n g) h) ∙ f))
+    go q h (inr f) false g = omega arith
+
+-- Some settings with so many pages: the search for a page reads no other.
+abbrev pub some-config : ℕ → Config
+some-config n = record { pages = n; target = 0; tolerance = 0; form = 0; matrix = [] }
+
+-- The page that the search of the code found is inside the image.
+pub found-inside : {g : Growing} {u img : List ℕ} → Env g u img → (q : ℕ)
+    → ((st : Config) → st .pages ≡ g .setup .pages → q ≡ freeFrom st (g .setup .pages) (usedBy u) (g .near)) → q < g .setup .pages
+found-inside {g} {u} env q f =
+    let n = g .setup .pages in
+    omega (arith, f (some-config n) refl, free-within (some-config n) n (g .near) (usedBy u) refl (env .few) (env .start) (env .past) n)
+
+pub set-past : (n q v : ℕ) (u : List ℕ) → q < n → Past n u → Past n (set u q v)
+unfolding usedBy
+set-past n q v u h past x k m = ap (λ (i : ℕ). not (eqb i 0)) (getD-set-other u q x v 0 (λ e. omega arith)) ∙ past x k m
