@@ -4,7 +4,7 @@ ghost use Prim.Native.Nat.{_+_, _≤_, _<_};
 ghost use lib.ListN.{length, replicate};
 ghost use Rattle.model.specs.Row as row;
 ghost use Rattle.model.specs.Reading.{twoAt};
-ghost use Rattle.model.specs.Calls.{four};
+ghost use Rattle.model.specs.Common.{four};
 ghost use Rattle.base_numbers.specs.Over.{over};
 
 // A byte as a number of the machine.

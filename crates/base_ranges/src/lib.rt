@@ -3,7 +3,7 @@ use model::Settings;
 ghost use mathlib.Core.Path.{_≡_};
 ghost use Rattle.model.specs.Row.{every, isEntry, inRange};
 ghost use Rattle.model.specs.Reading.{lengthOk};
-ghost use Rattle.model.specs.Calls.{config};
+ghost use Rattle.model.specs.Calls.Format.{config};
 
 // Whether an image may have so many bytes: whole pages, 2 to 1,024.
 pub fn length_ok(n: usize) -> bool

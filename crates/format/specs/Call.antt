@@ -10,7 +10,7 @@ use lib.Dec.{eqb}
 use Rattle.model.specs.Limits.{pageSize}
 use Rattle.model.specs.Row.{inRange, image}
 use Rattle.model.specs.Reading.{lengthOk}
-use Rattle.model.specs.Calls.{config, formatNumber, formatOf}
+use Rattle.model.specs.Calls.Format.{config, formatNumber, formatOf}
 use Rattle.model.specs.declared.Settings.{Settings}
 use Rattle.theory_decoding.specs.Valid.{both}
 use Rattle.base_ranges.specs.Long.{length-says}

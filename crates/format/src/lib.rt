@@ -12,7 +12,7 @@ ghost use lib.ListN.{length};
 ghost use lib.Dec.{eqb};
 ghost use Rattle.model.specs.Row as row;
 ghost use Rattle.model.specs.Limits.{pageSize};
-ghost use Rattle.model.specs.Calls.{config, formatOf};
+ghost use Rattle.model.specs.Calls.Format.{config, formatOf};
 ghost use Rattle.format.specs.First.{firstRoot, firstPage, rootPage, zeros, Numbers};
 
 // Where a page's trailer has the length used, that of page 0, and the bytes of pages 0 and 1.

@@ -15,7 +15,8 @@ use Rattle.model.specs.Reading.{Reads}
 use Rattle.model.specs.Tree.{Tree, shown, New, placeOf}
 use Rattle.model.specs.Growth.{Out, asRow}
 use Rattle.model.specs.Answers.{lowest, insertRefused}
-use Rattle.model.specs.Calls.{accept, pathOf, placeOr, namedBy, kindBad, isNone, isLiteral, childrenBelow, insertNumber, newOf, grown, insertOf}
+use Rattle.model.specs.Common.{accept, pathOf, placeOr, namedBy, isNone}
+use Rattle.model.specs.Calls.Insert.{kindBad, isLiteral, childrenBelow, insertNumber, newOf, grown, insertOf}
 use Rattle.model.specs.declared.Place.{Place}
 use Rattle.theory_rows.specs.Fits.{IsByte}
 use Rattle.theory_rows.specs.Store.{NewFits}

@@ -7,7 +7,8 @@ use model::Place;
 use model::Settings;
 ghost use mathlib.Core.Path.{_≡_};
 ghost use Rattle.model.specs.Answers.{insertRefused};
-ghost use Rattle.model.specs.Calls.{checkOf, insertOf};
+ghost use Rattle.model.specs.Calls.Check.{checkOf};
+ghost use Rattle.model.specs.Calls.Insert.{insertOf};
 ghost use Rattle.theory_layout.specs.Widths.{Widths};
 
 fn refused(number: u32) -> InsertAnswer

@@ -11,7 +11,8 @@ use Rattle.model.specs.Limits.{pageSize, longestPath}
 use Rattle.model.specs.Row.{Row, Config}
 use Rattle.model.specs.Tree.{Node, New, shown, named, placeOf}
 use Rattle.model.specs.Reading.{Reads}
-use Rattle.model.specs.Calls.{entries, namedIf, orEmpty, pathOf, isNone, findIn, findOf}
+use Rattle.model.specs.Common.{entries, namedIf, orEmpty, pathOf, isNone}
+use Rattle.model.specs.Calls.Find.{findIn, findOf}
 use Rattle.model.specs.declared.Place.{Place}
 use Rattle.theory_places.specs.Named.{named-place}
 use Rattle.theory_calls.specs.Open.{opens}

@@ -13,7 +13,7 @@ use Rattle.model.specs.Limits.{mostContent}
 use Rattle.model.specs.Row.{Head, Row, nil, size, two, bytes, Config}
 use Rattle.model.specs.Reading.{Reads}
 use Rattle.model.specs.Growth.{class, apart, asRow}
-use Rattle.model.specs.Calls.{newOf, kindBad}
+use Rattle.model.specs.Calls.Insert.{newOf, kindBad}
 use Rattle.theory_decoding.specs.Decode.{config-image}
 use Rattle.theory_decoding.specs.Reading.{reads-valid}
 use Rattle.base_numbers.specs.Over.{over, over-then}

@@ -14,7 +14,7 @@ ghost use lib.ListN.{length};
 ghost use Rattle.model.specs.Limits.{mostPages, pageSize, capacity};
 ghost use Rattle.model.specs.Row.{Head, Row, nil, size, bytes, lone, Config};
 ghost use Rattle.model.specs.Reading.{Reads};
-ghost use Rattle.model.specs.Calls.{newOf};
+ghost use Rattle.model.specs.Calls.Insert.{newOf};
 ghost use Rattle.model.specs.Tree.{New};
 ghost use Rattle.model.specs.Growth.{Work, class, apart, asRow, atRest, freeFrom};
 ghost use Rattle.base_numbers.specs.Over.{over};

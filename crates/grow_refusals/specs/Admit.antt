@@ -13,7 +13,9 @@ use Rattle.model.specs.Row.{Row, Config}
 use Rattle.model.specs.Tree.{Node, shown, named, placeOf}
 use Rattle.model.specs.Reading.{Reads}
 use Rattle.model.specs.Answers.{lowest}
-use Rattle.model.specs.Calls.{entries, namedIf, namedBy, isNone, isLiteral, childrenBelow, newOf, insertNumber, findIn, findOf}
+use Rattle.model.specs.Common.{entries, namedIf, namedBy, isNone}
+use Rattle.model.specs.Calls.Insert.{isLiteral, childrenBelow, newOf, insertNumber}
+use Rattle.model.specs.Calls.Find.{findIn, findOf}
 use Rattle.model.specs.declared.Place.{Place}
 use Rattle.model.specs.declared.FindAnswer.{FindAnswer}
 use Rattle.theory_places.specs.Named.{named-in, named-place}

@@ -9,7 +9,9 @@ use Rattle.model.specs.Tree.{placeAt}
 use Rattle.model.specs.Growth.{grow, inserted, after, kept}
 use Rattle.model.specs.Reading.{lengthOk, twoAt, nodesIn, sameBytes, reading}
 use Rattle.model.specs.Answers.{usualSettings, usualMatrix}
-use Rattle.model.specs.Calls.{config, accept, insertNumber, formatNumber, opened, formatOf, insertOf}
+use Rattle.model.specs.Common.{accept, opened}
+use Rattle.model.specs.Calls.Format.{config, formatNumber, formatOf}
+use Rattle.model.specs.Calls.Insert.{insertNumber, insertOf}
 use Rattle.listing_text.specs.Text.{decimalBy, decimalOf, hexOf, contentOf, lineOf, linesOf, headLine, listingOf, listingOn, printed}
 
 -- Some bytes formatted as three pages with root label 7; then literal 9 with bytes 41 42 at child 0, then aggregate 300 at child 0.

@@ -6,7 +6,7 @@ use lib.ListN.{length}
 use lib.Dec.{ltb, eqb}
 use Rattle.model.specs.Row.{Row, Config}
 use Rattle.model.specs.Tree.{shown, Node, nodes}
-use Rattle.model.specs.Calls.{opened, onStore, recordPages}
+use Rattle.model.specs.Common.{opened, onStore, recordPages}
 
 -- A digit below 16: 0 to 9, then a to f.
 abbrev pub digit : ℕ → ℕ

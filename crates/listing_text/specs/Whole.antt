@@ -9,7 +9,8 @@ use lib.ListN.{length}
 use Rattle.model.specs.Limits.{pageSize, mostBytes}
 use Rattle.model.specs.Row.{Row, size, base, Config}
 use Rattle.model.specs.Reading.{Reads, lengthOk}
-use Rattle.model.specs.Calls.{checkOf, recordPages}
+use Rattle.model.specs.Common.{recordPages}
+use Rattle.model.specs.Calls.Check.{checkOf}
 use Rattle.theory_decoding.specs.Steps.{few-records, few-steps}
 use Rattle.theory_decoding.specs.Reading.{reads-valid, reads-length}
 use Rattle.theory_places.specs.Pages.{pages-few}

@@ -12,7 +12,7 @@ ghost use mathlib.Core.Path.{_≡_};
 ghost use mathlib.Core.List.{[], _∷_};
 ghost use Prim.Native.Nat.{_≤_, _<_};
 ghost use lib.ListN.{length};
-ghost use Rattle.model.specs.Calls.{checkOf};
+ghost use Rattle.model.specs.Calls.Check.{checkOf};
 ghost use Rattle.listing_text.specs.Text.{digit, decimalOf, hexOf, contentOf, lineOf, headLine, refusedLine, listingOn, printed};
 ghost use Rattle.listing_text.specs.Wrote.{Room, Wrote};
 ghost use Rattle.listing_text.specs.Lined.{ownOf, insideOf, At, Fitting, Texted};

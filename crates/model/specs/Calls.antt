@@ -7,20 +7,17 @@ pub mod Climb
 pub mod Read
 pub mod Next
 pub mod Records
-unfoldable pub use Format.{config, formatNumber, rootHead, formatOf, formatCall}
-unfoldable pub use Check.{checkOf, checkCall}
-unfoldable pub use Insert.{kindBad, isLiteral, childrenBelow, insertNumber, newOf, grown, insertOf, insertWork, insertCall}
-unfoldable pub use Find.{findIn, findOf, findCall}
-unfoldable pub use Climb.{climbFrom, climbIn, climbOf, climbCall}
-unfoldable pub use Read.{readFrom, readIn, asRead, readOf, partOf, valueOf, readCall}
-pub use Read.{ReadValue}
-unfoldable pub use Next.{kindOf, nextFrom, nextIn, nextOf, nextCall}
-unfoldable pub use Records.{times, IsOrder, pageBytes, recordsOf, plainRecords, recordsCall}
-unfoldable pub use Rattle.model.specs.Common.{four, pathBytes, entries, namedIf, namedBy, orEmpty, pathOf, accept, isNone, placeOr, write, asOpened, opened, onStore, recordPages, treeOn, placesOn, recordsOn}
-pub use Rattle.model.specs.Common.{Opened, refused, holds}
 use mathlib.Core.List.{List}
 use Prim.Native.Nat.{ℕ}
 use Rattle.model.specs.Effect.{Effect}
+use Format.{formatCall}
+use Check.{checkCall}
+use Insert.{insertCall}
+use Find.{findCall}
+use Climb.{climbCall}
+use Read.{readCall}
+use Next.{nextCall}
+use Records.{recordsCall}
 use Rattle.model.specs.declared.Settings.{Settings}
 use Rattle.model.specs.declared.Place.{Place}
 

@@ -13,7 +13,14 @@ use Rattle.model.specs.Row.{Row, image, Config}
 use Rattle.model.specs.Tree.{shown, New, Node, nodes, placeOf, fromPlace}
 use Rattle.model.specs.Reading.{Reads}
 use Rattle.model.specs.Answers.{lowest, insertRefused}
-use Rattle.model.specs.Calls.{insertNumber, newOf, grown, insertOf, isNone, namedBy, placeOr, pathOf, pathBytes, write, climbIn, climbFrom, nextIn, nextFrom, findIn, findOf, climbOf, readOf, nextOf, pageBytes, recordPages, recordsOf, checkOf}
+use Rattle.model.specs.Common.{isNone, namedBy, placeOr, pathOf, pathBytes, write, recordPages}
+use Rattle.model.specs.Calls.Check.{checkOf}
+use Rattle.model.specs.Calls.Insert.{insertNumber, newOf, grown, insertOf}
+use Rattle.model.specs.Calls.Find.{findIn, findOf}
+use Rattle.model.specs.Calls.Climb.{climbIn, climbFrom, climbOf}
+use Rattle.model.specs.Calls.Read.{readOf}
+use Rattle.model.specs.Calls.Next.{nextIn, nextFrom, nextOf}
+use Rattle.model.specs.Calls.Records.{pageBytes, recordsOf}
 use Rattle.model.specs.declared.Place.{Place}
 use Rattle.model.specs.declared.Next.{Next}
 use Rattle.model.specs.declared.Next.the-variants as next-is

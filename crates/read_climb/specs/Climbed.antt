@@ -12,7 +12,9 @@ use Rattle.model.specs.Row.{Row, Config}
 use Rattle.model.specs.Tree.{shown, Node, named, placeOf}
 use Rattle.model.specs.Reading.{Reads}
 use Rattle.model.specs.Answers.{writeRefused}
-use Rattle.model.specs.Calls.{pathBytes, write, climbIn, climbOf, checkOf}
+use Rattle.model.specs.Common.{pathBytes, write}
+use Rattle.model.specs.Calls.Check.{checkOf}
+use Rattle.model.specs.Calls.Climb.{climbIn, climbOf}
 use Rattle.model.specs.declared.Place.{Place}
 use Rattle.model.specs.declared.WriteAnswer.{WriteAnswer}
 use Rattle.theory_decoding.specs.Reading.{reads-valid}

@@ -9,7 +9,7 @@ use Rattle.model.specs.Limits.{mostPages, pageSize, mostBytes, longestPath}
 use Rattle.model.specs.Row.{Row, base, Config}
 use Rattle.model.specs.Tree.{width, placeAt, placeOf}
 use Rattle.model.specs.Reading.{Reads, backAt}
-use Rattle.model.specs.Calls.{pathBytes}
+use Rattle.model.specs.Common.{pathBytes}
 use Rattle.model.specs.declared.Place.{Place}
 use Rattle.theory_rows.specs.Laws.{breadth-shown}
 use Rattle.theory_decoding.specs.Steps.{steps, few-steps}

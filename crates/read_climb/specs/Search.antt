@@ -9,7 +9,7 @@ use Rattle.model.specs.Limits.{mostBytes, longestPath}
 use Rattle.model.specs.Row.{Row, nil, agg, lit, rec, size}
 use Rattle.model.specs.Tree.{width}
 use Rattle.model.specs.Reading.{sizeAt, nameAt, kindAt}
-use Rattle.model.specs.Calls.{four, pathBytes}
+use Rattle.model.specs.Common.{four, pathBytes}
 use Rattle.theory_decoding.specs.Steps.{steps}
 use Rattle.base_numbers.specs.Over.{over, over-is, length-over}
 use Rattle.theory_row_bytes.specs.RowAt.{sizeOf, restOf}

@@ -7,7 +7,7 @@ use native.Mathlib.Omega.{arith}
 use lib.ListN.{length, getD, drop, length-drop}
 use lib.Seq.{getD-drop, drop-drop}
 use Rattle.model.specs.Reading.{twoAt}
-use Rattle.model.specs.Calls.{entries}
+use Rattle.model.specs.Common.{entries}
 
 -- The four-byte number at i, low byte first.
 unfoldable pub fourAt : (bytes : List ℕ) → (at : ℕ) → ℕ

@@ -13,7 +13,9 @@ use Rattle.model.specs.Row.{Row, nil, agg, lit, rec, size, base, isAgg, Config}
 use Rattle.model.specs.Tree.{shown, width, Node, named, placeAt, placeOf}
 use Rattle.model.specs.Reading.{Reads, sizeAt, kindAt}
 use Rattle.model.specs.Answers.{findRefused}
-use Rattle.model.specs.Calls.{entries, namedIf, orEmpty, isNone, findIn, findOf, checkOf}
+use Rattle.model.specs.Common.{entries, namedIf, orEmpty, isNone}
+use Rattle.model.specs.Calls.Check.{checkOf}
+use Rattle.model.specs.Calls.Find.{findIn, findOf}
 use Rattle.model.specs.declared.Place.{Place}
 use Rattle.model.specs.declared.FindAnswer.{FindAnswer}
 use Rattle.theory_decoding.specs.Steps.{steps, few-steps}

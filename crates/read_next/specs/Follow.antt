@@ -11,7 +11,8 @@ use Rattle.model.specs.Row.{Row, nil, agg, lit, rec, size, base, Config}
 use Rattle.model.specs.Reading.{Reads, nameAt, backAt, kindAt}
 use Rattle.model.specs.Tree.{Node, shown, nodes, placeOf}
 use Rattle.model.specs.Answers.{nextRefused}
-use Rattle.model.specs.Calls.{checkOf, nextOf, kindOf}
+use Rattle.model.specs.Calls.Check.{checkOf}
+use Rattle.model.specs.Calls.Next.{nextOf, kindOf}
 use Rattle.model.specs.declared.Place.{Place}
 use Rattle.model.specs.declared.Kind.{Kind}
 use Rattle.model.specs.declared.NextAnswer.{NextAnswer}

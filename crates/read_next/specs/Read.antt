@@ -12,7 +12,8 @@ use Rattle.model.specs.Row.{Row, nil, agg, lit, rec, size, Config, isAgg}
 use Rattle.model.specs.Reading.{Reads, sizeAt, kindAt, headAt}
 use Rattle.model.specs.Tree.{Node, shown, nodes, placeOf, fromPlace, width}
 use Rattle.model.specs.Answers.{readRefused}
-use Rattle.model.specs.Calls.{checkOf, readOf, readIn, asRead}
+use Rattle.model.specs.Calls.Check.{checkOf}
+use Rattle.model.specs.Calls.Read.{readOf, readIn, asRead}
 use Rattle.model.specs.declared.Place.{Place}
 use Rattle.model.specs.declared.ReadNode.{ReadNode}
 use Rattle.theory_decoding.specs.Reading.{reads-valid, unique}

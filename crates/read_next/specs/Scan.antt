@@ -12,7 +12,7 @@ use Rattle.read_find.specs.Rowed.{startOn, endOn}
 use Rattle.model.specs.Limits.{mostPages, pageSize, capacity, mostBytes}
 use Rattle.model.specs.Row.{Row, size, base, recordSize, Config}
 use Rattle.model.specs.Reading.{Reads, sizeAt, nameAt, usedAt, stateAt, kindAt}
-use Rattle.model.specs.Calls.{checkOf}
+use Rattle.model.specs.Calls.Check.{checkOf}
 use Rattle.model.specs.Tree.{Node, shown, nodes, placeOf}
 use Rattle.model.specs.declared.Place.{Place}
 use Rattle.theory_decoding.specs.Reading.{reads-valid, reads-length}

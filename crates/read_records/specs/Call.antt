@@ -6,7 +6,8 @@ use native.Mathlib.Omega.{arith}
 use lib.ListN.{length, drop}
 use Rattle.model.specs.Limits.{mostPages, pageSize}
 use Rattle.model.specs.Answers.{writeRefused, shortBuffer}
-use Rattle.model.specs.Calls.{pageBytes, checkOf, recordsOf}
+use Rattle.model.specs.Calls.Check.{checkOf}
+use Rattle.model.specs.Calls.Records.{pageBytes, recordsOf}
 use Rattle.model.specs.declared.WriteAnswer.{WriteAnswer}
 use Rattle.base_numbers.specs.Over.{over, over-front}
 use Rattle.theory_decoding.specs.Reading.{reads-valid, reads-length}

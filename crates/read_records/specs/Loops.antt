@@ -5,7 +5,7 @@ use Prim.Native.Nat.{ℕ, suc, _+_, _*_, _≤_, _<_}
 use native.Mathlib.Omega.{arith}
 use lib.ListN.{length}
 use Rattle.model.specs.Row.{two}
-use Rattle.model.specs.Calls.{pageBytes}
+use Rattle.model.specs.Calls.Records.{pageBytes}
 use Rattle.base_numbers.specs.Over.{over, over-next, over-nil, length-over}
 use Rattle.theory_calls.specs.Records.{length-pageBytes}
 use Rattle.theory_places.specs.Marks.{mark}

@@ -10,7 +10,8 @@ use lib.Dec.{leb, ltb, eqb}
 use Rattle.model.specs.Limits.{pageSize}
 use Rattle.model.specs.Row.{Row, Config}
 use Rattle.model.specs.Reading.{Reads}
-use Rattle.model.specs.Calls.{times, recordPages, IsOrder}
+use Rattle.model.specs.Common.{recordPages}
+use Rattle.model.specs.Calls.Records.{times, IsOrder}
 use Rattle.theory_rows.specs.Fits.{Valid}
 use Rattle.theory_decoding.specs.Steps.{named-inside}
 use Rattle.theory_decoding.specs.Reading.{reads-valid, reads-length}

@@ -6,7 +6,8 @@ ghost use mathlib.Core.Path.{_≡_};
 ghost use Prim.Native.Nat.{_-_, _*_, _≤_};
 ghost use lib.ListN.{length};
 ghost use Rattle.model.specs.Limits.{pageSize};
-ghost use Rattle.model.specs.Calls.{pageBytes, checkOf, recordsOf};
+ghost use Rattle.model.specs.Calls.Check.{checkOf};
+ghost use Rattle.model.specs.Calls.Records.{pageBytes, recordsOf};
 ghost use Rattle.base_numbers.specs.Over.{over};
 ghost use Rattle.read_records.specs.Up.{upFrom, upPages};
 

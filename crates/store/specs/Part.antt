@@ -12,7 +12,8 @@ use Rattle.model.specs.Limits.{pageSize}
 use Rattle.model.specs.Row.{Row, Config}
 use Rattle.model.specs.Tree.{shown, Node, nodes, placeOf, fromPlace}
 use Rattle.model.specs.Reading.{Reads}
-use Rattle.model.specs.Calls.{checkOf, readIn, readFrom, asRead, readOf, partOf}
+use Rattle.model.specs.Calls.Check.{checkOf}
+use Rattle.model.specs.Calls.Read.{readIn, readFrom, asRead, readOf, partOf}
 use Rattle.model.specs.declared.Place.{Place}
 use Rattle.theory_decoding.specs.Reading.{reads-valid}
 use Rattle.theory_places.specs.Order.{one-root}

@@ -3,7 +3,13 @@ use mathlib.Core.Path.{_≡_, sym}
 use mathlib.Core.List.{List}
 use Prim.Native.Nat.{ℕ}
 use Rattle.model.specs.Answers.{insertRefused, findRefused, writeRefused, readRefused, nextRefused}
-use Rattle.model.specs.Calls.{checkOf, insertOf, findOf, climbOf, readOf, nextOf, recordsOf}
+use Rattle.model.specs.Calls.Check.{checkOf}
+use Rattle.model.specs.Calls.Insert.{insertOf}
+use Rattle.model.specs.Calls.Find.{findOf}
+use Rattle.model.specs.Calls.Climb.{climbOf}
+use Rattle.model.specs.Calls.Read.{readOf}
+use Rattle.model.specs.Calls.Next.{nextOf}
+use Rattle.model.specs.Calls.Records.{recordsOf}
 use Rattle.model.specs.declared.Place.{Place}
 use Rattle.theory_calls.specs.Open.{refuses}
 

@@ -10,7 +10,7 @@ use lib.ListN.{length}
 use lib.Dec.{eqb}
 use Rattle.model.specs.Row.{Head}
 use Rattle.model.specs.Tree.{Tree, end, branch, leaf, breadth, Node, branchNode, leafNode, below, further, nodes, nodeAt, New, newNode, putAt, insertAt}
-use Rattle.model.specs.Calls.{kindBad}
+use Rattle.model.specs.Calls.Insert.{kindBad}
 use Rattle.model.specs.Claims.{look, OneMore}
 use Rattle.theory_rows.specs.Laws.{cond-case}
 

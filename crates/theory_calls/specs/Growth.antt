@@ -8,7 +8,8 @@ use native.Mathlib.Omega.{arith}
 use borrow.Author.Tests.{ltb-true, ltb-false}
 use lib.ListN.{length}
 use Rattle.model.specs.Tree.{Tree, shown, Node, named, New, insertAt}
-use Rattle.model.specs.Calls.{entries, namedIf, namedBy, orEmpty, pathOf, isNone, isLiteral, childrenBelow, grown}
+use Rattle.model.specs.Common.{entries, namedIf, namedBy, orEmpty, pathOf, isNone}
+use Rattle.model.specs.Calls.Insert.{isLiteral, childrenBelow, grown}
 use Rattle.model.specs.Claims.{look, Growth}
 use Rattle.theory_rows.specs.Laws.{shown-grow}
 use Rattle.theory_rows.specs.Store.{NewFits, valid-grow}

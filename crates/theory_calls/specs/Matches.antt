@@ -11,7 +11,9 @@ use Rattle.model.specs.Limits.{capacity, longestPath}
 use Rattle.model.specs.Row.{Row, store, Held, records, Config, every, isByte}
 use Rattle.model.specs.Tree.{shown, Node, named, placeOf}
 use Rattle.model.specs.Reading.{Reads}
-use Rattle.model.specs.Calls.{entries, namedIf, placeOr, pathBytes, findIn, climbIn, findOf, climbOf}
+use Rattle.model.specs.Common.{entries, namedIf, placeOr, pathBytes}
+use Rattle.model.specs.Calls.Find.{findIn, findOf}
+use Rattle.model.specs.Calls.Climb.{climbIn, climbOf}
 use Rattle.model.specs.Claims.{largest, ClimbsBack, Matches}
 use Rattle.model.specs.declared.Place.{Place}
 use Rattle.theory_rows.specs.Image.{AllFit, fits-records}

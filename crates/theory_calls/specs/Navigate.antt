@@ -12,8 +12,11 @@ use Rattle.model.specs.Row.{Row, store, count, Config}
 use Rattle.model.specs.Tree.{Tree, shown, Node, nodes, placeOf, isPlace, fromPlace}
 use Rattle.model.specs.Reading.{Reads}
 use Rattle.model.specs.Answers.{noPlaceThere, shortBuffer, writeRefused, readRefused, nextRefused}
-use Rattle.model.specs.Calls.{placeOr, write, pathBytes, pageBytes, kindOf, climbIn, readIn, nextIn, nextFrom, climbOf, readOf, nextOf, recordPages, times}
-use Rattle.model.specs.Calls.{IsOrder, recordsOf}
+use Rattle.model.specs.Common.{placeOr, write, pathBytes, recordPages}
+use Rattle.model.specs.Calls.Climb.{climbIn, climbOf}
+use Rattle.model.specs.Calls.Read.{readIn, readOf}
+use Rattle.model.specs.Calls.Next.{kindOf, nextIn, nextFrom, nextOf}
+use Rattle.model.specs.Calls.Records.{pageBytes, times, IsOrder, recordsOf}
 use Rattle.model.specs.declared.Place.{Place}
 use Rattle.model.specs.declared.Next.the-variants as next-is
 use Rattle.model.specs.declared.NextAnswer.{NextAnswer}

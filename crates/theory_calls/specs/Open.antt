@@ -8,7 +8,8 @@ use native.Mathlib.Omega.{arith}
 use lib.ListN.{length}
 use Rattle.model.specs.Row.{Row, Config}
 use Rattle.model.specs.Reading.{Reads, lengthOk, reading}
-use Rattle.model.specs.Calls.{Opened, refused, holds, asOpened, opened, onStore, checkOf}
+use Rattle.model.specs.Common.{Opened, refused, holds, asOpened, opened, onStore}
+use Rattle.model.specs.Calls.Check.{checkOf}
 use Rattle.model.specs.Claims.{CheckExact}
 use Rattle.theory_decoding.specs.Reading.{sound, complete, reads-length-ok}
 

@@ -9,7 +9,7 @@ use borrow.Author.Tests.{ltb-true}
 use lib.ListN.{length}
 use Rattle.model.specs.Row.{every, isByte}
 use Rattle.model.specs.Tree.{Tree, end, branch, leaf, Node, below, further, nodeAt}
-use Rattle.model.specs.Calls.{four, pathBytes, entries, orEmpty, pathOf}
+use Rattle.model.specs.Common.{four, pathBytes, entries, orEmpty, pathOf}
 use Rattle.theory_rows.specs.Keeps.{levels}
 use Rattle.theory_decoding.specs.Valid.{both}
 

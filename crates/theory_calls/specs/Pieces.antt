@@ -8,7 +8,7 @@ use borrow.Author.Tests.{eqb-true, eq-eqb}
 use lib.ListN.{length}
 use lib.Dec.{eqb}
 use Rattle.model.specs.Tree.{Tree, end, branch, leaf, Node, below, further, nodes}
-use Rattle.model.specs.Calls.{times}
+use Rattle.model.specs.Calls.Records.{times}
 use Rattle.theory_places.specs.Member.{Mem, Each, each-++, each-map, each-of}
 
 -- Only a literal has content.

@@ -7,7 +7,7 @@ use borrow.Author.Tests.{eqb-true, eqb-false}
 use lib.ListN.{length, getD}
 use lib.Dec.{eqb}
 use Rattle.model.specs.Reading.{lengthOk}
-use Rattle.model.specs.Calls.{checkOf}
+use Rattle.model.specs.Calls.Check.{checkOf}
 use Rattle.theory_calls.specs.Open.{passing, passes, not-passing}
 use Rattle.theory_check.specs.Check.{trailersOf, walkOk, checkBy}
 use Rattle.theory_check.specs.Complete.{complete}

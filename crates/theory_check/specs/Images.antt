@@ -11,7 +11,7 @@ use borrow.Author.Tests.{eqb-true}
 use Rattle.model.specs.Limits.{pageSize}
 use Rattle.model.specs.Row.{Row, nil, agg, lit, rec, store, Held, records, recordPage, settingsPage, pageAt, pagesFrom, image, Config, count}
 use Rattle.model.specs.Reading.{pageOf}
-use Rattle.model.specs.Calls.{times}
+use Rattle.model.specs.Calls.Records.{times}
 use Rattle.theory_rows.specs.Image.{Stored}
 use Rattle.theory_places.specs.Pages.{pages-count}
 

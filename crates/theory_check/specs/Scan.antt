@@ -8,7 +8,7 @@ use lib.Dec.{leb, eqb}
 use borrow.Author.Tests.{ne-eqb, leb-false}
 use Rattle.model.specs.Row.{Row, nil, agg, lit, rec, store, Held, records, recordPage, pageAt, image, count, Config}
 use Rattle.model.specs.Reading.{pageOf}
-use Rattle.model.specs.Calls.{times}
+use Rattle.model.specs.Calls.Records.{times}
 use Rattle.theory_rows.specs.Fits.{Valid}
 use Rattle.theory_rows.specs.Image.{AllFit, all-fit, image-page}
 use Rattle.theory_decoding.specs.Valid.{names-own}

@@ -10,7 +10,8 @@ use borrow.Author.Tests.{ltb-true, ltb-false, eqb-false}
 use lib.Dec.{ltb}
 use Rattle.model.specs.Row.{Head, Row, nil, agg, lit, rec, lone}
 use Rattle.model.specs.Tree.{_⊞_, shown, width, Node, branchNode, leafNode, below as lower, further, nodeAt, named, New}
-use Rattle.model.specs.Calls.{entries, namedIf, orEmpty, pathOf, isNone, isLiteral, childrenBelow}
+use Rattle.model.specs.Common.{entries, namedIf, orEmpty, pathOf, isNone}
+use Rattle.model.specs.Calls.Insert.{isLiteral, childrenBelow}
 use Rattle.theory_rows.specs.Laws.{cond-case, breadth-shown}
 use Rattle.theory_places.specs.Order.{nodeAt-left, nodeAt-right}
 use Rattle.theory_places.specs.Named.{unmap}

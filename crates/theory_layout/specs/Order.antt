@@ -14,7 +14,7 @@ use Rattle.model.specs.Limits.{mostPages, pageSize, capacity}
 use Rattle.model.specs.Row.{Head, Row, nil, agg, lit, rec, store, size, base, Held, records, recordPage, pageAt, count, outside, Config, recordOn, isAgg}
 use Rattle.model.specs.Reading.{Reads, pageOf, sizeAt, nameAt, stateAt, kindAt}
 use Rattle.model.specs.Tree.{places}
-use Rattle.model.specs.Calls.{times}
+use Rattle.model.specs.Calls.Records.{times}
 use Rattle.model.specs.declared.Place.{Place}
 use Rattle.theory_rows.specs.Fits.{Shape, one, more}
 use Rattle.theory_rows.specs.Laws.{cond-case}

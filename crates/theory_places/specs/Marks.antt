@@ -10,7 +10,8 @@ use lib.Dec.{eqb}
 use Rattle.model.specs.Limits.{pageSize, capacity}
 use Rattle.model.specs.Row.{Row, store, Config, Held, records, pageAt, recordPage}
 use Rattle.model.specs.Reading.{Reads, pageOf, stateAt}
-use Rattle.model.specs.Calls.{times, recordPages}
+use Rattle.model.specs.Common.{recordPages}
+use Rattle.model.specs.Calls.Records.{times}
 use Rattle.theory_rows.specs.Fits.{Valid}
 use Rattle.theory_rows.specs.Image.{AllFit, all-fit, image-page}
 use Rattle.theory_decoding.specs.Decode.{in-trailer}

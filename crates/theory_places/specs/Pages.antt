@@ -8,7 +8,8 @@ use borrow.Author.Tests.{ltb-true, ltb-false, eqb-true, eqb-false, eq-eqb, lt-lt
 use lib.ListN.{length}
 use lib.Dec.{ltb, eqb}
 use Rattle.model.specs.Row.{Row, nil, agg, lit, rec, Held, records, store, count, Config}
-use Rattle.model.specs.Calls.{recordPages, times}
+use Rattle.model.specs.Common.{recordPages}
+use Rattle.model.specs.Calls.Records.{times}
 use Rattle.model.specs.Growth.{freeFrom}
 use Rattle.theory_rows.specs.Fits.{Valid}
 use Rattle.theory_rows.specs.Image.{once}

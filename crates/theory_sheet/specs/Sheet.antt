@@ -11,7 +11,10 @@ use Rattle.model.specs.Tree.{shown, placeAt, placeOf}
 use Rattle.model.specs.Growth.{Out, atRest, grow, inserted, after, kept, close, separator, separate, group, twoGroups, freeFrom, startOf, startOfD, splitPoint}
 use Rattle.model.specs.Reading.{lengthOk, twoAt, pageOf, nodesIn, sameBytes, reading, usedAt}
 use Rattle.model.specs.Answers.{usualSettings, findRefused, insertRefused}
-use Rattle.model.specs.Calls.{config, newOf, accept, placeOr, onStore, insertNumber, findIn, formatNumber, opened, formatOf, insertOf, findOf}
+use Rattle.model.specs.Common.{accept, placeOr, onStore, opened}
+use Rattle.model.specs.Calls.Format.{config, formatNumber, formatOf}
+use Rattle.model.specs.Calls.Insert.{newOf, insertNumber, insertOf}
+use Rattle.model.specs.Calls.Find.{findIn, findOf}
 use Rattle.model.specs.declared.InsertAnswer.{InsertAnswer}
 
 -- An image of n pages with the usual settings, formatted with root label 7.

@@ -15,7 +15,7 @@ use Rattle.model.specs.Row.{Row, nil, size, bytes, Config}
 use Rattle.model.specs.Reading.{Reads}
 use Rattle.model.specs.Tree.{New, shown}
 use Rattle.model.specs.Growth.{asRow}
-use Rattle.model.specs.Calls.{newOf, insertNumber}
+use Rattle.model.specs.Calls.Insert.{newOf, insertNumber}
 use Rattle.model.specs.declared.InsertAnswer.{InsertAnswer}
 use Rattle.theory_rows.specs.Fits.{IsByte}
 use Rattle.theory_rows.specs.Laws.{length-bytes}

@@ -5,7 +5,7 @@ use Prim.Native.Nat.{ℕ}
 use lib.ListN.{length, replicate}
 use borrow.Author.Needs.{needs}
 use Rattle.model.specs.Limits.{matrixEntries}
-use Rattle.model.specs.Calls.{formatOf}
+use Rattle.model.specs.Calls.Format.{formatOf}
 use Rattle.base_numbers.specs.Over.{over-all}
 use Rattle.nichelarder.specs.Numbers.{settings}
 use Rattle.nichelarder.proofs.nl_format.Statement.{statement}

@@ -5,7 +5,7 @@ use native.Mathlib.Omega.{arith}
 use borrow.Author.Needs.{needs}
 use mir.Syntax.{w32}
 use mir.Facts.{toZ-ofZ}
-use Rattle.model.specs.Calls.{insertOf}
+use Rattle.model.specs.Calls.Insert.{insertOf}
 use Rattle.model.specs.declared.InsertAnswer.{InsertAnswer}
 use Rattle.theory_check.specs.Heads.{is-byte}
 use Rattle.grow_split_point.specs.Lean.{lean-signed}

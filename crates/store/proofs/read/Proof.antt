@@ -36,7 +36,7 @@ use denote.Triple.Table.{entered, cited}
 use denote.Triple.Walked.{says, Stays, stay-none, stay-none-slice, walkOf, goes-none, goes-none-slice, Walks, ends-at, walked, walk-meets}
 use denote.Exit.{yes}
 use denote.Triple.Clauses.{ensured, lasts}
-use Rattle.model.specs.Calls.{readOf, partOf}
+use Rattle.model.specs.Calls.Read.{readOf, partOf}
 use Rattle.store.specs.Part.{slice, startIn, byteOf, part-is, part-starts}
 use Rattle.store.specs.declared.ReadAnswer.{ReadAnswer}
 use Rattle.model.specs.declared.ReadNode.{ReadNode}
