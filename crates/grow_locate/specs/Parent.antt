@@ -60,7 +60,7 @@ data Level (c : Chain) (s : Spot) (row : Row) (t : Taking) : Type 0 where
       → isInside (t .spot) ≡ isInside s → Level c s row t
   lower : isInside (t .spot) ≡ false → 1 ≤ count (lastPage (t .chain)) row → Level c s row t
 
-record Behind (c : Chain) (s : Spot) (i : ℕ) (row : Row) (t : Taking) : Type 0 where
+record BehindChild (c : Chain) (s : Spot) (i : ℕ) (row : Row) (t : Taking) : Type 0 where
   wide : i < width row
   level : Level c s row t
 
@@ -77,7 +77,7 @@ at-once : (parent : Head) (c : Chain) (s : Spot) (one rest : Row) (t : Taking) �
 at-once parent c s one rest t e =
     subst (Level c s (one ⊹ rest)) (Option·some-injective _ t e) (same refl (fill-past s one rest) (λ outer pos. parent-past s one outer pos) (inside-past s one))
 
-after-behind : (parent : Head) (c : Chain) (s : Spot) (i : ℕ) (row : Row) (t : Taking) → takingAfter parent c s i row ≡ some t → Behind c s i row t
+after-behind : (parent : Head) (c : Chain) (s : Spot) (i : ℕ) (row : Row) (t : Taking) → takingAfter parent c s i row ≡ some t → BehindChild c s i row t
 unfolding takingAfter
 after-behind parent c s i nil t e = absurd (Option·none-ne-some t e)
 after-behind parent c s zero (agg h cs rest) t e = record { wide = omega arith; level = at-once parent c s (agg h cs nil) rest t e }
@@ -94,9 +94,9 @@ after-behind parent c s i (rec q b r rest) t e =
     go : (u v : Bool) → ltb i (width r) ≡ u
         → cond u (cond v (takingAt parent c (past s (rec q b r nil)) rest) (takingAfter parent (below c s q b rest) (here nil) i r))
         (takingAfter parent c (past s (rec q b r nil)) (i - width r) rest) ≡ some t
-        → (takingAfter parent (below c s q b rest) (here nil) i r ≡ some t → Behind (below c s q b rest) (here nil) i r t)
-        → (takingAfter parent c (past s (rec q b r nil)) (i - width r) rest ≡ some t → Behind c (past s (rec q b r nil)) (i - width r) rest t)
-        → Behind c s i (rec q b r rest) t
+        → (takingAfter parent (below c s q b rest) (here nil) i r ≡ some t → BehindChild (below c s q b rest) (here nil) i r t)
+        → (takingAfter parent c (past s (rec q b r nil)) (i - width r) rest ≡ some t → BehindChild c (past s (rec q b r nil)) (i - width r) rest t)
+        → BehindChild c s i (rec q b r rest) t
     go true true l e f g = record { wide = omega (arith, ltb-true i (width r) l); level = at-once parent c s (rec q b r nil) rest t e }
     go true false l e f g = record { wide = omega (arith, ltb-true i (width r) l); level = enter c s q b r rest t (f e .level) }
     go false v l e f g = record {

@@ -57,7 +57,7 @@ aims img st root reads path child kind label parent content z e =
 -- ── the parent, by find ──
 
 -- The node that a path names, and what is read at the place that find gives.
-pub record Found (img : List ℕ) (root : Row) (path : List ℕ) : Type 0 where
+pub record FoundNode (img : List ℕ) (root : Row) (path : List ℕ) : Type 0 where
   pub node : Node
   pub names : namedBy (shown root) path ≡ some node
   pub read : ReadAt img node (foundAt img path)
@@ -84,7 +84,7 @@ module _ (img : List ℕ) (st : Config) (root : Row) (reads : Reads img st root)
   unfolding findOf findIn
   find-place p n y e f g = rw (opens img st root reads, le-ltb longestPath (length path) (omega arith), e, f, g)
 
-  found-at : (p : List ℕ) (n : Node) → entries path ≡ some p → named (shown root) p ≡ some n → Found img root path
+  found-at : (p : List ℕ) (n : Node) → entries path ≡ some p → named (shown root) p ≡ some n → FoundNode img root path
   found-at p n e f =
       let (y, g) = named-place root p n f in
       let m = named-in (shown root) p n f in
@@ -97,17 +97,17 @@ module _ (img : List ℕ) (st : Config) (root : Row) (reads : Reads img st root)
             (node-read img st root reads n (m .0) y (ap (placeOf root) (m .1) ∙ g));
       }
 
-  pub found : findOf img path .number ≡ 0 → Found img root path
+  pub found : findOf img path .number ≡ 0 → FoundNode img root path
   found z = go (entries path) refl
     where
-      never : namedBy (shown root) path ≡ none → Found img root path
+      never : namedBy (shown root) path ≡ none → FoundNode img root path
       never e = absurd (omega (arith, find-unnamed e))
 
-      at : (p : List ℕ) → entries path ≡ some p → (o : Option Node) → named (shown root) p ≡ o → Found img root path
+      at : (p : List ℕ) → entries path ≡ some p → (o : Option Node) → named (shown root) p ≡ o → FoundNode img root path
       at p e none f = never (ap (namedIf (shown root)) e ∙ f)
       at p e (some n) f = found-at p n e f
 
-      go : (o : Option (List ℕ)) → entries path ≡ o → Found img root path
+      go : (o : Option (List ℕ)) → entries path ≡ o → FoundNode img root path
       go none e = never (ap (namedIf (shown root)) e)
       go (some p) e = at p e (named (shown root) p) refl
 
@@ -161,7 +161,7 @@ module _ (img path : List ℕ) (child kind : ℕ) (content : List ℕ) where
           sym (rw e) ∙ formed st root label
 
       module _ (there : f .number ≡ 0) where
-        parent-found : (st : Config) (root : Row) → Reads img st root → Found img root path
+        parent-found : (st : Config) (root : Row) → Reads img st root → FoundNode img root path
         parent-found st root reads = found img st root reads path (w .short) (sym (ap (λ (f : FindAnswer). f .number) is) ∙ there)
 
         -- The parent's byte,

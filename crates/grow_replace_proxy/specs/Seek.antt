@@ -55,14 +55,14 @@ count-spot (here left) q b r rest = omega (arith, count-⊹ q left (rec q b r re
 count-spot (inside left h right s) q b r rest = omega (arith, count-⊹ q left (agg h (fill s (rec q b r rest)) right), count-spot s q b r rest)
 
 module _ (l : List ℕ) (page pos goal : ℕ) (b : Bool) (old rest : Row) where
-  abbrev Finds : Spot → Type 0
-  Finds s = Left l pos s (rec page b old rest) → goal ≡ at pos s → count page (fill s (rec page b old rest)) ≤ 1
+  abbrev SeekSteps : Spot → Type 0
+  SeekSteps s = Left l pos s (rec page b old rest) → goal ≡ at pos s → count page (fill s (rec page b old rest)) ≤ 1
       → ((q : ℕ) → 1 ≤ count q (fill s (rec page b old rest)) → q < 65536) → SeekStep l page pos goal
 
   room : (s : Spot) → Left l pos s (rec page b old rest) → pos + 8 ≤ length l
   room s v = let n = size-around s (rec page b old rest) in omega (arith, left-first v (omega arith) .within)
 
-  finds-here : Finds (here nil)
+  finds-here : SeekSteps (here nil)
   finds-here v g o n =
       let d = left-first v (omega arith) in
       record {
@@ -73,7 +73,7 @@ module _ (l : List ℕ) (page pos goal : ℕ) (b : Bool) (old rest : Row) where
         past = λ k f. absurd (f (d .kind-is));
       }
 
-  finds-inside : (h : Head) (right : Row) (s : Spot) → Finds (inside nil h right s)
+  finds-inside : (h : Head) (right : Row) (s : Spot) → SeekSteps (inside nil h right s)
   finds-inside h right s v g o n =
       let d = left-first v (omega arith) in
       let z : pos + 0 + 6 ≡ pos + 6 = omega arith in
@@ -94,7 +94,7 @@ module _ (l : List ℕ) (page pos goal : ℕ) (b : Bool) (old rest : Row) where
         past = λ k f. absurd (k (d .kind-is));
       }
 
-  finds-agg : (h : Head) (cs : Row) (t : Spot) → Finds (push (agg h cs nil) t)
+  finds-agg : (h : Head) (cs : Row) (t : Spot) → SeekSteps (push (agg h cs nil) t)
   finds-agg h cs t v g o n =
       let x = rec page b old rest in
       let d = push-first x (agg h cs nil) t v (omega arith) in
@@ -135,7 +135,7 @@ module _ (l : List ℕ) (page pos goal : ℕ) (b : Bool) (old rest : Row) where
         names = λ q f. n q (omega (arith, count-push q a t x));
       }
 
-  finds-lit : (h : Head) (c : List ℕ) (t : Spot) → Finds (push (lit h c nil) t)
+  finds-lit : (h : Head) (c : List ℕ) (t : Spot) → SeekSteps (push (lit h c nil) t)
   finds-lit h c t v g o n =
       let d = push-first (rec page b old rest) (lit h c nil) t v (omega arith) in
       let z : sizeAt l pos ≡ size (lit h c nil) = omega (arith, d .size-is) in
@@ -147,7 +147,7 @@ module _ (l : List ℕ) (page pos goal : ℕ) (b : Bool) (old rest : Row) where
         past = λ k f. (omega arith, rw z (seek-past (lit h c nil) t v g o n));
       }
 
-  finds-rec : (p : ℕ) (s : Bool) (r : Row) (t : Spot) → Finds (push (rec p s r nil) t)
+  finds-rec : (p : ℕ) (s : Bool) (r : Row) (t : Spot) → SeekSteps (push (rec p s r nil) t)
   finds-rec p s r t v g o n =
       let x = rec page b old rest in
       let d = push-first x (rec p s r nil) t v (omega arith) in
@@ -163,8 +163,8 @@ module _ (l : List ℕ) (page pos goal : ℕ) (b : Bool) (old rest : Row) where
         past = λ k f. absurd (f (d .kind-is));
       }
 
-  finds : (s : Spot) → Finds s
-  finds s = spot-case Finds finds-here finds-inside finds-agg finds-lit finds-rec s
+  finds : (s : Spot) → SeekSteps s
+  finds s = spot-case SeekSteps finds-here finds-inside finds-agg finds-lit finds-rec s
 
 pub seek-step : (l : List ℕ) (page pos goal : ℕ) → Seek l page pos goal → SeekStep l page pos goal
 seek-step l page pos goal s = finds l page pos goal (s .settled) (s .old) (s .rest) (s .spot) (s .left) (s .goes) (s .once) (s .names)

@@ -98,7 +98,7 @@ pub record Lined (img : List ℕ) (pos end level depth : ℕ) : Type 0 where
   pub low : level + depth ≤ 4294967296
 
 -- A node of such a row stands from i to next.
-pub record At (img : List ℕ) (i next end level depth : ℕ) : Type 0 where
+pub record LinedNode (img : List ℕ) (i next end level depth : ℕ) : Type 0 where
   pub lined : Lined img i end level depth
   pub some : i < end
   pub long : next ≡ i + sizeAt img i
@@ -119,7 +119,7 @@ insideOf img i next level =
     cond (eqb (kindAt img i) 1) children (cond (eqb (kindAt img i) 3) under none)
 
 -- Its bytes are in the image.
-pub node-fits : {img : List ℕ} {i next end level depth : ℕ} → At img i next end level depth
+pub node-fits : {img : List ℕ} {i next end level depth : ℕ} → LinedNode img i next end level depth
     → (i + 6 ≤ next) × ((next ≤ end) × ((end + 16 ≤ length img) × (end < mostBytes)))
 node-fits a =
     let w = a .lined in
@@ -140,7 +140,7 @@ span-first (agg k cs rest) h = (omega arith, omega arith)
 span-first (lit k c rest) h = (omega arith, omega arith)
 span-first (rec p s r rest) h = (omega arith, omega arith)
 
-module _ {img : List ℕ} {i next end level depth : ℕ} (a : At img i next end level depth) where
+module _ {img : List ℕ} {i next end level depth : ℕ} (a : LinedNode img i next end level depth) where
   page : ℕ
   page = a .lined .page
 
@@ -240,10 +240,10 @@ underway-start {img} {pos} {end} {level} {depth} {at} {out} w =
     record { done = []; rest = w .lined; wrote = nothing at out (omega (arith, w .room .fits)); whole = refl; room = w .room }
 
 abbrev pub at-node : {img : List ℕ} {i end level depth : ℕ} (len : ℕ) → Lined img i end level depth → i < end → len ≡ sizeAt img i
-    → At img i (i + len) end level depth
+    → LinedNode img i (i + len) end level depth
 at-node {img} {i} len w h e = record { lined = w; some = h; long = ap (λ (n : ℕ). i + n) e }
 
-pub lines-at : {img : List ℕ} {i next end level depth : ℕ} → (a : At img i next end level depth) → (x : Extent) → x ≡ insideOf img i next level
+pub lines-at : {img : List ℕ} {i next end level depth : ℕ} → (a : LinedNode img i next end level depth) → (x : Extent) → x ≡ insideOf img i next level
     → NodeLines img i next end level depth x (ownOf img i next level) (a .lined .row)
 lines-at {img} {i} {next} {end} {level} {depth} a x e =
     subst (λ (y : Extent). NodeLines img i next end level depth y (ownOf img i next level) (a .lined .row)) (sym e) (node-lines a)
@@ -305,5 +305,5 @@ module _ (img : List ℕ) (i next level : ℕ) where
   pub own-none : (kindAt img i ≡ 1 → ⊥) → (kindAt img i ≡ 2 → ⊥) → ownOf img i next level ≡ []
   own-none k m = rw (ne-eqb (kindAt img i) 1 k, ne-eqb (kindAt img i) 2 m)
 
-pub named-page : {img : List ℕ} {i next end level depth : ℕ} (p : ℕ) → At img i next end level depth → kindAt img i ≡ 3 → p ≡ nameAt img i → PageIn img p
+pub named-page : {img : List ℕ} {i next end level depth : ℕ} (p : ℕ) → LinedNode img i next end level depth → kindAt img i ≡ 3 → p ≡ nameAt img i → PageIn img p
 named-page {img} p a k e = subst (PageIn img) (sym e) (node-lines a .names k .0)

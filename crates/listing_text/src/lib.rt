@@ -15,7 +15,7 @@ ghost use lib.ListN.{length};
 ghost use Rattle.model.specs.Calls.Check.{checkOf};
 ghost use Rattle.listing_text.specs.Text.{digit, decimalOf, hexOf, contentOf, lineOf, headLine, refusedLine, listingOn, printed};
 ghost use Rattle.listing_text.specs.Wrote.{Room, Wrote};
-ghost use Rattle.listing_text.specs.Lined.{ownOf, insideOf, At, Fitting, Texted};
+ghost use Rattle.listing_text.specs.Lined.{ownOf, insideOf, LinedNode, Fitting, Texted};
 
 // ── numbers, bytes, words ──
 
@@ -143,7 +143,7 @@ pub struct Extent {
 
 // An aggregate holds its children, one level down; a proxy stands for its record's row; a literal holds none.
 fn inside(image: &[u8], i: usize, next: usize, end: usize, level: usize, depth: usize) -> Extent
-    requires { ⌜ At (now image) i next end level depth ⌝ }
+    requires { ⌜ LinedNode (now image) i next end level depth ⌝ }
     ensures { λ r. ⌜ r ≡ insideOf (now (image .entry)) i next level ⌝ }
 {
     if image[i] == 1 {
@@ -179,7 +179,7 @@ fn own(
     out: &mut [u8],
     at: usize,
 ) -> usize
-    requires { ⌜ At (now image) i next end level depth ⌝ }
+    requires { ⌜ LinedNode (now image) i next end level depth ⌝ }
     requires { ⌜ Room (ownOf (now image) i next level) at (now out) ⌝ }
     ensures { λ r. ⌜ Wrote (ownOf (now (image .entry)) i next level) at (now (out .entry)) (now (out .exit)) r ⌝ }
 {

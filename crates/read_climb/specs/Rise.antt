@@ -20,7 +20,7 @@ use Rattle.theory_layout.specs.Items.{Item, node, proxy, items, In, top, sub}
 use Rattle.theory_layout.specs.Order as order
 use Rattle.read_find.specs.Rowed.{startOn, width-steps}
 use Rattle.read_next.specs.Scan.{HeldBy, NodeAt}
-use Rattle.read_climb.specs.Route.{Has, has-split, number, way, Under, Finds, finds, place-levels, Within, lower}
+use Rattle.read_climb.specs.Route.{Has, has-split, number, way, Under, FindsFrom, finds, place-levels, Within, lower}
 use Rattle.read_climb.specs.Search.{Tracing, wayOf, numberOf, Wrote}
 
 -- ── a record and the one that holds its proxy ──
@@ -34,7 +34,7 @@ in-within (sub {page = page} {row = row} i xs ys pos p r e) =
     record { high = omega arith; many = omega arith }
 
 -- The record of `holder`, which has the proxy of the record `row` of `page` at byte pos.
-pub record Parent (root : Row) (page : ℕ) (row : Row) (depth holder : ℕ) : Type 0 where
+pub record Holder (root : Row) (page : ℕ) (row : Row) (depth holder : ℕ) : Type 0 where
   pub above : ℕ
   pub whole : Row
   pub before : List ℕ
@@ -48,7 +48,7 @@ pub record Parent (root : Row) (page : ℕ) (row : Row) (depth holder : ℕ) : T
   pub fewer : depth ≡ suc less
 
 pub parent : {root row : Row} {page holder : ℕ} {before after : List ℕ} {depth : ℕ} → In root page holder row before after depth → (page ≡ 1 → ⊥)
-    → Parent root page row depth holder
+    → Holder root page row depth holder
 parent top k = absurd (k refl)
 parent (sub {holder = holder} {row = row} {before = before} {after = after} {depth = depth} i xs ys pos p r e) k = record {
   above = holder;
@@ -65,7 +65,7 @@ parent (sub {holder = holder} {row = row} {before = before} {after = after} {dep
 }
 
 -- What the search for that proxy asks.
-abbrev pub held : (img : List ℕ) (st : Config) (root : Row) → Reads img st root → (page : ℕ) (row : Row) (depth holder : ℕ) → Parent root page row depth holder
+abbrev pub held : (img : List ℕ) (st : Config) (root : Row) → Reads img st root → (page : ℕ) (row : Row) (depth holder : ℕ) → Holder root page row depth holder
     → HeldBy img holder page
 held img st root reads page row depth holder p = record {
   above = record {
@@ -132,7 +132,7 @@ module _ (img : List ℕ) (st : Config) (root : Row) (reads : Reads img st root)
   pub on-page : OnPage img page (c .holder) (c .row)
   on-page = order.in-page img st root reads (c .is)
 
-  found : Finds page (base (c .row)) (c .row) (number carry (c .has)) (way carry (c .has) ++ c .tail) x
+  found : FindsFrom page (base (c .row)) (c .row) (number carry (c .has)) (way carry (c .has) ++ c .tail) x
   found = finds page carry (c .tail) x (c .item) (pageSize * page + base (c .row)) (c .row) (c .has) (base (c .row)) refl (c .leads)
 
   few : steps (c .row) ≤ mostBytes
@@ -141,10 +141,10 @@ module _ (img : List ℕ) (st : Config) (root : Row) (reads : Reads img st root)
       omega (arith, in-within (c .is) .many, few-steps st root v, v .ranges .many)
 
   -- The record that holds the proxy, as its page's trailer names it.
-  pub parent-at : (holder : ℕ) → holder ≡ backAt img (pageSize * page) → (page ≡ 1 → ⊥) → Parent root page (c .row) (c .depth) holder
-  parent-at holder e k = subst (Parent root page (c .row) (c .depth)) (sym (e ∙ on-page .back)) (parent (c .is) k)
+  pub parent-at : (holder : ℕ) → holder ≡ backAt img (pageSize * page) → (page ≡ 1 → ⊥) → Holder root page (c .row) (c .depth) holder
+  parent-at holder e k = subst (Holder root page (c .row) (c .depth)) (sym (e ∙ on-page .back)) (parent (c .is) k)
 
-  pub above : (holder : ℕ) → Parent root page (c .row) (c .depth) holder → 1 ≤ left
+  pub above : (holder : ℕ) → Holder root page (c .row) (c .depth) holder → 1 ≤ left
   above holder p = omega (arith, c .shallow, p .fewer)
 
   -- What is asked of the trace of the record's row,
@@ -210,7 +210,7 @@ module _ (img : List ℕ) (st : Config) (root : Row) (reads : Reads img st root)
         }
 
     -- Above it the climb goes on at the record's proxy.
-    pub rise-on : (holder next : ℕ) (p : Parent root page (c .row) (c .depth) holder) → next ≡ p .pos → Climb root x holder next index to (left - 1) new
+    pub rise-on : (holder next : ℕ) (p : Holder root page (c .row) (c .depth) holder) → next ≡ p .pos → Climb root x holder next index to (left - 1) new
     unfolding names
     rise-on holder next p q = record {
       holder = p .above;

@@ -142,7 +142,7 @@ Under page (node pos) carry tail x = (carry ≡ 0) × (tail ≡ []) × (x .page 
 Under page (proxy pos p r) carry tail x = (carry < width r) × (placeAt p (base r) carry tail r ≡ some x)
 
 -- A number and a path from a row find a place.
-pub record Finds (page at : ℕ) (row : Row) (i : ℕ) (path : List ℕ) (x : Place) : Type 0 where
+pub record FindsFrom (page at : ℕ) (row : Row) (i : ℕ) (path : List ℕ) (x : Place) : Type 0 where
   pub low : i < width row
   pub place : placeAt page at i path row ≡ some x
 
@@ -155,7 +155,7 @@ module _ (page carry : ℕ) (tail : List ℕ) (x : Place) where
 
   -- The number and way of an item lead to what the item leads to.
   pub finds : (item : Item) (pos : ℕ) (row : Row) (h : Has item pos row) (at : ℕ) → pos ≡ pageSize * page + at → Under page item carry tail x
-      → Finds page at row (number carry h) (way carry h ++ tail) x
+      → FindsFrom page at row (number carry h) (way carry h ++ tail) x
   unfolding placeAt
   finds item pos (agg l cs rest) (agg-here e) at p u =
       let k = here at pos p (subst (λ (z : Item). Under page z carry tail x) e u) in

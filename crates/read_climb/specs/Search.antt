@@ -24,23 +24,23 @@ use Rattle.read_climb.specs.Route.{spot-low, has-past, has-first}
 -- ── a node of the row ──
 
 -- A row that is not empty stands at byte i.
-pub record Standing (img : List ℕ) (i : ℕ) : Type 0 where
+pub record SomeRowAt (img : List ℕ) (i : ℕ) : Type 0 where
   pub page : ℕ
   pub row : Row
   pub here : Here img page i row
   pub some : 6 ≤ size row
   pub few : steps row ≤ mostBytes
 
-pub header-inside : (img : List ℕ) (i : ℕ) → Standing img i → (i + 6 ≤ length img) × (i < mostBytes)
+pub header-inside : (img : List ℕ) (i : ℕ) → SomeRowAt img i → (i + 6 ≤ length img) × (i < mostBytes)
 header-inside img i w =
     let h = w .here in
     let p = h .on in
     omega (arith, w .some, h .room)
 
-pub header-long : (img : List ℕ) (i : ℕ) → Standing img i → 6 ≤ sizeAt img i
+pub header-long : (img : List ℕ) (i : ℕ) → SomeRowAt img i → 6 ≤ sizeAt img i
 header-long img i w = let v = view (w .here) (omega (arith, w .some)) in omega (arith, v .size-is, v .more)
 
-pub plain : (img : List ℕ) (i : ℕ) (w : Standing img i) → (kindAt img i ≡ 3 → ⊥) → 1 ≡ firstWidth (w .row)
+pub plain : (img : List ℕ) (i : ℕ) (w : SomeRowAt img i) → (kindAt img i ≡ 3 → ⊥) → 1 ≡ firstWidth (w .row)
 plain img i w k =
     let h : 0 < size (w .row) = omega (arith, w .some) in
     sym (plain-width (w .row) h (λ e. k (view (w .here) h .kind-is ∙ e)))
@@ -51,7 +51,7 @@ pub record RecordTold (img : List ℕ) (p n : ℕ) : Type 0 where
   pub few : n ≤ mostBytes
   pub told : (c : List ℕ) → Widths img c → getD c p 0 ≡ n
 
-pub record-told : (img : List ℕ) (i p : ℕ) (w : Standing img i) → p ≡ nameAt img i → kindAt img i ≡ 3 → RecordTold img p (firstWidth (w .row))
+pub record-told : (img : List ℕ) (i p : ℕ) (w : SomeRowAt img i) → p ≡ nameAt img i → kindAt img i ≡ 3 → RecordTold img p (firstWidth (w .row))
 record-told img i p w named k = go (w .row) (w .here) (w .some) (w .few)
   where
     go : (row : Row) → Here img (w .page) i row → 6 ≤ size row → steps row ≤ mostBytes → RecordTold img p (firstWidth row)
@@ -84,7 +84,7 @@ has-some pos (agg l cs rest) h = omega arith
 has-some pos (lit l c rest) h = omega arith
 has-some pos (rec p s r rest) h = omega arith
 
-abbrev pub standing : (img : List ℕ) (pos target : ℕ) → Search img pos target → Standing img pos
+abbrev pub standing : (img : List ℕ) (pos target : ℕ) → Search img pos target → SomeRowAt img pos
 standing img pos target w = record {
   page = w .page;
   row = w .row;
@@ -157,7 +157,7 @@ few-before img pos target w = omega (arith, before-steps pos (w .row) (w .has), 
 -- ── down ──
 
 -- The item is not where its node starts: it is a child of that node, or further down.
-pub record Below (img : List ℕ) (target carry at : ℕ) (n passed : ℕ) (path : List ℕ) : Type 0 where
+pub record FurtherDown (img : List ℕ) (target carry at : ℕ) (n passed : ℕ) (path : List ℕ) : Type 0 where
   pub under : Search img (at + 6) target
   pub lower : at + 6 ≤ target
   pub same : n ≡ passed
@@ -165,7 +165,7 @@ pub record Below (img : List ℕ) (target carry at : ℕ) (n passed : ℕ) (path
 
 module _ (img : List ℕ) (target carry : ℕ) (item : Item) (starts : order.at item ≡ target) where
   below-row : (page pos : ℕ) (row : Row) → Here img page pos row → (b : Has item pos row) → steps row ≤ mostBytes → (spot b ≡ target → ⊥)
-      → Below img target carry (spot b) (number carry b) (before b) (way carry b)
+      → FurtherDown img target carry (spot b) (number carry b) (before b) (way carry b)
   below-row page pos (agg l cs rest) h (agg-here e) f k = absurd (k (ap order.at (sym e) ∙ starts))
   below-row page pos (agg l cs rest) h (agg-in b) f k =
       let v = view h (omega arith) in
@@ -240,10 +240,10 @@ module _ (img : List ℕ) (pos target carry at : ℕ) (w : Tracing img pos targe
       }
 
   -- or below it.
-  pub below : (c ≡ target → ⊥) → Below img target carry c (numberOf w) (before (w .search .has)) (wayOf w)
+  pub below : (c ≡ target → ⊥) → FurtherDown img target carry c (numberOf w) (before (w .search .has)) (wayOf w)
   below k =
       let s = w .search in
-      subst (λ (z : ℕ). Below img target carry z (numberOf w) (before (s .has)) (wayOf w)) (sym found)
+      subst (λ (z : ℕ). FurtherDown img target carry z (numberOf w) (before (s .has)) (wayOf w)) (sym found)
       (below-row img target carry (s .item) (s .starts) (s .page) pos (s .row) (s .here) (s .has) (s .few) (λ e. k (found ∙ e)))
 
   pub lower : (c ≡ target → ⊥) → (pos ≤ c) × (c + 6 ≤ target)

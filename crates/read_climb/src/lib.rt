@@ -20,12 +20,12 @@ ghost use Rattle.theory_layout.specs.Widths.{Widths, firstWidth};
 ghost use Rattle.read_next.specs.Scan.{NodeAt};
 ghost use Rattle.read_climb.specs.Route.{spot, before};
 ghost use Rattle.read_climb.specs.Rise.{Rose, placeAtByte};
-ghost use Rattle.read_climb.specs.Search.{Standing, Search, Tracing, numberOf, wayOf, Wrote};
+ghost use Rattle.read_climb.specs.Search.{SomeRowAt, Search, Tracing, numberOf, wayOf, Wrote};
 
 // How many nodes the one at byte i shows: a proxy as many as its record, which `widths` has.
 fn nodes_in(image: &[u8], widths: &[u32; Settings::PAGES], i: usize) -> usize
-    requires { ⌜ Standing (now image) i × Widths (now image) (now widths) ⌝ }
-    ensures { λ r. ⌜ ((w : Standing (now (image .entry)) i) → r ≡ firstWidth (w .row)) ⌝ }
+    requires { ⌜ SomeRowAt (now image) i × Widths (now image) (now widths) ⌝ }
+    ensures { λ r. ⌜ ((w : SomeRowAt (now (image .entry)) i) → r ≡ firstWidth (w .row)) ⌝ }
 {
     if image[i] != 3 {
         return 1;

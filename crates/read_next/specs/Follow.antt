@@ -225,7 +225,7 @@ ahead-node {img} {pos} {n} a f = record {
 }
 
 -- A proxy's nodes are those of its record.
-pub record Under (img : List ℕ) (pos n left : ℕ) : Type 0 where
+pub record RecordAhead (img : List ℕ) (pos n left : ℕ) : Type 0 where
   pub page : ℕ
   pub name : nameAt img n ≡ page
   pub on : PageIn img page
@@ -239,7 +239,7 @@ first-of pos (agg h cs rest) k = (_, _, refl)
 first-of pos (lit h c rest) k = (_, _, refl)
 first-of pos (rec p s r rest) k = (_, _, refl)
 
-pub enter-under : {img : List ℕ} {pos n left : ℕ} (c : Enter img pos n left) → kindAt img n ≡ 3 → Under img pos n left
+pub enter-under : {img : List ℕ} {pos n left : ℕ} (c : Enter img pos n left) → kindAt img n ≡ 3 → RecordAhead img pos n left
 enter-under {img} {pos} {n} {left} c k = go (is-proxy img (a .page) n (a .first) (a .flat .0) k)
   where
     a : Ahead img pos n
@@ -248,7 +248,7 @@ enter-under {img} {pos} {n} {left} c k = go (is-proxy img (a .page) n (a .first)
     on : OnRecord img (a .page)
     on = a .on
 
-    go : (p : ℕ) × (r : Row) × (a .first ≡ proxy n p r) → Under img pos n left
+    go : (p : ℕ) × (r : Row) × (a .first ≡ proxy n p r) → RecordAhead img pos n left
     go q =
         let p = q .0 in
         let r = q .1 in
@@ -299,7 +299,7 @@ ahead-low a = omega (arith, ahead-head a .low, known (a .on) .on .low)
 
 -- The same, as the code finds it: q is the page that the proxy names.
 module _ {img : List ℕ} {pos n left : ℕ} (c : Enter img pos n left) (k : kindAt img n ≡ 3) (q : ℕ) (e : q ≡ nameAt img n) where
-  under : Under img pos n left
+  under : RecordAhead img pos n left
   under = enter-under c k
 
   its-page : under .page ≡ q

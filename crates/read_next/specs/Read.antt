@@ -56,12 +56,12 @@ some-from img x pos a st root r =
 abbrev pub told : Place → Node → ReadNode
 told x n = asRead x (record { number = 0; kind = n .kind; label = n .head .label; children = n .children; content = n .content })
 
-record Told (img : List ℕ) (x : Place) (pos : ℕ) : Type 0 where
+record NodeTold (img : List ℕ) (x : Place) (pos : ℕ) : Type 0 where
   node : Node
   read : ReadAt img node pos
   is : readOf img x ≡ told x node
 
-node-told : (img : List ℕ) (x : Place) (pos : ℕ) → NodeOf img (x .page) (x .offset) pos → Told img x pos
+node-told : (img : List ℕ) (x : Place) (pos : ℕ) → NodeOf img (x .page) (x .offset) pos → NodeTold img x pos
 unfolding readOf readIn
 node-told img x pos a =
     let (n, ms, e, r, p) = some-from img x pos a (a .node .settings) (a .node .root) (a .node .reads) in
@@ -95,7 +95,7 @@ pub record LitTold (img : List ℕ) (x : Place) (pos : ℕ) : Type 0 where
   pub is : litRead img pos ≡ readOf img x
 
 module _ (img : List ℕ) (x : Place) (pos : ℕ) (i : NodeOf img (x .page) (x .offset) pos) where
-  t : Told img x pos
+  t : NodeTold img x pos
   t = node-told img x pos i
 
   r : ReadAt img (t .node) pos

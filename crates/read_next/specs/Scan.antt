@@ -294,7 +294,7 @@ pub record HeldBy (img : List ℕ) (holder page : ℕ) : Type 0 where
   pub split : all above ≡ left ++ proxy pos page row ∷ right
 
 -- What is left from pos on has the proxy that is looked for, and names the page once.
-pub record Sought (img : List ℕ) (holder page target pos : ℕ) : Type 0 where
+pub record ProxySought (img : List ℕ) (holder page target pos : ℕ) : Type 0 where
   pub end : ℕ
   pub left : List Item
   pub right : List Item
@@ -317,7 +317,7 @@ true-names : (img : List ℕ) (pos page : ℕ) → kindAt img pos ≡ 3 → name
 true-names img pos page k n = rw (eq-eqb (kindAt img pos) 3 k) (eq-eqb (nameAt img pos) page n)
 
 module _ {img : List ℕ} {holder page : ℕ} where
-  pub sought-start : (w : HeldBy img holder page) (pos : ℕ) → pos ≡ startOn img holder → Sought img holder page (w .pos) pos
+  pub sought-start : (w : HeldBy img holder page) (pos : ℕ) → pos ≡ startOn img holder → ProxySought img holder page (w .pos) pos
   sought-start w pos e =
       let a = w .above in
       let z : pageSize * holder + base (a .row) ≡ pos = sym (e ∙ known a .start) in
@@ -334,7 +334,7 @@ module _ {img : List ℕ} {holder page : ℕ} where
             (omega (arith, named-items page (pageSize * holder + base (a .row)) (a .row), in-once img (a .settings) (a .root) (a .reads) (a .within) page));
       }
 
-  module _ {target pos : ℕ} (s : Sought img holder page target pos) where
+  module _ {target pos : ℕ} (s : ProxySought img holder page target pos) where
     pub sought-head : HeaderRoom img holder pos
     sought-head = go (s .left) (s .flat)
       where
@@ -361,11 +361,11 @@ module _ {img : List ℕ} {holder page : ℕ} where
             absurd (omega arith)
 
     -- and until then it is further on.
-    pub sought-next : (n : ℕ) → n ≡ step img pos → names img pos page ≡ false → Sought img holder page target n
-    sought-next n e t = subst (Sought img holder page target) (sym e) (go (s .left) (s .flat) (s .once))
+    pub sought-next : (n : ℕ) → n ≡ step img pos → names img pos page ≡ false → ProxySought img holder page target n
+    sought-next n e t = subst (ProxySought img holder page target) (sym e) (go (s .left) (s .flat) (s .once))
       where
         go : (left : List Item) → Flat img holder pos (s .end) (left ++ proxy target page (s .row) ∷ s .right)
-            → named page (left ++ proxy target page (s .row) ∷ s .right) ≤ 1 → Sought img holder page target (step img pos)
+            → named page (left ++ proxy target page (s .row) ∷ s .right) ≤ 1 → ProxySought img holder page target (step img pos)
         go [] f o =
             let p = proxy-of img holder pos target page (s .row) (f .0) in
             absurd (true≢false (sym (true-names img pos page (p .kind) (p .name)) ∙ t))

@@ -93,11 +93,11 @@ module _ (img : List ℕ) (h : Held) (p : PageIn img (h .page)) (e : pageOf img 
 -- ── the first node ──
 
 -- The record that a proxy stands for is on its page.
-abbrev pub Under : (img : List ℕ) (page : ℕ) → Row → Type 0
-Under img page nil = Unit {0}
-Under img page (agg h cs rest) = Unit {0}
-Under img page (lit h c rest) = Unit {0}
-Under img page (rec p s r rest) = OnPage img p page r
+abbrev pub UnderProxy : (img : List ℕ) (page : ℕ) → Row → Type 0
+UnderProxy img page nil = Unit {0}
+UnderProxy img page (agg h cs rest) = Unit {0}
+UnderProxy img page (lit h c rest) = Unit {0}
+UnderProxy img page (rec p s r rest) = OnPage img p page r
 
 -- What is read at the first node of a row, and its parts.
 pub record View (img : List ℕ) (page pos : ℕ) (row : Row) : Type 0 where
@@ -110,7 +110,7 @@ pub record View (img : List ℕ) (page pos : ℕ) (row : Row) : Type 0 where
   pub total : size row ≡ sizeOf row + size (restOf row)
   pub children : Here img page (pos + 6) (kidsOf row)
   pub after : Here img page (pos + sizeOf row) (restOf row)
-  pub under : Under img page row
+  pub under : UnderProxy img page row
 
 -- What a row holds, its first node's children and the nodes behind it hold.
 record Parts (mem : ℕ → List ℕ) (page : ℕ) (row : Row) : Type 0 where
@@ -129,7 +129,7 @@ parts mem page (lit hd c rest) h f m =
 parts mem page (rec p s r rest) h f m =
     record { head = record { label = omega arith }; within = omega arith; kids = (tt, tt); rest = (f .2, m .2); names = λ q. (omega arith, omega arith) }
 
-under-first : (img : List ℕ) (page pos : ℕ) (row : Row) → Here img page pos row → Under img page row
+under-first : (img : List ℕ) (page pos : ℕ) (row : Row) → Here img page pos row → UnderProxy img page row
 under-first img page pos nil v = tt
 under-first img page pos (agg h cs rest) v = tt
 under-first img page pos (lit h c rest) v = tt

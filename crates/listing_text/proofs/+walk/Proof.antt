@@ -4,7 +4,7 @@ use native.Mathlib.Omega.{arith}
 use Prim.Native.Nat.{ℕ, _+_, _-_, _<_}
 use borrow.Fn.Kinds.{In}
 use borrow.Fn.PlainCycle.{Measures, is, falls, and}
-use Rattle.listing_text.specs.Lined.{rowText, Lined, At, node-fits, NodeLines, Underway, ownOf, at-node, lines-at, underway-start, own-room}
+use Rattle.listing_text.specs.Lined.{rowText, Lined, LinedNode, node-fits, NodeLines, Underway, ownOf, at-node, lines-at, underway-start, own-room}
 use Rattle.listing_text.specs.Lined.{inside-fitting, underway-on, underway-end}
 use Rattle.listing_text.proofs.walk.Reads as walk
 use Rattle.listing_text.proofs.walk.Kinds as walk-kinds
@@ -43,7 +43,7 @@ here t c = c .loop .inv _ (underway-start (c .before .before .before .pre .1))
 -- The node at i.
 abbrev node : (t : ℕ) (c : walk-lts.After-size-at (claims t) (walk-at t) walk.Post Inv-loop μ-loop)
     → let l = c .before .before in let a = l .before .before .before .args in
-    (w : Lined (a .image .now) (l .loop .i) (a .end) (a .level) (a .depth)) → At (a .image .now) (l .loop .i) (l .loop .i + c .size-at .result) (a .end)
+    (w : Lined (a .image .now) (l .loop .i) (a .end) (a .level) (a .depth)) → LinedNode (a .image .now) (l .loop .i) (l .loop .i + c .size-at .result) (a .end)
     (a .level) (a .depth)
 node t c w = at-node _ w (c .before .loop-test .taken) (c .size-at .ensures .0)
 

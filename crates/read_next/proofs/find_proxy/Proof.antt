@@ -3,12 +3,12 @@ use Prim.Native.Nat.{_-_, _+_, _*_}
 use mathlib.Core.Path.{sym, _∙_}
 use native.Mathlib.Omega.{arith}
 use Rattle.model.specs.Limits.{pageSize}
-use Rattle.read_next.specs.Scan.{known, HeldBy, Sought, sought-start, sought-head, sought-next, sought-hit}
+use Rattle.read_next.specs.Scan.{known, HeldBy, ProxySought, sought-start, sought-head, sought-next, sought-hit}
 use Rattle.read_next.proofs.find_proxy.Statement.{statement}
 use Rattle.read_next.proofs.find_proxy.Tie as tie
 
 abbrev Inv-loop : tie.InvT-loop
-Inv-loop image holder page pos₀ pos = (w : HeldBy image holder page) → Sought image holder page (w .pos) pos
+Inv-loop image holder page pos₀ pos = (w : HeldBy image holder page) → ProxySought image holder page (w .pos) pos
 
 abbrev μ-loop : tie.MeasureT-loop
 μ-loop image holder page pos₀ pos = pageSize * holder + pageSize - pos
