@@ -6,64 +6,25 @@ use mathlib.Core.Option.{some}
 use Prim.Native.Nat.{ℕ, _+_, _<_, _≤_}
 use native.Mathlib.Omega.{arith}
 use borrow.Author.Tests.{ne-eqb}
-use lib.Dec.{ltb}
 use lib.ListN.{length}
 use lib.IntN.{ℤ}
-use Rattle.model.specs.Limits.{mostContent, longestParent}
 use Rattle.model.specs.Row.{Row, nil, bytes, image, Config}
 use Rattle.model.specs.Reading.{Reads}
-use Rattle.model.specs.Tree.{Tree, shown, New, placeOf}
+use Rattle.model.specs.Tree.{shown, New, placeOf}
 use Rattle.model.specs.Growth.{Out, asRow}
-use Rattle.model.specs.Answers.{lowest, insertRefused}
-use Rattle.model.specs.Common.{accept, pathOf, placeOr, namedBy, isNone}
-use Rattle.model.specs.Calls.Insert.{kindBad, isLiteral, childrenBelow, insertNumber, newOf, grown, insertOf}
+use Rattle.model.specs.Answers.{insertRefused}
+use Rattle.model.specs.Common.{accept, pathOf, placeOr}
+use Rattle.model.specs.Calls.Insert.{insertNumber, newOf, grown, insertOf}
 use Rattle.model.specs.declared.Place.{Place}
 use Rattle.theory_rows.specs.Fits.{IsByte}
 use Rattle.theory_rows.specs.Store.{NewFits}
 use Rattle.theory_calls.specs.Open.{opens}
 use Rattle.theory_calls.specs.Paths.{path-length}
-use Rattle.theory_calls.specs.Insert.{Accepted, accepted}
+use Rattle.theory_calls.specs.Insert.{Accepted, accepted, full-last, full-unasked}
 use Rattle.grow_locate.specs.Receive.{LeftAt}
 use Rattle.grow_refusals.specs.Admit.{foundAt, aims}
 use Rattle.grow_new_node.specs.Node.{Sound}
 use Rattle.grow_run.specs.Begin.{Begin}
-
--- ── the number ──
-
--- A full store is the last test.
-same-test : (a b c d e f g : Bool) → (lowest ((4, a) ∷ (5, b) ∷ (6, c) ∷ (7, d) ∷ (8, e) ∷ (9, f) ∷ (12, false) ∷ []) ≡ 0 → ⊥)
-    → lowest ((4, a) ∷ (5, b) ∷ (6, c) ∷ (7, d) ∷ (8, e) ∷ (9, f) ∷ (12, false) ∷ []) ≡ lowest
-    ((4, a) ∷ (5, b) ∷ (6, c) ∷ (7, d) ∷ (8, e) ∷ (9, f) ∷ (12, g) ∷ [])
-same-test true b c d e f g z = refl
-same-test false true c d e f g z = refl
-same-test false false true d e f g z = refl
-same-test false false false true e f g z = refl
-same-test false false false false true f g z = refl
-same-test false false false false false true g z = refl
-same-test false false false false false false g z = absurd (z refl)
-
-last-test : (a b c d e f : Bool) → lowest ((4, a) ∷ (5, b) ∷ (6, c) ∷ (7, d) ∷ (8, e) ∷ (9, f) ∷ (12, false) ∷ []) ≡ 0
-    → 12 ≡ lowest ((4, a) ∷ (5, b) ∷ (6, c) ∷ (7, d) ∷ (8, e) ∷ (9, f) ∷ (12, true) ∷ [])
-last-test true b c d e f z = absurd (omega arith)
-last-test false true c d e f z = absurd (omega arith)
-last-test false false true d e f z = absurd (omega arith)
-last-test false false false true e f z = absurd (omega arith)
-last-test false false false false true f z = absurd (omega arith)
-last-test false false false false false true z = absurd (omega arith)
-last-test false false false false false false z = refl
-
-module _ (t : Tree) (path : List ℕ) (k : ℕ) (x : New) where
-  number-before : (full : Bool) → (insertNumber t path k x false ≡ 0 → ⊥) → insertNumber t path k x false ≡ insertNumber t path k x full
-  unfolding insertNumber
-  number-before full z =
-      let p = namedBy t path in
-      same-test (ltb longestParent (length path)) (kindBad x) (ltb mostContent (length (x .content))) (isNone p) (isLiteral p) (childrenBelow k p) full z
-
-  number-full : insertNumber t path k x false ≡ 0 → 12 ≡ insertNumber t path k x true
-  unfolding insertNumber
-  number-full z =
-      let p = namedBy t path in
-      last-test (ltb longestParent (length path)) (kindBad x) (ltb mostContent (length (x .content))) (isNone p) (isLiteral p) (childrenBelow k p) z
 
 -- ── the answer ──
 
@@ -91,12 +52,12 @@ module _ {img : List ℕ} {st : Config} {root : Row} (r : Reads img st root) (pa
   -- Refused by its tests.
   pub refused-early : (n : ℕ) → n ≡ insertNumber (shown root) path child X false → (n ≡ 0 → ⊥)
       → (insertRefused n, img) ≡ insertOf img path child kind label content
-  refused-early n e z = refused-is n (e ∙ number-before (shown root) path child X (made .1 .full) (λ k. z (e ∙ k))) z
+  refused-early n e z = refused-is n (e ∙ full-unasked (shown root) path child X (made .1 .full) (λ k. z (e ∙ k))) z
 
   module _ (zero : 0 ≡ insertNumber (shown root) path child X false) where
     -- Refused since no page was left.
     pub refused-full : true ≡ made .1 .full → (insertRefused 12, img) ≡ insertOf img path child kind label content
-    refused-full f = refused-is 12 (number-full (shown root) path child X (sym zero) ∙ ap (insertNumber (shown root) path child X) f) (λ e. omega arith)
+    refused-full f = refused-is 12 (sym (full-last (shown root) path child X (made .1 .full) .1 (sym zero, sym f))) (λ e. omega arith)
 
     tests : Accepted (shown root) path child X false
     tests = accepted (shown root) path child X false (sym zero)

@@ -46,13 +46,7 @@ lowest-given n [] z o e = z (sym e)
 lowest-given n ((k, true) ∷ ts) z o e = o .0 e
 lowest-given n ((k, false) ∷ ts) z o e = lowest-given n ts z (o .1) e
 
--- A last test is asked where no other applies,
-pub last-asked : (ts : List (ℕ × Bool)) (n : ℕ) (b : Bool) → Without 0 ts → lowest ts ≡ 0 → lowest (ts ++ (n, b) ∷ []) ≡ cond b n 0
-last-asked [] n b o e = refl
-last-asked ((k, true) ∷ ts) n b o e = absurd (o .0 e)
-last-asked ((k, false) ∷ ts) n b o e = last-asked ts n b (o .1) e
-
--- and changes nothing where another does, or where it does not apply.
+-- A last test changes nothing where another applies, or where it does not.
 pub last-unasked : (ts : List (ℕ × Bool)) (n : ℕ) (b : Bool) → (lowest ts ≡ 0 → ⊥) → lowest (ts ++ (n, b) ∷ []) ≡ lowest ts
 last-unasked [] n b z = absurd (z refl)
 last-unasked ((k, true) ∷ ts) n b z = refl
