@@ -1,5 +1,5 @@
 -- The numbers of document 01 that limit an image, a record or a call, each under one name.
-use Prim.Native.Nat.{ℕ, _+_, _*_}
+use Prim.Native.Nat.{ℕ, _+_, _*_, _/_}
 
 -- The bytes of a page, and the most that a record may have: what the page's trailer of 16 bytes leaves.
 abbrev pub pageSize : ℕ
@@ -12,9 +12,12 @@ capacity = 4080
 abbrev pub mostPages : ℕ
 mostPages = 1024
 
--- so the most bytes of an image.
+-- so the most bytes of an image, and the bytes of the check's marks, one mark for each page.
 abbrev pub mostBytes : ℕ
 mostBytes = pageSize * mostPages
+
+abbrev pub markBytes : ℕ
+markBytes = mostPages / 8
 
 -- The most levels of the tree, content bytes of a literal, and bytes of a new node: its header has 6.
 abbrev pub mostLevels : ℕ

@@ -19,6 +19,8 @@ impl Settings {
     pub const LEVELS: usize = 24;
     // The most pages of an image, content bytes of a literal, bytes of a new node with its header.
     pub const PAGES: usize = 1024;
+    // The bytes of a mark for each of them.
+    pub const MARKS: usize = 128;
 
     pub const CONTENT: usize = 520;
 
@@ -49,6 +51,7 @@ impl Settings {
             capacity: Settings::CAPACITY,
             levels: Settings::LEVELS,
             pages: Settings::PAGES,
+            marks: Settings::MARKS,
             content: Settings::CONTENT,
             node: Settings::NODE,
             least: Settings::LEAST_TARGET,
@@ -86,6 +89,7 @@ pub struct Limits {
     pub capacity: usize,
     pub levels: usize,
     pub pages: usize,
+    pub marks: usize,
     pub content: usize,
     pub node: usize,
     pub least: usize,

@@ -98,7 +98,7 @@ module _ (img : List ℕ) (st : Config) (root : Row) (r : Reads img st root) whe
   unfolding nextOf nextIn
   next-node-small x = rw (opens img st root r) (go (fromPlace (placeOf root) x (nodes (shown root))))
     where
-      go : (ns : List Node) → SmallNext (nextFrom (shown root) (placeOf root) ns .next)
+      go : (ns : List Node) → SmallNext (nextFrom (placeOf root) ns .next)
       go [] = tt
       go (n ∷ []) = tt
       go (n ∷ m ∷ ns) = small-place (m .path)
@@ -107,7 +107,7 @@ module _ (img : List ℕ) (st : Config) (root : Row) (r : Reads img st root) whe
   unfolding climbOf climbIn
   climbed-small x buffer = rw (opens img st root r) (go (fromPlace (placeOf root) x (nodes (shown root))) refl)
     where
-      go : (ns : List Node) → fromPlace (placeOf root) x (nodes (shown root)) ≡ ns → climbFrom (shown root) (placeOf root) ns buffer .0 .written ≤ longestPath
+      go : (ns : List Node) → fromPlace (placeOf root) x (nodes (shown root)) ≡ ns → climbFrom ns buffer .0 .written ≤ longestPath
       go [] e = omega arith
       go (n ∷ ns) e =
           let v = reads-valid img st root r in

@@ -7,7 +7,7 @@ use native.Mathlib.Nat.{add-sub-cancel-left}
 use lib.ListN.{length, take, drop, getD, replicate}
 use lib.Dec.{eqb}
 use borrow.Author.Tests.{eq-eqb, eqb-true}
-use Rattle.model.specs.Limits.{pageSize, capacity}
+use Rattle.model.specs.Limits.{pageSize, capacity, markBytes}
 use Rattle.model.specs.Reading.{pageOf, usedAt}
 use Rattle.theory_decoding.specs.Valid.{both as and-both}
 use Rattle.theory_check.specs.Trailers.{recorded}
@@ -30,13 +30,13 @@ first-used img z =
     omega (arith, recorded (pageOf img 1) (eqb-true _ _ (settled .0)) .used, page-two img 1 (capacity + 2) (omega arith))
 
 module _ (img : List ℕ) (n used : ℕ) (p : used ≡ usedAt img pageSize) (r : ℕ) (m old new : List ℕ)
-    (c : Came (nodeOf img (take (pageSize + used - pageSize) (drop pageSize img)) 1 0 1 (state n (replicate 128 0))) r m old new) where
+    (c : Came (nodeOf img (take (pageSize + used - pageSize) (drop pageSize img)) 1 0 1 (state n (replicate markBytes 0))) r m old new) where
   came : Came (walkOf img n) r m old new
   unfolding walkOf
   came =
       let k : take (pageSize + used - pageSize) (drop pageSize img) ≡ take (usedAt img pageSize) (drop pageSize img) =
       ap (λ (i : ℕ). take i (drop pageSize img)) (add-sub-cancel-left pageSize used ∙ p) in
-      came-at (ap (λ (x : List ℕ). nodeOf img x 1 0 1 (state n (replicate 128 0))) (sym k)) c
+      came-at (ap (λ (x : List ℕ). nodeOf img x 1 0 1 (state n (replicate markBytes 0))) (sym k)) c
 
   pub walked : getD img pageSize 0 ≡ 1 → eqb r 1 ≡ walkOk img n
   unfolding walkOk

@@ -37,7 +37,7 @@ fn proxy_check<'a>(
     page: usize,
     level: usize,
     left: usize,
-    marks: &mut [u8; 128],
+    marks: &mut [u8; Settings::MARKS],
     widths: &mut [u32; Settings::PAGES],
 ) -> Walked
     requires { ⌜ (level ≤ mostLevels + 1) × (left ≤ mostPages) ⌝ }
@@ -64,7 +64,7 @@ fn node_check<'a>(
     holder: usize,
     level: usize,
     left: usize,
-    marks: &mut [u8; 128],
+    marks: &mut [u8; Settings::MARKS],
     widths: &mut [u32; Settings::PAGES],
 ) -> Walked
     requires { ⌜ (holder < 5) × (level ≤ mostLevels + 1) × (left ≤ mostPages) × (length (now part) < 65536) ⌝ }
@@ -109,7 +109,7 @@ fn list_check<'a>(
     page: usize,
     level: usize,
     left: usize,
-    marks: &mut [u8; 128],
+    marks: &mut [u8; Settings::MARKS],
     widths: &mut [u32; Settings::PAGES],
 ) -> usize
     requires { ⌜ (level ≤ mostLevels + 1) × (left ≤ mostPages) × (length (now part) < 65536) ⌝ }
@@ -149,7 +149,7 @@ fn helper_check<'a>(
     page: usize,
     level: usize,
     left: usize,
-    marks: &mut [u8; 128],
+    marks: &mut [u8; Settings::MARKS],
     widths: &mut [u32; Settings::PAGES],
 ) -> Walked
     requires { ⌜ (level ≤ mostLevels + 1) × (left ≤ mostPages) × (length (now part) < 65536) ⌝ }
@@ -202,7 +202,7 @@ pub fn walk_ok(image: &[u8], left: usize, widths: &mut [u32; Settings::PAGES]) -
     }
     let used = used_at(image, Settings::PAGE);
     let e = Settings::PAGE + used;
-    let mut marks = [0u8; 128];
+    let mut marks = [0u8; Settings::MARKS];
     let r = node_check(
         image,
         &image[Settings::PAGE..e],

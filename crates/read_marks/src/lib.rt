@@ -12,7 +12,7 @@ ghost use Rattle.theory_check.specs.Walk.{state, entersOf};
 
 // ── marks: a bit for each page ──
 
-pub fn is_marked(marks: &[u8; 128], p: usize) -> bool
+pub fn is_marked(marks: &[u8; Settings::MARKS], p: usize) -> bool
     requires { ⌜ p < mostPages ⌝ }
     ensures { λ r. ⌜ r ≡ isMarked (now (marks .entry)) p ⌝ }
 {
@@ -21,7 +21,7 @@ pub fn is_marked(marks: &[u8; 128], p: usize) -> bool
     (marks[i] >> k) % 2 == 1
 }
 
-pub fn set_mark(marks: &mut [u8; 128], p: usize)
+pub fn set_mark(marks: &mut [u8; Settings::MARKS], p: usize)
     requires { ⌜ p < mostPages ⌝ }
     ensures { λ _. ⌜ now (marks .exit) ≡ marked (now (marks .entry)) p ⌝ }
 {
@@ -69,7 +69,13 @@ pub fn root_fits(image: &[u8], p: usize) -> bool
 }
 
 // Whether the walk can go on in page p. `left` is one more than the record pages still to be reached.
-pub fn enters(image: &[u8], p: usize, page: usize, left: usize, marks: &[u8; 128]) -> bool
+pub fn enters(
+    image: &[u8],
+    p: usize,
+    page: usize,
+    left: usize,
+    marks: &[u8; Settings::MARKS],
+) -> bool
     ensures { λ r. ⌜ r ≡ entersOf (now (image .entry)) p page (state left (now (marks .entry))) ⌝ }
 {
     if !names(image, p, page) {

@@ -45,7 +45,7 @@ module _ (img : List ℕ) (st : Config) (root : Row) (r : Reads img st root) (x 
   read-inside = rw (opens img st root r) (go (fromPlace (placeOf root) x (nodes (shown root))) refl)
     where
       go : (ns : List Node) → fromPlace (placeOf root) x (nodes (shown root)) ≡ ns
-          → asRead x (readFrom (shown root) (placeOf root) ns) .start + asRead x (readFrom (shown root) (placeOf root) ns) .len ≤ length img
+          → asRead x (readFrom ns) .start + asRead x (readFrom ns) .len ≤ length img
       go [] e = omega arith
       go (n ∷ ns) e = by (eqb (length (n .content)) 0) refl
         where

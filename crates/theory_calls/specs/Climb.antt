@@ -31,7 +31,7 @@ module _ (order : (img buffer : List ℕ) → List ℕ) (img : List ℕ) (st : C
     unfolding climbIn
     never-full z = go (fromPlace (placeOf root) x (nodes (shown root))) (sym (ap (λ (a : WriteAnswer × List ℕ). a .0 .number) climbed) ∙ z)
       where
-        go : (ns : List Node) → climbFrom (shown root) (placeOf root) ns buffer .0 .number ≡ 12 → ⊥
+        go : (ns : List Node) → climbFrom ns buffer .0 .number ≡ 12 → ⊥
         go [] e = omega arith
         go (n ∷ ns) e = omega (arith, write-number (pathBytes (n .path)) buffer)
 

@@ -53,7 +53,7 @@ write-not-10 : (bytes buffer : List ℕ) → write bytes buffer .0 .number ≡ 1
 write-not-10 bytes buffer =
     cond-case (λ (a : WriteAnswer × List ℕ). a .0 .number ≡ 10 → ⊥) (ltb (length buffer) (length bytes)) (λ b e. omega arith) (λ b e. omega arith)
 
-next-not-10 : (t : Tree) (place : List ℕ → Option Place) (n : Node) (ns : List Node) → nextFrom t place (n ∷ ns) .number ≡ 10 → ⊥
+next-not-10 : (t : Tree) (place : List ℕ → Option Place) (n : Node) (ns : List Node) → nextFrom place (n ∷ ns) .number ≡ 10 → ⊥
 next-not-10 t place n [] e = omega arith
 next-not-10 t place n (m ∷ ns) e = omega arith
 
@@ -121,7 +121,7 @@ module _ (img : List ℕ) (st : Config) (root : Row) (r : Reads img st root) whe
   end-last x e = go (fromPlace (placeOf root) x (nodes (shown root))) refl (rw (opens img st root r) at e)
     where
       go : (ns : List Node) → fromPlace (placeOf root) x (nodes (shown root)) ≡ ns
-          → nextFrom (shown root) (placeOf root) ns ≡ record { number = 0; next = next-is.End }
+          → nextFrom (placeOf root) ns ≡ record { number = 0; next = next-is.End }
           → (before : List Node) × (n : Node) × (nodes (shown root) ≡ before ++ n ∷ []) × (placeOf root (n .path) ≡ some x)
       go [] f e = absurd (omega (arith, ap (λ (a : NextAnswer). a .number) e))
       go (n ∷ []) f e =

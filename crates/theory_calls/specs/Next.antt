@@ -25,7 +25,7 @@ module _ (order : (img buffer : List ℕ) → List ℕ) (img : List ℕ) (st : C
     unfolding nextIn
     never-full z = go (fromPlace (placeOf root) x (nodes (shown root))) (sym (ap (λ (a : NextAnswer). a .number) followed) ∙ z)
       where
-        go : (ns : List Node) → nextFrom (shown root) (placeOf root) ns .number ≡ 12 → ⊥
+        go : (ns : List Node) → nextFrom (placeOf root) ns .number ≡ 12 → ⊥
         go [] e = omega arith
         go (n ∷ []) e = omega arith
         go (n ∷ m ∷ ns) e = omega arith

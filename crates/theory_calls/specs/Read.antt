@@ -54,7 +54,7 @@ module _ (img : List ℕ) (st : Config) (root : Row) (r : Reads img st root) (x 
       v a = valueOf img (asRead x a)
 
       go : (ns : List Node) → fromPlace (placeOf root) x (nodes (shown root)) ≡ ns
-          → v (readFrom (shown root) (placeOf root) ns) ≡ readFrom (shown root) (placeOf root) ns
+          → v (readFrom ns) ≡ readFrom ns
       go [] e = refl
       go (n ∷ ns) e =
           let m = from-stands (placeOf root) x (nodes (shown root)) ns n e in
@@ -71,7 +71,7 @@ module _ (order : (img buffer : List ℕ) → List ℕ) (img : List ℕ) (st : C
     unfolding readIn
     never-full z = go (fromPlace (placeOf root) x (nodes (shown root))) (sym (ap (λ (a : ReadValue). a .number) told) ∙ z)
       where
-        go : (ns : List Node) → readFrom (shown root) (placeOf root) ns .number ≡ 12 → ⊥
+        go : (ns : List Node) → readFrom ns .number ≡ 12 → ⊥
         go [] e = omega arith
         go (n ∷ ns) e = omega arith
 

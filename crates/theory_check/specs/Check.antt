@@ -4,7 +4,7 @@ use mathlib.Core.List.{List}
 use Prim.Native.Nat.{ℕ, zero, suc, _+_, _-_, _/_}
 use lib.ListN.{length, replicate}
 use lib.Dec.{eqb}
-use Rattle.model.specs.Limits.{pageSize}
+use Rattle.model.specs.Limits.{pageSize, markBytes}
 use Rattle.model.specs.Reading.{lengthOk, pageOf, kindAt}
 use Rattle.theory_check.specs.Tests.{stateOf, settingsOk, firstOk}
 use Rattle.theory_check.specs.Walk.{state, Decoded, recordOf, nodeOf}
@@ -25,7 +25,7 @@ trailersOf img =
 
 -- The walk from page 1, whose record's root is an aggregate.
 unfoldable pub walkOf : (img : List ℕ) → (left : ℕ) → Decoded
-walkOf img n = nodeOf img (recordOf img 1) 1 0 1 (state n (replicate 128 0))
+walkOf img n = nodeOf img (recordOf img 1) 1 0 1 (state n (replicate markBytes 0))
 
 unfoldable pub walkOk : (img : List ℕ) → (left : ℕ) → Bool
 walkOk img n = eqb (kindAt img pageSize) 1 && eqb (walkOf img n .walk .left) 1

@@ -7,7 +7,7 @@ use native.Mathlib.Omega.{arith}
 use lib.ListN.{length, getD, replicate}
 use lib.Seq.{take-at}
 use borrow.Author.Tests.{ne-eqb}
-use Rattle.model.specs.Limits.{pageSize}
+use Rattle.model.specs.Limits.{pageSize, markBytes}
 use Rattle.model.specs.Row.{Row, store, Held, records, settingsPage, pagesFrom, image, lone, byTable, mayStand, standing, Config, recordOn, inRange, valid}
 use Rattle.model.specs.Reading.{Reads, pageOf}
 use Rattle.theory_rows.specs.Fits.{Valid}
@@ -52,7 +52,7 @@ module _ (st : Config) (root : Row) (v : Valid st root) where
       let n : length img / pageSize ≡ st .pages = omega (arith, length-image st root v) in
       rw (n, zero-page, settings-ok st in-range, stored-image st root v .0, first-ok first (v .rows .0 .fits) refl refl) (scan-image st root v)
 
-  fresh-image : Fresh (st .pages) (replicate 128 0) root
+  fresh-image : Fresh (st .pages) (replicate markBytes 0) root
   fresh-image = record {
     marks = marks-none;
     range = named-range st root v;
@@ -84,7 +84,7 @@ module _ (st : Config) (root : Row) (v : Valid st root) where
   unfolding checkBy walkOk walkOf
   check-image =
       let n = suc (recordCount root) in
-      let left : walkOf img n .walk .left ≡ 1 = ap (λ (d : Decoded). d .walk .left) (walk-image (replicate 128 0) fresh-image) in
+      let left : walkOf img n .walk .left ≡ 1 = ap (λ (d : Decoded). d .walk .left) (walk-image (replicate markBytes 0) fresh-image) in
       rw (image-length-ok st root v, trailers-image, ne-eqb n 0 (λ z. omega arith), root-first, left)
 
 -- What reads passes the check.

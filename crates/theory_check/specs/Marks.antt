@@ -11,11 +11,11 @@ use lib.Bits.{bitOr, or-lt, or-zero-r, or-shr, or-mod}
 use lib.Dec.{eqb}
 use lib.ListN.{length, getD, set, replicate, length-set, length-replicate}
 use lib.Seq.{getD-set-same, getD-set-other}
-use Rattle.model.specs.Limits.{mostPages}
+use Rattle.model.specs.Limits.{mostPages, markBytes}
 use Rattle.theory_check.specs.Tests.{isMarked, marked}
 
 pub record IsMarks (m : List ℕ) : Type 0 where
-  pub long : length m ≡ 128
+  pub long : length m ≡ markBytes
   pub byte : (i : ℕ) → getD m i 0 < 256
 
 zeros-byte : (n i : ℕ) → getD {A = ℕ} (replicate n 0) i 0 ≡ 0
@@ -23,12 +23,12 @@ zeros-byte zero i = refl
 zeros-byte (suc n) zero = refl
 zeros-byte (suc n) (suc i) = zeros-byte n i
 
-pub marks-none : IsMarks (replicate 128 0)
-marks-none = record { long = length-replicate {A = ℕ} 128 0; byte = λ i. rw (zeros-byte 128 i) (omega arith) }
+pub marks-none : IsMarks (replicate markBytes 0)
+marks-none = record { long = length-replicate {A = ℕ} markBytes 0; byte = λ i. rw (zeros-byte markBytes i) (omega arith) }
 
-pub none-marked : (q : ℕ) → isMarked (replicate 128 0) q ≡ false
+pub none-marked : (q : ℕ) → isMarked (replicate markBytes 0) q ≡ false
 unfolding isMarked
-none-marked q = rw (zeros-byte 128 (q / 8), zero-div (2 ^ (q % 8)))
+none-marked q = rw (zeros-byte markBytes (q / 8), zero-div (2 ^ (q % 8)))
 
 -- ── a test at each number below n, computed once ──
 

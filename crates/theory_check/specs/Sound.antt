@@ -7,7 +7,7 @@ use native.Mathlib.Omega.{arith}
 use lib.ListN.{length, getD, replicate}
 use lib.Dec.{eqb, leb}
 use borrow.Author.Tests.{eqb-true, eqb-false, eq-eqb, leb-true, leb-false}
-use Rattle.model.specs.Limits.{mostPages, pageSize, capacity}
+use Rattle.model.specs.Limits.{mostPages, pageSize, capacity, markBytes}
 use Rattle.model.specs.Row.{Row, store, Config, count, outside, recordPage, standing, mayStand, recordOn}
 use Rattle.model.specs.Reading.{Reads, lengthOk, configOn, pageOf, backAt, settledAt}
 use Rattle.theory_rows.specs.Fits.{Fits, Placed, Valid}
@@ -88,7 +88,7 @@ abbrev st : List ℕ → Config
 st img = configOn (pageOf img 0)
 
 module _ (img : List ℕ) (bytes : AllBytes img) (c : Checked img) (root : Row) (v : State)
-    (p : Passes img (node (recordOf img 1) 1 0 1 (state (trailersOf img) (replicate 128 0))) root v) (ended : v .left ≡ 1) where
+    (p : Passes img (node (recordOf img 1) 1 0 1 (state (trailersOf img) (replicate markBytes 0))) root v) (ended : v .left ≡ 1) where
   abbrev pages : ℕ
   pages = length img / pageSize
 
@@ -183,7 +183,7 @@ pub sound-row : (img : List ℕ) → ((i : ℕ) → getD img i 0 < 256) → chec
 unfolding walkOf
 sound-row img bytes e =
     let c = check-says img e in
-    let j = node (recordOf img 1) 1 0 1 (state (trailersOf img) (replicate 128 0)) in
+    let j = node (recordOf img 1) 1 0 1 (state (trailersOf img) (replicate markBytes 0)) in
     let p = passes img bytes j (record-bytes img bytes 1) (λ z. omega (arith, c .ended)) in
     is-read img bytes c _ _ p (c .ended)
 

@@ -9,14 +9,14 @@ use Rattle.model.specs.Effect.{Effect, asking}
 use Rattle.model.specs.declared.Place.{Place}
 use Rattle.model.specs.declared.WriteAnswer.{WriteAnswer}
 
-module _ (t : Tree) (place : List ℕ → Option Place) where
-  -- From the nodes in document order, from the one at the place on; none if no node has the place.
-  abbrev pub climbFrom : List Node → (buffer : List ℕ) → WriteAnswer × List ℕ
-  climbFrom [] buffer = (writeRefused noPlaceThere, buffer)
-  climbFrom (n ∷ ns) buffer = write (pathBytes (n .path)) buffer
+-- From the nodes in document order, from the one at the place on; none if no node has the place.
+abbrev pub climbFrom : List Node → (buffer : List ℕ) → WriteAnswer × List ℕ
+climbFrom [] buffer = (writeRefused noPlaceThere, buffer)
+climbFrom (n ∷ ns) buffer = write (pathBytes (n .path)) buffer
 
-  unfoldable pub climbIn : Place → (buffer : List ℕ) → WriteAnswer × List ℕ
-  climbIn x buffer = climbFrom (fromPlace place x (nodes t)) buffer
+-- In a tree whose nodes have places.
+unfoldable pub climbIn : Tree → (place : List ℕ → Option Place) → Place → (buffer : List ℕ) → WriteAnswer × List ℕ
+climbIn t place x buffer = climbFrom (fromPlace place x (nodes t)) buffer
 
 unfoldable pub climbOf : (img : List ℕ) → Place → (buffer : List ℕ) → WriteAnswer × List ℕ
 climbOf img x buffer = onStore (opened img) (λ n. (writeRefused n, buffer)) (λ st root. climbIn (shown root) (placeOf root) x buffer)

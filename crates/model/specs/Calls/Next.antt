@@ -17,15 +17,14 @@ use Rattle.model.specs.declared.NextAnswer.{NextAnswer}
 abbrev pub kindOf : (number : ℕ) → Kind
 kindOf k = cond (eqb k 1) Aggregate Literal
 
-module _ (t : Tree) (place : List ℕ → Option Place) where
-  -- From the nodes in document order, from the one at the place on.
-  abbrev pub nextFrom : List Node → NextAnswer
-  nextFrom [] = nextRefused noPlaceThere
-  nextFrom (n ∷ []) = record { number = 0; next = next-is.End }
-  nextFrom (n ∷ m ∷ ns) = record { number = 0; next = next-is.Node (record { place = placeOr (place (m .path)); kind = kindOf (m .kind) }) }
+-- From the nodes in document order, from the one at the place on; `place` gives the place of a path.
+abbrev pub nextFrom : (place : List ℕ → Option Place) → List Node → NextAnswer
+nextFrom place [] = nextRefused noPlaceThere
+nextFrom place (n ∷ []) = record { number = 0; next = next-is.End }
+nextFrom place (n ∷ m ∷ ns) = record { number = 0; next = next-is.Node (record { place = placeOr (place (m .path)); kind = kindOf (m .kind) }) }
 
-  unfoldable pub nextIn : Place → NextAnswer
-  nextIn x = nextFrom (fromPlace place x (nodes t))
+unfoldable pub nextIn : Tree → (place : List ℕ → Option Place) → Place → NextAnswer
+nextIn t place x = nextFrom place (fromPlace place x (nodes t))
 
 unfoldable pub nextOf : (img : List ℕ) → Place → NextAnswer
 nextOf img x = onStore (opened img) nextRefused (λ st root. nextIn (shown root) (placeOf root) x)

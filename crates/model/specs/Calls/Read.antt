@@ -21,13 +21,14 @@ pub record ReadValue : Type 0 where
   pub children : ℕ
   pub content : List ℕ
 
-module _ (t : Tree) (place : List ℕ → Option Place) where
-  abbrev pub readFrom : List Node → ReadValue
-  readFrom [] = record { number = noPlaceThere; kind = 0; label = 0; children = 0; content = [] }
-  readFrom (n ∷ ns) = record { number = 0; kind = n .kind; label = n .head .label; children = n .children; content = n .content }
+-- Of the first of some nodes.
+abbrev pub readFrom : List Node → ReadValue
+readFrom [] = record { number = noPlaceThere; kind = 0; label = 0; children = 0; content = [] }
+readFrom (n ∷ ns) = record { number = 0; kind = n .kind; label = n .head .label; children = n .children; content = n .content }
 
-  unfoldable pub readIn : Place → ReadValue
-  readIn x = readFrom (fromPlace place x (nodes t))
+-- In a tree whose nodes have places.
+unfoldable pub readIn : Tree → (place : List ℕ → Option Place) → Place → ReadValue
+readIn t place x = readFrom (fromPlace place x (nodes t))
 
 -- The content is the part of the image six bytes past the node's place; an empty one starts at 0.
 abbrev pub asRead : Place → ReadValue → ReadNode
