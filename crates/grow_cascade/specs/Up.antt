@@ -1,14 +1,14 @@
 -- The record is not settled and too large: it leaves its page, and its separator takes its proxy's place in the record above, which goes on.
 use mathlib.Core.Path.{_≡_, refl, sym, ap, subst, _∙_}
-use mathlib.Core.Bool.{Bool, true, false, cond, _||_, true≢false, false≢true}
+use mathlib.Core.Bool.{Bool, true, false, cond, _||_, true≢false}
 use mathlib.Core.List.{List}
 use Prim.Native.Nat.{ℕ, suc, _+_, _*_, _<_, _≤_}
 use native.Mathlib.Omega.{arith}
 use native.Mathlib.Numerals.{add-one}
 use borrow.Author.Tests.{lt-leb, eqb-true}
 use lib.Dec.{eqb, leb}
-use lib.ListN.{length, take, length-replicate}
-use lib.IntN.{ℤ, subℕ}
+use lib.ListN.{length, take}
+use lib.IntN.{ℤ}
 use Rattle.model.specs.Limits.{pageSize, capacity}
 use Rattle.model.specs.Row.{Row, nil, agg, lit, rec, _⊹_, size, isNil, lone, bytes, recordSize, recordBytes, recordPage, count, height, Config, recordOn}
 use Rattle.model.specs.Reading.{pageOf}
@@ -27,7 +27,6 @@ use Rattle.theory_insert_point.specs.Full.{full-rise}
 use Rattle.theory_page_memory.specs.Memory.{Mem, blank, setMem, separatorMem, riseMem}
 use Rattle.theory_page_memory.specs.Around.{rise-goes}
 use Rattle.theory_page_memory.specs.Kept.{Ready, goes-up}
-use Rattle.grow_pages.specs.Paged.{length-setPage}
 use Rattle.grow_pages.specs.Links.{Below, below-⊹}
 use Rattle.grow_pages.specs.Relinked.{mem-cleared}
 use Rattle.base_layout.specs.declared.Growing.{Growing}

@@ -2,18 +2,16 @@
 use mathlib.Core.Path.{_≡_, refl, sym, ap, _∙_}
 use mathlib.Core.Bool.{Bool, true, false, cond, not, _||_, false≢true, true≢false}
 use mathlib.Core.List.{List, [], _∷_, _++_, append-nil}
-use mathlib.Core.Logic.{_⊎_, inl, inr}
-use Prim.Native.Nat.{ℕ, zero, suc, _+_, _-_, _*_, _<_, _≤_}
+use Prim.Native.Nat.{ℕ, _+_, _-_, _<_, _≤_}
 use native.Mathlib.Omega.{arith}
 use native.Mathlib.Nat.{zero-add}
-use borrow.Author.Tests.{ltb-true, ltb-false}
-use lib.Dec.{eqb, ltb}
+use lib.Dec.{eqb}
 use lib.ListN.{length, take, drop, set}
-use lib.Seq.{take-at, getD-set-other}
-use Rattle.model.specs.Limits.{mostPages, pageSize, capacity}
-use Rattle.model.specs.Row.{Row, nil, agg, lit, rec, _⊹_, size, isNil, lone, loneRec, recordSize, two, header, bytes, recordBytes, Config, noHead}
+use lib.Seq.{take-at}
+use Rattle.model.specs.Limits.{mostPages, capacity}
+use Rattle.model.specs.Row.{Row, nil, agg, lit, rec, size, isNil, lone, loneRec, recordSize, two, header, bytes, recordBytes, Config, noHead}
 use Rattle.model.specs.Reading.{twoAt}
-use Rattle.model.specs.Growth.{freeFrom, goOn, stops}
+use Rattle.model.specs.Growth.{freeFrom}
 use Rattle.theory_rows.specs.Laws.{length-bytes, isNil-nil, cond-case}
 use Rattle.theory_rows.specs.Fits.{Fits}
 use Rattle.base_numbers.specs.Over.{over, over-right, over-then}

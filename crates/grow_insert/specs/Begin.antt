@@ -7,12 +7,12 @@ use Prim.Native.Nat.{ℕ, _+_, _*_, _<_, _≤_}
 use native.Mathlib.Omega.{arith}
 use lib.Dec.{eqb}
 use lib.ListN.{length, take}
-use lib.IntN.{ℤ, pos}
+use lib.IntN.{pos}
 use Rattle.model.specs.Limits.{mostPages, pageSize, capacity, mostNode}
 use Rattle.model.specs.Row.{Head, Row, nil, store, _⊹_, size, base, isNil, lone, bytes, recordSize, recordBytes, recordPage, height, image, Config, recordOn}
 use Rattle.model.specs.Reading.{pageOf}
 use Rattle.model.specs.Tree.{New, placeOf}
-use Rattle.model.specs.Growth.{Work, Out, taken, apart, asRow, place, atRest, grow}
+use Rattle.model.specs.Growth.{Work, Out, apart, asRow, place, atRest, grow}
 use Rattle.theory_rows.specs.Fits.{Fits, Valid}
 use Rattle.theory_rows.specs.Laws.{cond-case, size-⊹, length-bytes}
 use Rattle.model.specs.Claims.{InLean}
@@ -49,7 +49,7 @@ use Rattle.grow_locate.specs.declared.Receiver.{Receiver}
 use Rattle.grow_new_node.specs.declared.Fresh.{Fresh}
 use Rattle.grow_cascade.specs.declared.Grown.{Grown}
 use Rattle.grow_insert.specs.declared.Run.{Run}
-use Rattle.grow_splice.specs.Spot.{at, parent}
+use Rattle.grow_splice.specs.Spot.{at}
 use Rattle.grow_splice.specs.Splice.{KeepsRoot}
 use Rattle.grow_locate.specs.Aim.{Aimed, receiverOf}
 use Rattle.grow_locate.specs.Receive.{LeftAt}

@@ -1,16 +1,16 @@
 -- A level of the split that a node is followed through: what the code needs there.
 use mathlib.Core.Path.{_≡_, refl, sym, ap, subst, _∙_}
 use mathlib.Core.Bool.{Bool, true, false, cond, not, _||_, false≢true, true≢false}
-use mathlib.Core.List.{List, []}
+use mathlib.Core.List.{List}
 use Prim.Native.Nat.{ℕ, _+_, _-_, _<_, _≤_}
 use native.Mathlib.Omega.{arith}
 use borrow.Author.Tests.{lt-ltb, le-ltb}
 use lib.ListN.{length, take, drop, replicate, length-replicate}
 use lib.Dec.{ltb}
 use Rattle.model.specs.Limits.{mostPages}
-use Rattle.model.specs.Row.{Row, nil, agg, lit, rec, _⊹_, size, isNil, lone, loneRec, bytes, Config}
+use Rattle.model.specs.Row.{Row, nil, size, isNil, loneRec, bytes, Config}
 use Rattle.model.specs.Reading.{sizeAt}
-use Rattle.model.specs.Growth.{Work, goOn, stops, group, separate, rootRow}
+use Rattle.model.specs.Growth.{Work, group, separate}
 use Rattle.model.specs.declared.Place.{Place}
 use Rattle.theory_rows.specs.Laws.{cond-case}
 use Rattle.base_numbers.specs.Over.{over}
@@ -22,7 +22,7 @@ use Rattle.base_layout.specs.Growing.{separatorSize, pages-of}
 use Rattle.grow_groups.specs.Used.{InUse, Env}
 use Rattle.grow_groups.specs.Group.{Cutting, groupI, Outcome}
 use Rattle.grow_split.specs.declared.Children.{Children}
-use Rattle.grow_split.specs.Cutting.{twoGroupsI, separateI}
+use Rattle.grow_split.specs.Cutting.{separateI, separate-keeps}
 use Rattle.grow_split.specs.Separate.{Sep, L, F, A, at-x, belows, below-kids, env-left, inside-fits, inside-within}
 use Rattle.grow_split.specs.Same.{group-same, separate-same}
 use Rattle.grow_split.specs.Severed.{Large, large-sep, level}
@@ -37,29 +37,8 @@ module _ (st : Config) (g : Growing) (dry : g .dry ≡ true) where
   unfolding groupI
   group-dry r u img = cond-case (λ (c : Cutting). c .img ≡ img) (isNil r || loneRec r) (λ _. refl) (λ _. rw dry)
 
-  two-dry : (a b : Row) (u img : List ℕ) → twoGroupsI st g a b u img .img ≡ img
-  unfolding twoGroupsI
-  two-dry a b u img = group-dry b (groupI st g a u img .used) (groupI st g a u img .img) ∙ group-dry a u img
-
   pub separate-dry : (p at : ℕ) (left row : Row) (u img : List ℕ) → separateI st g p at left row u img .img ≡ img
-  unfolding separateI
-  separate-dry p at left nil u img = group-dry left u img
-  separate-dry p at left (agg hd cs rest) u img =
-      let a = groupI st g left u img in
-      let b = separateI st g p (at + 6) nil cs (a .used) (a .img) in
-      cond-case (λ (c : Cutting). c .img ≡ img) (goOn st p at (6 + size cs) rest)
-      (λ _. separate-dry p (at + (6 + size cs)) (left ⊹ agg hd cs nil) rest u img)
-      (λ _. cond-case (λ (c : Cutting). c .img ≡ img) (stops st cs)
-      (λ _. two-dry left (agg hd cs rest) u img)
-      (λ _. group-dry rest (b .used) (b .img) ∙ separate-dry p (at + 6) nil cs (a .used) (a .img) ∙ group-dry left u img))
-  separate-dry p at left (lit hd c rest) u img =
-      cond-case (λ (c : Cutting). c .img ≡ img) (goOn st p at (6 + length c) rest)
-      (λ _. separate-dry p (at + (6 + length c)) (left ⊹ lit hd c nil) rest u img)
-      (λ _. two-dry left (lit hd c rest) u img)
-  separate-dry p at left (rec q s r rest) u img =
-      cond-case (λ (c : Cutting). c .img ≡ img) (goOn st p at 8 rest)
-      (λ _. separate-dry p (at + 8) (left ⊹ rec q s r nil) rest u img)
-      (λ _. two-dry left (rec q s r rest) u img)
+  separate-dry p at left row u img = separate-keeps st g (λ (u i : List ℕ). i ≡ img) (λ r u i e. group-dry r u i ∙ e) p at left row u img refl
 
 -- The same level with its room by another name.
 abbrev pub roomed : {g : Growing} {ch : Children} {l u img : List ℕ} → Sep g ch l u img separatorSize → (m : ℕ) → m ≡ separatorSize → Sep g ch l u img m

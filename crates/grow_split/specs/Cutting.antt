@@ -89,32 +89,37 @@ module _ (st : Config) (g : Growing) where
     separateI-by at left (rec q s r rest) u img =
         step (goes p (at + 8) rest) at 8 left (rec q s r nil) (rec q s r rest) rest (passed p (at + 8) rest) u img refl (separateI-by (at + 8) (left ⊹ rec q s r nil) rest u img)
 
--- ── pages from the image's end on stay marked ──
+-- ── what a group keeps, a level keeps ──
 
-module _ (st : Config) (g : Growing) (e : setupOf st ≡ g .setup) (few : g .setup .pages ≤ mostPages) (start : g .near < g .setup .pages) where
-  abbrev n : ℕ
-  n = g .setup .pages
+module _ (st : Config) (g : Growing) (Q : List ℕ → List ℕ → Type 0)
+    (keeps : (r : Row) (u img : List ℕ) → Q u img → Q (groupI st g r u img .used) (groupI st g r u img .img)) where
+  abbrev Holds : Cutting → Type 0
+  Holds c = Q (c .used) (c .img)
 
-  two-past : (a b : Row) (u img : List ℕ) → Past n u → Past n (twoGroupsI st g a b u img .used)
+  two-keeps : (a b : Row) (u img : List ℕ) → Q u img → Holds (twoGroupsI st g a b u img)
   unfolding twoGroupsI
-  two-past a b u img h = group-past st g e few start b (groupI st g a u img .used) (groupI st g a u img .img) (group-past st g e few start a u img h)
+  two-keeps a b u img h = keeps b (groupI st g a u img .used) (groupI st g a u img .img) (keeps a u img h)
 
-  pub separate-past : (p at : ℕ) (left row : Row) (u img : List ℕ) → Past n u → Past n (separateI st g p at left row u img .used)
+  pub separate-keeps : (p at : ℕ) (left row : Row) (u img : List ℕ) → Q u img → Holds (separateI st g p at left row u img)
   unfolding separateI
-  separate-past p at left nil u img h = group-past st g e few start left u img h
-  separate-past p at left (agg hd cs rest) u img h =
+  separate-keeps p at left nil u img h = keeps left u img h
+  separate-keeps p at left (agg hd cs rest) u img h =
       let a = groupI st g left u img in
       let b = separateI st g p (at + 6) nil cs (a .used) (a .img) in
-      cond-case (λ (c : Cutting). Past n (c .used)) (goOn st p at (6 + size cs) rest)
-      (λ _. separate-past p (at + (6 + size cs)) (left ⊹ agg hd cs nil) rest u img h)
-      (λ _. cond-case (λ (c : Cutting). Past n (c .used)) (stops st cs)
-      (λ _. two-past left (agg hd cs rest) u img h)
-      (λ _. group-past st g e few start rest (b .used) (b .img) (separate-past p (at + 6) nil cs (a .used) (a .img) (group-past st g e few start left u img h))))
-  separate-past p at left (lit hd c rest) u img h =
-      cond-case (λ (c : Cutting). Past n (c .used)) (goOn st p at (6 + length c) rest)
-      (λ _. separate-past p (at + (6 + length c)) (left ⊹ lit hd c nil) rest u img h)
-      (λ _. two-past left (lit hd c rest) u img h)
-  separate-past p at left (rec q s r rest) u img h =
-      cond-case (λ (c : Cutting). Past n (c .used)) (goOn st p at 8 rest)
-      (λ _. separate-past p (at + 8) (left ⊹ rec q s r nil) rest u img h)
-      (λ _. two-past left (rec q s r rest) u img h)
+      cond-case Holds (goOn st p at (6 + size cs) rest)
+      (λ _. separate-keeps p (at + (6 + size cs)) (left ⊹ agg hd cs nil) rest u img h)
+      (λ _. cond-case Holds (stops st cs)
+      (λ _. two-keeps left (agg hd cs rest) u img h)
+      (λ _. keeps rest (b .used) (b .img) (separate-keeps p (at + 6) nil cs (a .used) (a .img) (keeps left u img h))))
+  separate-keeps p at left (lit hd c rest) u img h =
+      cond-case Holds (goOn st p at (6 + length c) rest)
+      (λ _. separate-keeps p (at + (6 + length c)) (left ⊹ lit hd c nil) rest u img h) (λ _. two-keeps left (lit hd c rest) u img h)
+  separate-keeps p at left (rec q s r rest) u img h =
+      cond-case Holds (goOn st p at 8 rest)
+      (λ _. separate-keeps p (at + 8) (left ⊹ rec q s r nil) rest u img h) (λ _. two-keeps left (rec q s r rest) u img h)
+
+-- Pages from the image's end on stay marked.
+pub separate-past : (st : Config) (g : Growing) → setupOf st ≡ g .setup → g .setup .pages ≤ mostPages → g .near < g .setup .pages
+    → (p at : ℕ) (left row : Row) (u img : List ℕ) → Past (g .setup .pages) u → Past (g .setup .pages) (separateI st g p at left row u img .used)
+separate-past st g e few start p at left row u img h =
+    separate-keeps st g (λ (u i : List ℕ). Past (g .setup .pages) u) (λ r u i k. group-past st g e few start r u i k) p at left row u img h

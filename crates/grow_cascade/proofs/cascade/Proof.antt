@@ -43,9 +43,13 @@ Given s =
     let a = s .args in
     Cascade (a .start) (a .size) (a .missing) 0 (pos 0) (a .buf .now) (a .used .now) (a .image .now)
 
+abbrev at-start : tie.At-loop Inv-loop μ-loop → tie.Start Inv-loop μ-loop
+at-start c = c .before .before .before .before
+
 -- the record that the loop is at
 here : (c : tie.At-loop Inv-loop μ-loop) → let s = c .before .before .before .before in let w = s .pre .1 in let l = c .loop in
-    Onward (goalOf w) (memOf w) (s .args .image .now) (nearTo (s .args .start) (l .near)) (l .len) (l .full) (l .splits) (toZ w32 (l .lean)) (l .buf) (l .used) (l .image)
+    Onward (goalOf w) (memOf w) (s .args .image .now) (nearTo (s .args .start) (l .near)) (l .len) (l .full) (l .splits) (toZ w32 (l .lean))
+    (l .buf) (l .used) (l .image)
 here c = c .loop .inv .0 (c .before .before .before .before .pre .1)
 
 mul-settled-at : tie.Need-mul-settled-at Inv-loop μ-loop
@@ -79,7 +83,8 @@ settled-in c =
     let r = here (c .before .before .before .before) .now .rising in
     omega (arith, c .before .before .settled-at .ensures .0, settled-most r, c .back-at .ensures .0, holder-is r, holder-high r)
 
-bit-of : (c : tie.After-back-at Inv-loop μ-loop) → (w : Given (c .before .before .before .before .before .before .before .before)) → c .before .before .settled-at .result ≡ cond (lastSettled (c .before .before .before .before .loop .inv .0 w .now .chain)) 1 0
+bit-of : (c : tie.After-back-at Inv-loop μ-loop) → let l = c .before .before .before .before in (w : Given (at-start l))
+    → c .before .before .settled-at .result ≡ cond (lastSettled (l .loop .inv .0 w .now .chain)) 1 0
 bit-of c w = c .before .before .settled-at .ensures .0 ∙ settled-is (c .before .before .before .before .loop .inv .0 w .now .rising)
 
 keep-requires : tie.Need-keep-requires Inv-loop μ-loop
@@ -136,21 +141,25 @@ split-off-requires c κs =
     (env r d, (refl, off r (omega (arith, r .long, c .before .before .before .before .before .before .if1 .left)) d _ (bit-of b (s .pre .1))))
 
 -- the record is split
-large : (x : tie.After-split-off Inv-loop μ-loop) → (w : Given (x .before .before .before .before .before .before .before .before .before .before .before .before .before .before .before .before)) → capacity < recordSize (x .before .before .before .before .before .before .before .before .before .before .before .before .loop .inv .0 w .now .row)
-large x w = omega (arith, x .before .before .before .before .before .before .before .before .before .before .before .before .loop .inv .0 w .now .rising .long, x .before .before .before .before .before .before .before .if1 .left)
+abbrev at-loop : tie.After-split-off Inv-loop μ-loop → tie.At-loop Inv-loop μ-loop
+at-loop x = x .before .before .before .before .before .before .before .before .before .before .before .before
 
-cut-of : (x : tie.After-split-off Inv-loop μ-loop) → let s = x .before .before .before .before .before .before .before .before .before .before .before .before .before .before .before .before in let l = x .before .before .before .before .before .before .before .before .before .before .before .before .loop in (w : Given s)
-    → let k = l .inv .0 w .now in let z = x .split-off .last .1 in
-    SplitOff (k .st) (nearTo (s .args .start) (l .near)) (k .row) (k .work) (lastSettled (k .chain)) (x .split-off .result)
-    (z .1 .0) (l .image) (z .0) (replicate separatorSize 0) (z .1 .1 .1 .1 .0) × Past (s .args .start .setup .pages) (z .1 .0)
+large : (x : tie.After-split-off Inv-loop μ-loop) → let l = at-loop x in (w : Given (at-start l)) → capacity < recordSize (l .loop .inv .0 w .now .row)
+large x w = omega (arith, at-loop x .loop .inv .0 w .now .rising .long, x .before .before .before .before .before .before .before .if1 .left)
+
+cut-of : (x : tie.After-split-off Inv-loop μ-loop) → let l = at-loop x in let s = at-start l in (w : Given s)
+    → let k = l .loop .inv .0 w .now in let z = x .split-off .last .1 in
+    SplitOff (k .st) (nearTo (s .args .start) (l .loop .near)) (k .row) (k .work) (lastSettled (k .chain)) (x .split-off .result)
+    (z .1 .0) (l .loop .image) (z .0) (replicate separatorSize 0) (z .1 .1 .1 .1 .0) × Past (s .args .start .setup .pages) (z .1 .0)
 cut-of x w =
-    let b = x .before .before .before .before .before .before .before .before in
-    x .split-off .ensures (off (b .before .before .before .before .loop .inv .0 w .now .rising) (large x w) (b .before .before .before .before .before .before .before .before .args .start .dry) _ (bit-of b w))
+    let x₁ = x .before .before .before .before .before .before .before in
+    let l = at-loop x in
+    x .split-off .ensures (off (l .loop .inv .0 w .now .rising) (large x w) (at-start l .args .start .dry) _ (bit-of (x₁ .before) w))
 
-lean-of : (x : tie.After-split-off Inv-loop μ-loop) → let l = x .before .before .before .before .before .before .before .before .before .before .before .before .loop in (w : Given (x .before .before .before .before .before .before .before .before .before .before .before .before .before .before .before .before))
+lean-of : (x : tie.After-split-off Inv-loop μ-loop) → let y = at-loop x in let l = y .loop in (w : Given (at-start y))
     → let k = l .inv .0 w .now in toZ w32 (ofZ w32 (x .before .before .before .before .before .lean-now .result)) ≡ leanNow (k .st) (k .row) (l .splits) (toZ w32 (l .lean))
 lean-of x w =
-    let l = x .before .before .before .before .before .before .before .before .before .before .before .before .loop in
+    let l = at-loop x .loop in
     let k = l .inv .0 w .now in
     let t = leaning (k .rising) (large x w) in
     let e = x .before .before .before .before .before .lean-now .ensures t in
@@ -159,10 +168,11 @@ lean-of x w =
 -- the separator is within its array
 ends : (x : tie.After-split-off Inv-loop μ-loop) → x .split-off .result .end ≤ length (x .split-off .last .1 .1 .1 .1 .1 .0)
 ends x =
-    let l = x .before .before .before .before .before .before .before .before .before .before .before .before .loop in
-    let w = x .before .before .before .before .before .before .before .before .before .before .before .before .before .before .before .before .pre .1 in
-    let k = l .inv .0 w .now in
-    severed-end (cut-of x w .0) (omega (arith, good (k .rising) (large x w) (leaves (k .st) (lastSettled (k .chain)) (l .near) (k .row) (k .work)) .small))
+    let l = at-loop x in
+    let w = at-start l .pre .1 in
+    let k = l .loop .inv .0 w .now in
+    let v = leaves (k .st) (lastSettled (k .chain)) (l .loop .near) (k .row) (k .work) in
+    severed-end (cut-of x w .0) (omega (arith, good (k .rising) (large x w) v .small))
 
 taken-end : (x : tie.After-split-off Inv-loop μ-loop) → let r = x .split-off .result .end in r ≡ length (take r (x .split-off .last .1 .1 .1 .1 .1 .0))
 taken-end x = sym (length-take-le _ _ (ends x))
@@ -174,15 +184,18 @@ slice-aggregate-keep-2 : tie.Need-slice-aggregate-keep-2 Inv-loop μ-loop
 slice-aggregate-keep-2 c = taken-end (c .before .before .before .before .before .before .before)
 
 -- the split record is settled
-stays-of : (x : tie.After-split-off Inv-loop μ-loop) → x .before .before .before .before .before .before .before .before .before .before .settled-at .result ≡ 1 → (w : Given (x .before .before .before .before .before .before .before .before .before .before .before .before .before .before .before .before)) → lastSettled (x .before .before .before .before .before .before .before .before .before .before .before .before .loop .inv .0 w .now .chain) ≡ true
-stays-of x e w = let b = x .before .before .before .before .before .before .before .before in bit-stays (lastSettled (b .before .before .before .before .loop .inv .0 w .now .chain)) _ (bit-of b w) e
+stays-of : (x : tie.After-split-off Inv-loop μ-loop) → let a = x .before .before .before .before .before .before .before .before .before .before in let l = at-loop x in
+    a .settled-at .result ≡ 1 → (w : Given (at-start l)) → lastSettled (l .loop .inv .0 w .now .chain) ≡ true
+stays-of x e w =
+    let b = x .before .before .before .before .before .before .before .before in
+    bit-stays (lastSettled (at-loop x .loop .inv .0 w .now .chain)) _ (bit-of b w) e
 
 keep-requires-2 : tie.Need-keep-requires-2 Inv-loop μ-loop
 keep-requires-2 c κs =
     let x = c .before .before .before .before .before .before .before in
     let b = x .before .before .before .before .before .before .before .before in
-    let w = b .before .before .before .before .before .before .before .before .pre .1 in
-    let r = b .before .before .before .before .loop .inv .0 w .now .rising in
+    let w = at-start (at-loop x) .pre .1 in
+    let r = at-loop x .loop .inv .0 w .now .rising in
     let i = inside r in
     let y = stays-of x (c .before .before .if2 .taken) w in
     let v = cut-of x w .0 in
@@ -191,7 +204,7 @@ keep-requires-2 c κs =
 same-length-3 : tie.Need-same-length-3 Inv-loop μ-loop
 same-length-3 c =
     let x = c .before .before .before .before .before .before .before .before .before .before in
-    c .before .before .keep2 .kept .0 ∙ x .split-off .kept .1 .0 ∙ here (x .before .before .before .before .before .before .before .before .before .before .before .before) .same
+    c .before .before .keep2 .kept .0 ∙ x .split-off .kept .1 .0 ∙ here (at-loop x) .same
 
 same-length-4 : tie.Need-same-length-4 Inv-loop μ-loop
 same-length-4 c = search needs
@@ -201,7 +214,7 @@ returns-2 c =
     λ w.
     let x = c .before .before .before .before .before .before .before .before .before .before in
     let b = x .before .before .before .before .before .before .before .before in
-    let o = b .before .before .before .before .loop .inv .0 w in
+    let o = at-loop x .loop .inv .0 w in
     let r = o .now .rising in
     let y = stays-of x (c .before .before .before .before .before .if2 .taken) w in
     let v = cut-of x w .0 in
@@ -215,27 +228,26 @@ slice-aggregate-lift : tie.Need-slice-aggregate-lift Inv-loop μ-loop
 slice-aggregate-lift c = taken-end (c .before .before .before .before .before .before .before)
 
 -- the record above
-above : (x : tie.After-split-off Inv-loop μ-loop) → let s = x .before .before .before .before .before .before .before .before .before .before .before .before .before .before .before .before in let l = x .before .before .before .before .before .before .before .before .before .before .before .before .loop in let z = x .split-off .last .1 in let q = x .split-off .result in
-    (x .before .before .before .before .before .before .before .before .before .before .settled-at .result ≡ 1 → ⊥) → (w : Given s)
-    → Upward (goalOf w) (memOf w) (s .args .image .now) (nearTo (s .args .start) (l .near)) (x .before .before .before .before .before .before .before .before .back-at .result) (q .end) (l .full || q .full) (l .splits + 1)
+above : (x : tie.After-split-off Inv-loop μ-loop) → let b = x .before .before .before .before .before .before .before .before in let y = at-loop x in let l = y .loop in let s = at-start y in
+    let z = x .split-off .last .1 in let q = x .split-off .result in (b .before .before .settled-at .result ≡ 1 → ⊥) → (w : Given s)
+    → Upward (goalOf w) (memOf w) (s .args .image .now) (nearTo (s .args .start) (l .near)) (b .back-at .result) (q .end) (l .full || q .full) (l .splits + 1)
     (toZ w32 (ofZ w32 (x .before .before .before .before .before .lean-now .result))) (l .buf) (z .1 .0) (z .0) (z .1 .1 .1 .1 .0)
 above x e w =
     let b = x .before .before .before .before .before .before .before .before in
-    let o = b .before .before .before .before .loop .inv .0 w in
+    let o = at-loop x .loop .inv .0 w in
     let v = cut-of x w in
     upward o (large x w) (bit-goes (lastSettled (o .now .chain)) _ (bit-of b w) e) (b .back-at .ensures .0 ∙ holder-is (o .now .rising)) (v .0) (v .1) (lean-of x w)
 
 lift-requires : tie.Need-lift-requires Inv-loop μ-loop
 lift-requires c κs =
     let x = c .before .before .before .before .before .before .before .before in
-    let b = x .before .before .before .before .before .before .before .before in
-    (above x (c .before .before .before .if2 .left) (b .before .before .before .before .before .before .before .before .pre .1) .lift, omega (arith, b .before .before .before .before .loop .inv .1))
+    let l = at-loop x in
+    (above x (c .before .before .before .if2 .left) (at-start l .pre .1) .lift, omega (arith, l .loop .inv .1))
 
 loop-less : tie.Need-loop-less Inv-loop μ-loop
 loop-less c =
     let x = c .before .before .before .before .before .before .before .before .before .before .before in
-    let b = x .before .before .before .before .before .before .before .before in
-    let a = above x (c .before .before .before .before .before .before .if2 .left) (b .before .before .before .before .before .before .before .before .pre .1) in
+    let a = above x (c .before .before .before .before .before .before .if2 .left) (at-start (at-loop x) .pre .1) in
     let e = c .before .before .lift .ensures (a .lift) in
     omega (arith, a .next _ _ (e .0) (e .1) .now .rising .short)
 
@@ -243,7 +255,8 @@ loop-again : tie.Need-loop-again Inv-loop μ-loop
 loop-again c =
     let x = c .before .before .before .before .before .before .before .before .before .before .before in
     let t = c .before .before .lift in
-    (λ w. let a = above x (c .before .before .before .before .before .before .if2 .left) w in let e = t .ensures (a .lift) in a .next _ _ (e .0) (e .1), t .kept .1 .1 .1 .1 .0 ∙ x .before .before .before .before .before .before .before .before .before .before .before .before .loop .inv .1)
+    let n = c .before .before .before .before .before .before .if2 .left in
+    (λ w. let a = above x n w in let e = t .ensures (a .lift) in a .next _ _ (e .0) (e .1), t .kept .1 .1 .1 .1 .0 ∙ at-loop x .loop .inv .1)
 
 pub cascade-spec : {M : Type 1} → statement M
 cascade-spec =

@@ -9,7 +9,8 @@ use Rattle.grow_cascade.proofs.lean_now.Statement.{statement}
 use Rattle.grow_cascade.proofs.lean_now.Tie as tie
 
 returns : tie.Need-returns
-returns c = λ w. rw (ne-eqb (c .before .before .args .splits) 0 (c .if1 .taken)) (toZ-ofZ {w = w32} (lean-signed (c .before .before .args .lean) (c .before .before .pre .0)))
+returns c =
+    λ w. rw (ne-eqb (c .before .before .args .splits) 0 (c .if1 .taken)) (toZ-ofZ {w = w32} (lean-signed (c .before .before .args .lean) (c .before .before .pre .0)))
 
 first-lean-requires : tie.Need-first-lean-requires
 first-lean-requires c κs = c .before .before .pre .1

@@ -48,7 +48,9 @@ array-share-prefix-content : tie.Need-array-share-prefix-content
 array-share-prefix-content c = omega (arith, room (c .before .before .before .before .before .before .before))
 
 slice-aggregate-put-record : tie.Need-slice-aggregate-put-record
-slice-aggregate-put-record c = sym (length-take-le _ _ (omega (arith, c .before .before .before .copy-in .kept .1 .0, room (c .before .before .before .before .before .before .before .before))))
+slice-aggregate-put-record c =
+    let c₁ = c .before .before .before .before .before .before .before in
+    sym (length-take-le _ _ (omega (arith, c .before .before .before .copy-in .kept .1 .0, room (c₁ .before))))
 
 put-record-requires-2 : tie.Need-put-record-requires-2
 put-record-requires-2 c κs =
@@ -67,9 +69,10 @@ same-length-2 c = search needs
 
 returns-2 : tie.Need-returns-2
 returns-2 c =
+    let c₁ = c .before .before .before .before .before .before .before .before .before in
     λ w. page-with _ _ _ _ _ (c .before .before .put-record2 .ensures)
-    (let i = c .before .before .before .before .before .before .before .before .before .before .before in more-nodes _ _ w _ (replicate 4076 0) _ _ (i .before .size-at .ensures .0) (i .if1 .left) (length-replicate {A = ℕ} 4076 0)
-    (c .before .before .before .before .before .before .before .before .before .put16 .ensures) (c .before .before .before .before .before .before .copy-in .ensures))
+    (let i = c₁ .before .before in more-nodes _ _ w _ (replicate 4076 0) _ _ (i .before .size-at .ensures .0) (i .if1 .left) (length-replicate {A = ℕ} 4076 0)
+    (c₁ .put16 .ensures) (c .before .before .before .before .before .before .copy-in .ensures))
 
 pub put-content-spec : {M : Type 1} → statement M
 put-content-spec =

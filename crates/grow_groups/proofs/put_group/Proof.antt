@@ -67,11 +67,12 @@ same-length-3 c = search needs
 
 returns-2 : tie.Need-returns-2
 returns-2 c =
+    let c₁ = c .before .before .before .before .before .before .before in
     λ w.
-    let s = c .before .before .before .before .before .before .before .before .before .before .before .before in
+    let s = c₁ .before .before .before .before .before in
     let d = s .args .g .dry in
     let i = s .args .image .now in
-    let h = sym (c .before .before .before .before .before .before .before .if1 .left) ∙ c .before .before .before .before .before .before .before .before .stays .ensures (w .row) (w .is) in
+    let h = sym (c₁ .if1 .left) ∙ c₁ .before .stays .ensures (w .row) (w .is) in
     let f = c .before .before .before .before .before .first-free in
     group-moved w h _ _ _ _ _ (f .ensures (w .st) (pages-of (w .setup)))
     (⊎-elim (λ v. wet d _ i _ (v .0 .taken) (v .5 ∙ v .2 .ensures (group-record w h)))

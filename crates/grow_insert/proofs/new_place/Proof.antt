@@ -1,6 +1,5 @@
 -- `grow_insert::new_place`: the three cases, the last by what the split's page leaves.
 use mathlib.Core.Path.{refl, sym, ap, _∙_}
-use mathlib.Core.Bool.{true}
 use Prim.Native.Nat.{ℕ}
 use native.Mathlib.Omega.{arith}
 use borrow.Author.Needs.{needs}
@@ -32,8 +31,9 @@ leave-requires c κs = search needs
 
 split-point-requires : tie.Need-split-point-requires
 split-point-requires c κs =
-    let w = c .before .before .before .before .before .before .before .before .before .before .before .before .before .before .pre in
-    off-sizes (w .split (c .before .before .before .before .before .before .before .before .before .if1 .left) (c .before .before .before .before .before .before .before .before .if2 .left) .0) (w .ready)
+    let i = c .before .before .before .before .before .before .before .before .before in
+    let w = i .before .before .before .before .before .pre in
+    off-sizes (w .split (i .if1 .left) (c .before .before .before .before .before .before .before .before .if2 .left) .0) (w .ready)
 
 moved-to-requires : tie.Need-moved-to-requires
 moved-to-requires c κs =
@@ -52,13 +52,15 @@ returns-3 c =
     let x = c .before .before .before .before .before .before .before .before in
     let b = x .before .before .before .before .settled-at .ensures .0 in
     let m = c .before .before .moved-to .ensures in
-    let image = x .before .before .before .before .before .before .before .before .before .before .before .before .pre .split (x .before .before .before .before .before .before .before .if1 .left) (x .before .before .before .before .before .before .if2 .left) .0 in (
+    let i = x .before .before .before .before .before .before .before in
+    let p = c .before .before .before .before .before .split-point .ensures in
+    let image = i .before .before .before .before .before .pre .split (i .if1 .left) (x .before .before .before .before .before .before .if2 .left) .0 in (
       m .0 ∙ x .leave .ensures (image .stays) (b ∙ image .bit) .1,
       λ w.
-          let y = w .split (x .before .before .before .before .before .before .before .if1 .left) (x .before .before .before .before .before .before .if2 .left) in
+          let y = w .split (i .if1 .left) (x .before .before .before .before .before .before .if2 .left) in
           let o = y .0 in
           let z = x .leave .ensures (o .stays) (b ∙ o .bit) in
-          m .1 (off-large o (w .ready) (z .0) (z .1) (c .before .before .before .before .before .split-point .ensures (o .st) (target-of (o .setup)))) ∙ sym (y .1),
+          m .1 (off-large o (w .ready) (z .0) (z .1) (p (o .st) (target-of (o .setup)))) ∙ sym (y .1),
     )
 
 pub new-place-spec : {M : Type 1} → statement M

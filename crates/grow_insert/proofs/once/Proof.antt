@@ -40,14 +40,10 @@ setup-on-requires c κs = let w = c .before .before .before .pre in omega (arith
 label-at-requires : tie.Need-label-at-requires
 label-at-requires c κs = parent-label _ _ _ (c .before .before .before .before .before .pre .aim) .0
 
--- what page 0 says
-setup-of : (x : tie.After-setup-on) → (w : Given (x .before .before .before .before)) → setupOf (st w) ≡ x .setup-on .result
-setup-of x w = setup-is w (x .setup-on .ensures)
-
 usage-requires : tie.Need-usage-requires
 usage-requires c κs =
     let w = c .before .before .before .before .before .before .before .pre in
-    let e = pages-of (setup-of (c .before .before .before) w) in
+    let e = pages-of (setup-is w (c .before .before .before .setup-on .ensures)) in
     (omega (arith, few w, e), omega (arith, long w, e))
 
 find-receiver-requires : tie.Need-find-receiver-requires
@@ -56,33 +52,41 @@ find-receiver-requires c κs = let w = c .before .before .before .before .before
 slice-aggregate-place-node : tie.Need-slice-aggregate-place-node
 slice-aggregate-place-node c = search needs
 
--- where the node goes, and the pages in use
-where-is : (x : tie.After-find-receiver) → (w : Given (x .before .before .before .before .before .before .before .before .before .before)) → x .find-receiver .result ≡ receiverOf (w .aim .t)
-where-is x w = x .find-receiver .ensures (w .aim)
-
-marks-is : (x : tie.After-usage) → (w : Given (x .before .before .before .before .before .before .before .before)) → InUse (x .usage .result) (W w)
-marks-is x w = x .usage .ensures (st w) (root w) (w .aim .reads)
-
 place-node-requires : tie.Need-place-node-requires
 place-node-requires c κs =
-    let s = c .before .before .before .before .before .before .before .before .before .before .before .before .before in
+    let u = c .before .before .before .before .before in
+    let s = u .before .before .before .before .before .before .before .before in
     let w = s .pre in
-    let f = setup-of (c .before .before .before .before .before .before .before .before .before) w in
+    let f = setup-is w (u .before .before .before .before .setup-on .ensures) in
     let z : length (s .args .node .now) ≤ mostNode =
     omega (arith, ap length (w .is), length-bytes (asRow (st w) (w .x) nil), node-most (st w) (w .x) (w .fits)) in
-    (start-env w (where-is (c .before .before .before) w) f (marks-is (c .before .before .before .before .before) w), (omega (arith, matrix-of f, long w, few w), (omega arith, (z, omega arith))))
+    let m = u .usage .ensures (st w) (root w) (w .aim .reads) in
+    (start-env w (c .before .before .before .find-receiver .ensures (w .aim)) f m, (omega (arith, matrix-of f, long w, few w), (omega arith, (z, omega arith))))
 
-placed-is : (x : tie.After-place-node) → let s = x .before .before .before .before .before .before .before .before .before .before .before .before .before .before in (w : Given s) → let z = x .place-node .last in
-    NodePlaced (st w) (w .x) (h w) (record { setup = x .before .before .before .before .before .before .before .before .before .before .setup-on .result; near = x .before .before .before .before .find-receiver .result .page; dry = s .args .dry }) (W w)
+abbrev start : tie.After-place-node → tie.Start
+start x = x .before .before .before .before .before .before .before .before .before .before .before .before .before .before
+
+-- where the node goes, what page 0 says, the pages in use, and what placing the node leaves
+where-is : (x : tie.After-place-node) → (w : Given (start x)) → x .before .before .before .before .find-receiver .result ≡ receiverOf (w .aim .t)
+where-is x w = x .before .before .before .before .find-receiver .ensures (w .aim)
+
+setup-of : (x : tie.After-place-node) → (w : Given (start x)) → setupOf (st w) ≡ x .before .before .before .before .before .before .before .before .before .before .setup-on .result
+setup-of x w = setup-is w (x .before .before .before .before .before .before .before .before .before .before .setup-on .ensures)
+
+marks-is : (x : tie.After-place-node) → (w : Given (start x)) → InUse (x .before .before .before .before .before .before .usage .result) (W w)
+marks-is x w = x .before .before .before .before .before .before .usage .ensures (st w) (root w) (w .aim .reads)
+
+placed-is : (x : tie.After-place-node) → let s = start x in let u = x .before .before .before .before .before .before in (w : Given s) → let z = x .place-node .last in
+    NodePlaced (st w) (w .x) (h w) (record { setup = u .before .before .before .before .setup-on .result; near = x .before .before .before .before .find-receiver .result .page; dry = s .args .dry }) (W w)
     (s .args .image .now) (replicate mostNode 0) (x .place-node .result) (z .1 .0) (z .0) (z .1 .1 .1 .1 .1 .1 .0)
 placed-is x w =
-    x .place-node .ensures (st w) (root w) (w .aim .reads) (setup-of (x .before .before .before .before .before .before .before .before .before .before) w) (W w) (marks-is (x .before .before .before .before .before .before) w) (w .x) (h w)
+    x .place-node .ensures (st w) (root w) (w .aim .reads) (setup-of x w) (W w) (marks-is x w) (w .x) (h w)
     (sym (x .before .before .before .before .before .before .before .before .label-at .ensures .0 ∙ parent-label _ _ _ (w .aim) .1)) (w .named) (w .is)
 
 fits-new : (x : tie.After-place-node) → x .place-node .result .size ≤ length (x .place-node .last .1 .1 .1 .1 .1 .1 .0)
 fits-new x =
-    let w = x .before .before .before .before .before .before .before .before .before .before .before .before .before .before .pre in
-    let z = placed-size w (where-is (x .before .before .before .before) w) (setup-of (x .before .before .before .before .before .before .before .before .before .before) w) (marks-is (x .before .before .before .before .before .before) w) (placed-is x w) in
+    let w = start x .pre in
+    let z = placed-size w (where-is x w) (setup-of x w) (marks-is x w) (placed-is x w) in
     omega (arith, z, x .place-node .kept .1 .1 .1 .1 .1 .1 .0)
 
 array-share-prefix-new : tie.Need-array-share-prefix-new
@@ -97,23 +101,23 @@ slice-aggregate-take-in-2 c = search needs
 take-in-requires : tie.Need-take-in-requires
 take-in-requires c κs =
     let x = c .before .before .before .before .before .before in
-    let w = x .before .before .before .before .before .before .before .before .before .before .before .before .before .before .pre in
-    (into-record w (where-is (x .before .before .before .before) w) (setup-of (x .before .before .before .before .before .before .before .before .before .before) w) (marks-is (x .before .before .before .before .before .before) w) (placed-is x w), refl)
+    let w = start x .pre in
+    (into-record w (where-is x w) (setup-of x w) (marks-is x w) (placed-is x w), refl)
 
 -- the record with the node
-taken-is : (y : tie.After-take-in) → (w : Given (y .before .before .before .before .before .before .before .before .before .before .before .before .before .before .before .before .before .before .before .before .before)) → let r = fill (spot w) (P w ⊹ rest w) in
+taken-is : (y : tie.After-take-in) → let x = y .before .before .before .before .before .before .before in (w : Given (start x)) → let r = fill (spot w) (P w ⊹ rest w) in
     (y .take-in .result ≡ recordSize r) × (y .take-in .last .1 .1 .1 .1 .1 .0 ≡ over 0 (recordBytes r) (replicate bufferSize 0))
 taken-is y w =
     let x = y .before .before .before .before .before .before .before in
-    y .take-in .ensures (into-record w (where-is (x .before .before .before .before) w) (setup-of (x .before .before .before .before .before .before .before .before .before .before) w) (marks-is (x .before .before .before .before .before .before) w) (placed-is x w))
+    y .take-in .ensures (into-record w (where-is x w) (setup-of x w) (marks-is x w) (placed-is x w))
 
 -- its length
 fits-buf : (y : tie.After-take-in) → y .take-in .result ≤ length (y .take-in .last .1 .1 .1 .1 .1 .0)
 fits-buf y =
     let x = y .before .before .before .before .before .before .before in
-    let w = x .before .before .before .before .before .before .before .before .before .before .before .before .before .before .pre in
+    let w = start x .pre in
     let t = taken-is y w in
-    let r = begun w (where-is (x .before .before .before .before) w) (setup-of (x .before .before .before .before .before .before .before .before .before .before) w) (marks-is (x .before .before .before .before .before .before) w) (placed-is x w) (replicate bufferSize 0) (t .0) (t .1) in
+    let r = begun w (where-is x w) (setup-of x w) (marks-is x w) (placed-is x w) (replicate bufferSize 0) (t .0) (t .1) in
     omega (arith, r .long, r .most, y .take-in .kept .1 .1 .1 .1 .1 .0)
 
 array-share-prefix-new-2 : tie.Need-array-share-prefix-new-2
@@ -135,23 +139,25 @@ new-place-requires : tie.Need-new-place-requires
 new-place-requires c κs =
     let y = c .before .before .before .before in
     let x = y .before .before .before .before .before .before .before in
-    let w = x .before .before .before .before .before .before .before .before .before .before .before .before .before .before .pre in
+    let w = start x .pre in
     let t = taken-is y w in
-    seat w (where-is (x .before .before .before .before) w) (setup-of (x .before .before .before .before .before .before .before .before .before .before) w) (marks-is (x .before .before .before .before .before .before) w) (placed-is x w) (replicate bufferSize 0) (t .0) (t .1)
+    seat w (where-is x w) (setup-of x w) (marks-is x w) (placed-is x w) (replicate bufferSize 0) (t .0) (t .1)
 
 cascade-requires : tie.Need-cascade-requires
 cascade-requires c κs =
     let n = c .before .before .before .before .before in
     let y = n .before .before .before .before .before in
     let x = y .before .before .before .before .before .before .before in
-    let w = x .before .before .before .before .before .before .before .before .before .before .before .before .before .before .pre in
+    let w = start x .pre in
     let t = taken-is y w in
-    let e = where-is (x .before .before .before .before) w in
-    let f = setup-of (x .before .before .before .before .before .before .before .before .before .before) w in
-    (y .take-in .kept .1 .1 .1 .1 .1 .0, cascade-ready w e f (marks-is (x .before .before .before .before .before .before) w) (placed-is x w) (replicate bufferSize 0) (t .0) (t .1) (n .new-place .ensures .0))
+    let b : List ℕ = replicate bufferSize 0 in
+    let k = cascade-ready w (where-is x w) (setup-of x w) (marks-is x w) (placed-is x w) b (t .0) (t .1) (n .new-place .ensures .0) in
+    (y .take-in .kept .1 .1 .1 .1 .1 .0, k)
 
 same-length : tie.Need-same-length
-same-length c = let n = c .before .before .before .before .before .before .before .before .before .before in c .before .before .before .before .cascade .kept .0 ∙ n .new-place .kept .0 ∙ n .before .before .before .before .before .before .before .before .before .before .before .before .place-node .kept .0
+same-length c =
+    let n = c .before .before .before .before .before .before .before .before .before .before in
+    c .before .before .before .before .cascade .kept .0 ∙ n .new-place .kept .0 ∙ n .before .before .before .before .before .before .before .before .before .before .before .before .place-node .kept .0
 
 returns : tie.Need-returns
 returns c =
@@ -160,9 +166,9 @@ returns c =
     let n = a .before .before .before .before .before .before in
     let y = n .before .before .before .before .before in
     let x = y .before .before .before .before .before .before .before in
-    let e = where-is (x .before .before .before .before) w in
-    let f = setup-of (x .before .before .before .before .before .before .before .before .before .before) w in
-    let m = marks-is (x .before .before .before .before .before .before) w in
+    let e = where-is x w in
+    let f = setup-of x w in
+    let m = marks-is x w in
     let z = placed-is x w in
     let b : List ℕ = replicate bufferSize 0 in
     let t = taken-is y w in

@@ -8,7 +8,8 @@ add-n : tie.Need-add-n
 add-n c = search needs
 
 put16-requires : tie.Need-put16-requires
-put16-requires c κs = let s = c .before .before .before in omega (arith, s .pre .1, node-kind (s .args .kind) (s .args .label) (s .args .content .now) (s .pre .0 .kinds))
+put16-requires c κs =
+    let s = c .before .before .before in omega (arith, s .pre .1, node-kind (s .args .kind) (s .args .label) (s .args .content .now) (s .pre .0 .kinds))
 
 put16-requires-2 : tie.Need-put16-requires-2
 put16-requires-2 c κs = search needs

@@ -144,8 +144,8 @@ size-at-requires : (t : ℕ) → moved-in-lts.Need-size-at-requires (claims t) (
 size-at-requires t c κs = omega (arith, x-in t (c .before .before .before .before .before .before))
 
 -- the child that is entered is in the row
-inner-in : (t : ℕ) → (c : moved-in-lts.After-size-at (claims t) (moved-in-at t) moved-in.Post) → let a = c .before .before .before .before .before .before .before .before .before .before .args in let x = c .before .before .before .before .before .before .before .child .result in let k = c .size-at .result in
-    (x + 6 < x + k) × ((x + k ≤ a .row .end) × (a .row .end ≤ length (a .buf .now)))
+inner-in : (t : ℕ) → (c : moved-in-lts.After-size-at (claims t) (moved-in-at t) moved-in.Post) → let d = c .before .before .before .before .before .before .before in let a = d .before .before .before .args in
+    let x = d .child .result in let k = c .size-at .result in (x + 6 < x + k) × ((x + k ≤ a .row .end) × (a .row .end ≤ length (a .buf .now)))
 inner-in t c =
     let w = c .before .before .before .before .before .before .before .before .before .before .pre .1 .1 .1 .1 in
     let xe = c .before .before .before .before .before .before .before .child .ensures (w .kids) in
@@ -208,11 +208,12 @@ part-in-group-end-3 t c = omega (arith, inner-in t (c .before .before .before .b
 
 in-group-requires-3 : (t : ℕ) → moved-in-lts.Need-in-group-requires-3 (claims t) (moved-in-at t) moved-in.Post
 in-group-requires-3 t c κs =
-    let s = c .before .before .before .before .before .before .before .before .before .before .before .before .before .before .before .before .before .before in
+    let c₁ = c .before .before .before .before .before .before .before .before .before in
+    let s = c₁ .before .before .before .before .before .before .before .before .before in
     let v = s .pre .1 .1 .0 in
     let w = s .pre .1 .1 .1 .1 in
-    let xe = c .before .before .before .before .before .before .before .before .before .before .before .before .before .before .before .child .ensures (w .kids) in
-    let e = sym (c .before .before .before .before .before .before .before .before .before .before .enters .ensures _ (at-x w xe) (w .st) (tolerance-of (w .setup))) ∙ turned _ _ (c .before .before .before .before .before .before .before .before .before .if2 .left) in
+    let xe = c₁ .before .before .before .before .before .before .child .ensures (w .kids) in
+    let e = sym (c₁ .before .enters .ensures _ (at-x w xe) (w .st) (tolerance-of (w .setup))) ∙ turned _ _ (c₁ .if2 .left) in
     let z = c .before .before .before .before .before .before .before .before .size-at .ensures .0 in
     (v .low, (v .start, (v .few, (s .pre .1 .1 .1 .0, rest-span w xe e _ z))))
 

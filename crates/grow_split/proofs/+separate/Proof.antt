@@ -90,8 +90,8 @@ size-at-requires : (t : ℕ) → separate-lts.Need-size-at-requires (claims t) (
 size-at-requires t c κs = omega (arith, x-in t (c .before .before .before .before .before .before .before .before .before .before .before))
 
 -- the child that is entered is in the row
-inner-in : (t : ℕ) → (c : separate-lts.After-size-at (claims t) (separate-at t) separate.Post) → let a = c .before .before .before .before .before .before .before .before .before .before .before .before .before .before .before .before .args in let x = c .before .before .before .before .before .before .before .before .before .before .before .before .child .result in let k = c .size-at .result in
-    (x + 6 < x + k) × ((x + k ≤ a .row .end) × (a .row .end ≤ length (a .buf .now)))
+inner-in : (t : ℕ) → (c : separate-lts.After-size-at (claims t) (separate-at t) separate.Post) → let d = c .before .before .before .before .before .before .before .before .before .before .before .before in let a = d .before .before .before .before .args in
+    let x = d .child .result in let k = c .size-at .result in (x + 6 < x + k) × ((x + k ≤ a .row .end) × (a .row .end ≤ length (a .buf .now)))
 inner-in t c =
     let s = c .before .before .before .before .before .before .before .before .before .before .before .before .before .before .before .before in
     let w = s .pre .1 .1 .1 .1 in
@@ -124,13 +124,15 @@ copy-in-requires t c κs =
 
 add-separate : (t : ℕ) → separate-lts.Need-add-separate (claims t) (separate-at t) separate.Post
 add-separate t c =
-    let g = c .before .before .before .before .before .before .before .before .before .before .before .before .before .before .before .before in
-    let s = g .before .before .before .before .before .before .before .before .before in
+    let c₁ = c .before .before .before .before .before .before .before .before .before in
+    let c₂ = c₁ .before .before .before .before .before .before .before .before .before in
+    let g = c₁ .before .before .before .before .before .before .before in
+    let s = c₂ .before .before .before .before .before .before .before in
     let w = s .pre .1 .1 .1 .1 in
-    let xe = g .before .before .before .before .before .child .ensures (w .kids) in
+    let xe = c₂ .before .before .before .child .ensures (w .kids) in
     let h : s .args .at + (length (s .args .out .now) - s .args .at) ≤ length (s .args .out .now) = omega (arith, s .pre .1 .1 .0) in
     let lf = g .put-group .ensures (left-group w xe) in
-    let e = sym (c .before .before .before .before .before .before .before .before .before .before .before .enters .ensures _ (at-x w xe) (w .st) (tolerance-of (w .setup))) ∙ c .before .before .before .before .before .before .before .before .before .before .if1 .taken in
+    let e = sym (c₁ .before .before .enters .ensures _ (at-x w xe) (w .st) (tolerance-of (w .setup))) ∙ c₁ .before .if1 .taken in
     omega (arith, header-room w xe e lf h, s .pre .1 .1 .1 .0)
 
 separate-requires : (t : ℕ) → separate-lts.Need-separate-requires (claims t) (separate-at t) separate.Post
@@ -154,8 +156,8 @@ separate-requires t c κs =
     )
 
 -- what the inner level wrote is in out
-inner-out : (t : ℕ) → (c : separate-lts.After-separate (claims t) (separate-at t) separate.Post) → let a = c .before .before .before .before .before .before .before .before .before .before .before .before .before .before .before .before .before .before .before .before .before .before .before .before .before .before .args in
-    (c .before .before .before .before .before .before .before .before .before .before .before .before .before .before .before .before .before .put-group .result .end + 6 ≤ c .separate .result .end) × ((c .separate .result .end ≤ length (a .out .now))
+inner-out : (t : ℕ) → (c : separate-lts.After-separate (claims t) (separate-at t) separate.Post) → let b = c .before .before .before .before .before .before .before .before .before .before .before .before .before .before .before .before .before in let a = b .before .before .before .before .before .before .before .before .before .args in
+    (b .put-group .result .end + 6 ≤ c .separate .result .end) × ((c .separate .result .end ≤ length (a .out .now))
     × ((length (c .separate .last .1 .1 .1 .1 .1 .0) ≡ length (a .out .now)) × (length (a .out .now) < 65536)))
 inner-out t c =
     let v = c in
@@ -182,13 +184,19 @@ put16-requires : (t : ℕ) → separate-lts.Need-put16-requires (claims t) (sepa
 put16-requires t c κs = omega (arith, inner-out t (c .before .before .before .before .before .before .before .before))
 
 sub-put-group-2 : (t : ℕ) → separate-lts.Need-sub-put-group-2 (claims t) (separate-at t) separate.Post
-sub-put-group-2 t c = omega (arith, inner-in t (c .before .before .before .before .before .before .before .before .before .before .before .before .before .before .before .before .before .before .before .before .before))
+sub-put-group-2 t c =
+    let c₁ = c .before .before .before .before .before .before .before .before .before .before .before .before .before .before .before .before .before in
+    omega (arith, inner-in t (c₁ .before .before .before .before))
 
 part-put-group-start-2 : (t : ℕ) → separate-lts.Need-part-put-group-start-2 (claims t) (separate-at t) separate.Post
-part-put-group-start-2 t c = omega (arith, inner-in t (c .before .before .before .before .before .before .before .before .before .before .before .before .before .before .before .before .before .before .before .before .before))
+part-put-group-start-2 t c =
+    let c₁ = c .before .before .before .before .before .before .before .before .before .before .before .before .before .before .before .before .before in
+    omega (arith, inner-in t (c₁ .before .before .before .before))
 
 part-put-group-end-2 : (t : ℕ) → separate-lts.Need-part-put-group-end-2 (claims t) (separate-at t) separate.Post
-part-put-group-end-2 t c = omega (arith, inner-in t (c .before .before .before .before .before .before .before .before .before .before .before .before .before .before .before .before .before .before .before .before .before))
+part-put-group-end-2 t c =
+    let c₁ = c .before .before .before .before .before .before .before .before .before .before .before .before .before .before .before .before .before in
+    omega (arith, inner-in t (c₁ .before .before .before .before))
 
 put-group-requires-2 : (t : ℕ) → separate-lts.Need-put-group-requires-2 (claims t) (separate-at t) separate.Post
 put-group-requires-2 t c κs =
@@ -212,7 +220,12 @@ put-group-requires-2 t c κs =
     )
 
 same-length : (t : ℕ) → separate-lts.Need-same-length (claims t) (separate-at t) separate.Post
-same-length t c = c .before .before .before .before .before .before .before .put-group2 .kept .1 .0 ∙ c .before .before .before .before .before .before .before .before .before .before .before .before .before .before .before .before .before .before .before .before .before .before .before .separate .kept .1 .1 .0 ∙ c .before .before .before .before .before .before .before .before .before .before .before .before .before .before .before .before .before .before .before .before .before .before .before .before .before .before .before .before .before .before .before .before .before .before .before .before .before .before .before .before .put-group .kept .1 .0
+same-length t c =
+    let c₁ = c .before .before .before .before .before .before .before in
+    let c₂ = c₁ .before .before .before .before .before .before .before in
+    let c₃ = c₂ .before .before .before .before .before .before .before in
+    let v = c₃ .before .before in
+    c₁ .put-group2 .kept .1 .0 ∙ v .separate .kept .1 .1 .0 ∙ v .before .before .before .before .before .before .before .before .before .before .before .before .before .before .before .before .before .put-group .kept .1 .0
 
 same-length-2 : (t : ℕ) → separate-lts.Need-same-length-2 (claims t) (separate-at t) separate.Post
 same-length-2 t c =
@@ -226,21 +239,27 @@ same-length-2 t c =
 
 returns : (t : ℕ) → separate-lts.Need-returns (claims t) (separate-at t) separate.Post
 returns t c =
+    let c₁ = c .before .before .before .before .before .before .before in
+    let c₂ = c₁ .before .before .before .before .before .before .before in
+    let c₃ = c₂ .before .before .before .before .before .before .before in
+    let c₄ = c₃ .before .before .before .before .before .before .before in
+    let c₅ = c₄ .before .before .before .before .before .before .before in
+    let c₆ = c₅ .before .before .before .before .before .before .before in
     λ w.
-    let o = c .before .before .before .before .before .before .before .before .before .before .before .before .before .before in
-    let v = o .before .before .before .before .before .before .before .before .before in
-    let y = v .before .before .before .before .before .before .before in
+    let o = c₂ in
+    let v = c₃ .before .before in
+    let y = c₄ .before .before in
     let z = y .before .before .before in
-    let g = z .before .before .before .before .before .before .before in
-    let s = g .before .before .before .before .before .before .before .before .before in
-    let xe = g .before .before .before .before .before .child .ensures (w .kids) in
+    let g = c₅ .before .before .before .before .before in
+    let s = c₆ .before .before .before .before .before .before .before in
+    let xe = c₆ .before .before .before .child .ensures (w .kids) in
     let h : s .args .at + (length (s .args .out .now) - s .args .at) ≤ length (s .args .out .now) = omega (arith, s .pre .1 .1 .0) in
     let lf = g .put-group .ensures (left-group w xe) in
-    let e = sym (z .before .before .enters .ensures _ (at-x w xe) (w .st) (tolerance-of (w .setup))) ∙ z .before .if1 .taken in
+    let e = sym (c₅ .enters .ensures _ (at-x w xe) (w .st) (tolerance-of (w .setup))) ∙ z .before .if1 .taken in
     let k = y .copy-in .kept .1 .0 ∙ g .put-group .kept .1 .1 .1 .1 .0 in
     let ml = v .separate .ensures (inner-sep w xe e lf h _ (z .size-at .ensures .0) (length (y .copy-in .last .1 .0)) k) in
     let m = o .put16 .kept .0 ∙ v .separate .kept .1 .1 .1 .1 .1 .0 ∙ k in
-    let rl = c .before .before .before .before .before .before .before .put-group2 .ensures (rest-group w xe e lf h ml _ (z .size-at .ensures .0) (length (o .put16 .last .0)) m) in
+    let rl = c₁ .put-group2 .ensures (rest-group w xe e lf h ml _ (z .size-at .ensures .0) (length (o .put16 .last .0)) m) in
     done-inside w xe e lf h ml _ _ (z .size-at .ensures .0) refl (y .copy-in .ensures) (o .put16 .ensures) rl (g .put-group .kept .1 .1 .1 .1 .0)
 
 sub-put-group-3 : (t : ℕ) → separate-lts.Need-sub-put-group-3 (claims t) (separate-at t) separate.Post
@@ -265,20 +284,26 @@ put-group-requires-3 t c κs =
     (env-left w xe lf (s .pre .1 .0) (g .put-group .kept .1 .0), (omega (arith, left-end w xe lf h, k), right-group w xe e lf h k))
 
 same-length-3 : (t : ℕ) → separate-lts.Need-same-length-3 (claims t) (separate-at t) separate.Post
-same-length-3 t c = c .before .before .before .before .before .before .put-group3 .kept .1 .0 ∙ c .before .before .before .before .before .before .before .before .before .before .before .before .before .before .before .before .before .put-group .kept .1 .0
+same-length-3 t c =
+    let c₁ = c .before .before .before .before .before .before .before .before .before .before .before .before .before .before .before in
+    c .before .before .before .before .before .before .put-group3 .kept .1 .0 ∙ c₁ .before .before .put-group .kept .1 .0
 
 same-length-4 : (t : ℕ) → separate-lts.Need-same-length-4 (claims t) (separate-at t) separate.Post
-same-length-4 t c = c .before .before .before .before .before .before .put-group3 .kept .1 .1 .1 .1 .0 ∙ c .before .before .before .before .before .before .before .before .before .before .before .before .before .before .before .before .before .put-group .kept .1 .1 .1 .1 .0
+same-length-4 t c =
+    let c₁ = c .before .before .before .before .before .before .before .before .before .before .before .before .before .before .before in
+    c .before .before .before .before .before .before .put-group3 .kept .1 .1 .1 .1 .0 ∙ c₁ .before .before .put-group .kept .1 .1 .1 .1 .0
 
 returns-2 : (t : ℕ) → separate-lts.Need-returns-2 (claims t) (separate-at t) separate.Post
 returns-2 t c =
+    let c₁ = c .before .before .before .before .before .before .before .before .before .before .before in
+    let c₂ = c₁ .before .before .before .before .before .before .before .before .before .before .before in
     λ w.
-    let g = c .before .before .before .before .before .before .before .before .before .before .before .before .before .before .before .before .before in
-    let s = g .before .before .before .before .before .before .before .before .before in
-    let xe = g .before .before .before .before .before .child .ensures (w .kids) in
+    let g = c₁ .before .before .before .before .before .before in
+    let s = c₂ .before .before .before .before in
+    let xe = c₂ .child .ensures (w .kids) in
     let h : s .args .at + (length (s .args .out .now) - s .args .at) ≤ length (s .args .out .now) = omega (arith, s .pre .1 .1 .0) in
     let lf = g .put-group .ensures (left-group w xe) in
-    let e = sym (c .before .before .before .before .before .before .before .before .before .before .before .before .enters .ensures _ (at-x w xe) (w .st) (tolerance-of (w .setup))) ∙ c .before .before .before .before .before .before .before .before .before .before .before .if1 .left in
+    let e = sym (c₁ .before .enters .ensures _ (at-x w xe) (w .st) (tolerance-of (w .setup))) ∙ c₁ .if1 .left in
     done-apart w xe e lf h (c .before .before .before .before .before .before .put-group3 .ensures (right-group w xe e lf h (g .put-group .kept .1 .1 .1 .1 .0)))
 
 pub +separate-spec : {M : Type 1} → statement M

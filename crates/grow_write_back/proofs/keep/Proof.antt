@@ -28,7 +28,8 @@ first-node-requires c κs = content-fits (c .before .before .before .before .bef
 
 -- the row starts inside the content
 start-in : (c : tie.After-first-node) → c .first-node .result ≤ length (c .before .before .before .before .before .before .before .before .args .content .now)
-start-in c = let w = c .before .before .before .before .before .before .before .before .pre .1 .1 .1 .1 .1 in start-inside w (c .first-node .ensures (w .row) (w .is))
+start-in c =
+    let w = c .before .before .before .before .before .before .before .before .pre .1 .1 .1 .1 .1 in start-inside w (c .first-node .ensures (w .row) (w .is))
 
 sub-relink : tie.Need-sub-relink
 sub-relink c = omega (arith, start-in c)
@@ -51,13 +52,14 @@ same-length c = search needs
 
 returns-2 : tie.Need-returns-2
 returns-2 c =
-    let a = c .before .before .before .before .before .before .before .before .before .before .before .before .before .args in
+    let c₁ = c .before .before .before .before .before .before .before in
+    let a = c₁ .before .before .before .before .before .before .args in
     let i = a .image .now in
     let q = a .g .near in
     λ w b e.
     let f = c .before .before .before .before .before .first-node .ensures (w .row) (w .is) in
-    wet (a .g .dry) _ i (written q b (a .holder) (w .row) i) (ap not (c .before .before .before .before .before .before .before .before .before .before .if1 .left))
-    (kept-is w q (a .holder) i b e (c .before .before .before .before .before .before .before .before .put-record .ensures) (c .before .before .relink .ensures (content-linked w f)))
+    wet (a .g .dry) _ i (written q b (a .holder) (w .row) i) (ap not (c₁ .before .before .before .if1 .left))
+    (kept-is w q (a .holder) i b e (c₁ .before .put-record .ensures) (c .before .before .relink .ensures (content-linked w f)))
 
 pub keep-spec : {M : Type 1} → statement M
 keep-spec =
