@@ -89,9 +89,11 @@ severed-end {st} {g} {row} {work} {out₀ = out₀} v k =
     omega (arith, v .end, ap length (v .out), length-over 0 (bytes S) out₀ (omega (arith, length-bytes S)), length-bytes S)
 
 -- The record above can take the separator, and the loop goes on with it.
-pub record Upward (goal : Out) (mem : Mem) (img₀ : List ℕ) (g : Growing) (holder end : ℕ) (filled : Bool) (counts : ℕ) (leans : ℤ) (l u img out : List ℕ) : Type 0 where
+pub record Upward (goal : Out) (mem : Mem) (img₀ : List ℕ) (g : Growing) (holder end : ℕ) (filled : Bool) (counts : ℕ) (leans : ℤ)
+    (l u img out : List ℕ) : Type 0 where
   pub lift : Lift img holder (g .near) (take end out)
-  pub next : (len : ℕ) (new : List ℕ) → let above = lifted img holder (g .near) (take end out) lift in len ≡ recordSize above → new ≡ over 0 (recordBytes above) l
+  pub next : (len : ℕ) (new : List ℕ) → let above = lifted img holder (g .near) (take end out) lift in len ≡ recordSize above
+      → new ≡ over 0 (recordBytes above) l
       → Onward goal mem img₀ (nearTo g holder) len filled counts leans new u img
 
 module _ {goal : Out} {mem : Mem} {img₀ : List ℕ} {g : Growing} {len : ℕ} {filled : Bool} {counts : ℕ} {leans : ℤ} {l u img : List ℕ}

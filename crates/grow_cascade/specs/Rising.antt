@@ -78,7 +78,8 @@ pub record Risen (goal : Out) (mem : Mem) (dry : Bool) (r : Grown) (img new : Li
   pub pages : dry ≡ false → pageOf new ≡ mem
 
 module _ {st : Config} {was : List ℕ} {root : Row} {c : Chain} {old row : Row} {work : Work}
-    {g : Growing} {len : ℕ} {filled : Bool} {count : ℕ} {leans : ℤ} {l u img : List ℕ} (w : Rising st was root c old row work g len filled count leans l u img) where
+    {g : Growing} {len : ℕ} {filled : Bool} {count : ℕ} {leans : ℤ} {l u img : List ℕ}
+    (w : Rising st was root c old row work g len filled count leans l u img) where
   -- ── the record and its page ──
 
   pub valid : Valid st root
@@ -140,7 +141,8 @@ module _ {st : Config} {was : List ℕ} {root : Row} {c : Chain} {old row : Row}
 
   pub deep : depth (rootRow st (lone row) row) ≤ 23
   deep =
-      root-depth st c old row (ap lone (w .held) ∙ settled-lone root (valid .rows .0 .shape)) (w .keeps) row-fits (omega (arith, height-rise st c (row, work), w .levels))
+      root-depth st c old row (ap lone (w .held) ∙ settled-lone root (valid .rows .0 .shape)) (w .keeps) row-fits
+      (omega (arith, height-rise st c (row, work), w .levels))
 
   -- The marks and the image for a split, in a dry run or not.
   module _ (d : Bool) where

@@ -46,7 +46,8 @@ leanNow st row k lean = cond (eqb k 0) (subℕ (startOfD st row) (splitPoint st 
 pub leaning-in : {l : List ℕ} {s : Setup} (w : Leaning l s) → InLean (subℕ (startOfD (w .st) (w .row)) (splitPoint (w .st) (recordSize (w .row))))
 leaning-in w = split-good (w .st) (w .ranges) 0 (w .row) noWork (w .fits) (w .big) (w .most) (w .deep) .lean
 
-pub lean-in : (st : Config) (row : Row) (k : ℕ) (lean : ℤ) → InLean lean → InLean (subℕ (startOfD st row) (splitPoint st (recordSize row))) → InLean (leanNow st row k lean)
+pub lean-in : (st : Config) (row : Row) (k : ℕ) (lean : ℤ) → InLean lean → InLean (subℕ (startOfD st row) (splitPoint st (recordSize row)))
+    → InLean (leanNow st row k lean)
 lean-in st row k lean a b = cond-case InLean (eqb k 0) (λ _. b) (λ _. a)
 
 left-stays : (g : Growing) (img : List ℕ) → leftImage g true img ≡ img
@@ -84,13 +85,17 @@ module _ {st : Config} {was : List ℕ} {root : Row} {c : Chain} {old row : Row}
     where
       go : (c : Chain) → lastSettled c ≡ true → Low c old → rise st c (row, work) ≡ onRow (whole c) (separator st (lastPage c) row v)
       go top e k = kept-big st 1 (row, work) big
-      go (below c s q b rest) e k = rise-stays st c s q b rest old (row, work) (ap (λ (b : Bool). b || leb (recordSize row) capacity) e) k ∙ ap (onRow (whole (below c s q b rest))) (kept-big st q (row, work) big)
+      go (below c s q b rest) e k =
+          rise-stays st c s q b rest old (row, work) (ap (λ (b : Bool). b || leb (recordSize row) capacity) e) k ∙ ap (onRow (whole (below c s q b rest)))
+          (kept-big st q (row, work) big)
 
   mem-is : (m : Mem) → riseMem st c row work m ≡ putMem (g .near) (lastSettled c) (lastHolder c) (S .0) (separatorMem st (g .near) row v m)
   unfolding riseMem keptMem
   mem-is m = go c stays ∙ ap (λ (q : ℕ). putMem q (lastSettled c) (lastHolder c) (separator st q row v .0) (separatorMem st q row v m)) (sym (w .at))
     where
-      go : (c : Chain) → lastSettled c ≡ true → riseMem st c row work m ≡ putMem (lastPage c) (lastSettled c) (lastHolder c) (separator st (lastPage c) row v .0) (separatorMem st (lastPage c) row v m)
+      go : (c : Chain) → lastSettled c ≡ true
+          → riseMem st c row work m ≡ putMem (lastPage c) (lastSettled c) (lastHolder c) (separator st (lastPage c) row v .0)
+          (separatorMem st (lastPage c) row v m)
       go top e = rw (lt-leb (recordSize row) capacity big)
       go (below c s q true rest) e = rw (lt-leb (recordSize row) capacity big)
       go (below c s q false rest) e = absurd (false≢true e)
@@ -128,7 +133,8 @@ module _ {st : Config} {was : List ℕ} {root : Row} {c : Chain} {old row : Row}
 
     pub settled-done : {leans′ : ℤ} {holder : ℕ} {new : List ℕ} → leans′ ≡ leanNow st row count leans → holder ≡ lastHolder c
         → new ≡ cond (g .dry) img₁ (written (g .near) (lastSettled c) holder (severed-content .row) img₁)
-        → Risen (rise st c (row, work)) (riseMem st c row work (pageOf img)) (g .dry) (record { full = filled || r .full; splits = count + 1; lean = leans′ }) img new
+        → Risen (rise st c (row, work)) (riseMem st c row work (pageOf img)) (g .dry)
+        (record { full = filled || r .full; splits = count + 1; lean = leans′ }) img new
     settled-done {leans′} {holder} {new} le h e =
         let i = inside w in
         let p = rewritten g (lastSettled c) holder (S .0) img₁ new severed-below severed-small (omega (arith, long-image w, cut .long)) (i .1 .0) e in

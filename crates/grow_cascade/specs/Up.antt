@@ -185,7 +185,8 @@ module _ {st : Config} {was : List ℕ} {root : Row} {c : Chain} {s : Spot} {q :
 
   keeps-root : KeepsRoot s (rec q false old rest) (S .0 ⊹ rest)
   keeps-root =
-      shape-keeps s q false old rest (S .0) (chain-fits c above (above-fits was st root (w .reads) c s q false rest old (w .held)) .0 .shape) (some-node (S .0) (omega (arith, sep-least)))
+      shape-keeps s q false old rest (S .0) (chain-fits c above (above-fits was st root (w .reads) c s q false rest old (w .held)) .0 .shape)
+      (some-node (S .0) (omega (arith, sep-least)))
 
   -- The record above, by the code's numbers.
   module _ {holder : ℕ} (at : holder ≡ lastPage c) where
@@ -201,7 +202,8 @@ module _ {st : Config} {was : List ℕ} {root : Row} {c : Chain} {s : Spot} {q :
 
     pub lift-small : recordSize (fill s (rec (g .near) false old rest)) ≤ capacity
     lift-small =
-        subst (λ (p : ℕ). recordSize (fill s (rec p false old rest)) ≤ capacity) (sym (w .at)) (above-stands was st root (w .reads) c s q false rest old (w .held) .fits)
+        subst (λ (p : ℕ). recordSize (fill s (rec p false old rest)) ≤ capacity) (sym (w .at))
+        (above-stands was st root (w .reads) c s q false rest old (w .held) .fits)
 
     pub lift-once : count (g .near) (fill s (rec (g .near) false old rest)) ≡ 1
     lift-once = subst (λ (p : ℕ). count p (fill s (rec p false old rest)) ≡ 1) (sym (w .at)) (above-once was st root (w .reads) c s q false rest old (w .held))

@@ -45,7 +45,8 @@ groupI st g r u img =
 abbrev pub proxyBytes : ℕ → List ℕ
 proxyBytes q = header 3 noHead 8 ++ two q
 
-pub proxy-written : (at q : ℕ) (o a b c d : List ℕ) → at + 8 ≤ length o → a ≡ over at (two 3) o → b ≡ over (at + 2) (two 0) a → c ≡ over (at + 4) (two 8) b → d ≡ over (at + 6) (two q) c
+pub proxy-written : (at q : ℕ) (o a b c d : List ℕ) → at + 8 ≤ length o → a ≡ over at (two 3) o → b ≡ over (at + 2) (two 0) a → c ≡ over (at + 4) (two 8) b
+    → d ≡ over (at + 6) (two q) c
     → d ≡ over at (proxyBytes q) o
 proxy-written at q o a b c d h pa pb pc pd =
     let w1 : b ≡ over at (two 3 ++ two 0) o = over-then at (at + 2) (two 3) (two 0) o a b pa pb refl (omega arith) in
@@ -92,7 +93,8 @@ module _ (l : List ℕ) (n : ℕ) (w : NewRecord l n) where
 
   part-node : Node l 0 (w .row)
   part-node =
-      node l 0 (w .row) (some-size (w .row) (w .moves)) (omega (arith, w .small, part-length)) (record { post = []; is = w .is ∙ sym (append-nil (bytes (w .row))) })
+      node l 0 (w .row) (some-size (w .row) (w .moves)) (omega (arith, w .small, part-length))
+      (record { post = []; is = w .is ∙ sym (append-nil (bytes (w .row))) })
 
   part-size : twoAt l 4 ≡ sizeOf (w .row)
   part-size = part-node .size-is
@@ -121,7 +123,8 @@ module _ (l : List ℕ) (n : ℕ) (w : NewRecord l n) where
   more-nodes k z a b e h nz pa pb =
       let s : 6 + size (w .row) ≡ length l + 6 = omega (arith, part-length) in
       let hd : List ℕ = header 4 noHead (length l + 6) in
-      let t : take (length l + 6) ((hd ++ l) ++ drop (length l) (drop 2 z)) ≡ hd ++ l = take-at (hd ++ l) (drop (length l) (drop 2 z)) (length l + 6) (omega arith) in
+      let t : take (length l + 6) ((hd ++ l) ++ drop (length l) (drop 2 z)) ≡ hd ++ l =
+      take-at (hd ++ l) (drop (length l) (drop 2 z)) (length l + 6) (omega arith) in
       let v : b ≡ (hd ++ l) ++ drop (length l) (drop 2 z) =
       pb ∙ ap (over 6 l) pa ∙ over-right 6 0 l hd (drop 2 z) refl ∙ rw (zero-add (length l)) in
       rw (not-lone k e h, s) (ap (take (length l + 6)) v ∙ t ∙ ap (λ (y : List ℕ). hd ++ y) (w .is))
@@ -184,7 +187,14 @@ module _ {g : Growing} {l u img : List ℕ} {room : ℕ} (w : Grouping g l u img
       → Outcome (groupI (w .st) g (w .row) u img) at (record { end = at + length l; full = false }) u img o out
   unfolding groupI
   group-kept h at out o q =
-      rw (sym h) (record { used = refl; image = refl; filled = refl; written = q ∙ ap (λ (v : List ℕ). over at v out) (w .is); next = omega (arith, group-length) })
+      rw (sym h) (record {
+        used = refl;
+        image = refl;
+        filled = refl;
+        written = q ∙ ap (λ (v : List ℕ). over at v out) (w .is);
+        next = omega
+            (arith, group-length);
+      })
 
   module _ (h : false ≡ (isNil (w .row) || loneRec (w .row))) where
     pub group-small : recordSize (w .row) ≤ capacity
@@ -205,5 +215,6 @@ module _ {g : Growing} {l u img : List ℕ} {room : ℕ} (w : Grouping g l u img
         → Outcome (groupI (w .st) g (w .row) u img) at (record { end = at + 8; full = eqb q 0 }) (set u q 1) b o out
     unfolding groupI
     group-moved q at b out o e pb po =
-        let k : q ≡ freeFrom (w .st) (w .st .pages) (usedBy u) (g .near) = e ∙ ap (λ (i : ℕ). freeFrom (w .st) i (usedBy u) (g .near)) (sym (pages-of (w .setup))) in
+        let k : q ≡ freeFrom (w .st) (w .st .pages) (usedBy u) (g .near) =
+        e ∙ ap (λ (i : ℕ). freeFrom (w .st) i (usedBy u) (g .near)) (sym (pages-of (w .setup))) in
         rw (sym h, ← k) (record { used = refl; image = pb; filled = refl; written = po; next = omega arith })

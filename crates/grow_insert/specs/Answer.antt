@@ -31,7 +31,8 @@ use Rattle.grow_insert.specs.Begin.{Begin}
 
 -- A full store is the last test.
 same-test : (a b c d e f g : Bool) → (lowest ((4, a) ∷ (5, b) ∷ (6, c) ∷ (7, d) ∷ (8, e) ∷ (9, f) ∷ (12, false) ∷ []) ≡ 0 → ⊥)
-    → lowest ((4, a) ∷ (5, b) ∷ (6, c) ∷ (7, d) ∷ (8, e) ∷ (9, f) ∷ (12, false) ∷ []) ≡ lowest ((4, a) ∷ (5, b) ∷ (6, c) ∷ (7, d) ∷ (8, e) ∷ (9, f) ∷ (12, g) ∷ [])
+    → lowest ((4, a) ∷ (5, b) ∷ (6, c) ∷ (7, d) ∷ (8, e) ∷ (9, f) ∷ (12, false) ∷ []) ≡ lowest
+    ((4, a) ∷ (5, b) ∷ (6, c) ∷ (7, d) ∷ (8, e) ∷ (9, f) ∷ (12, g) ∷ [])
 same-test true b c d e f g z = refl
 same-test false true c d e f g z = refl
 same-test false false true d e f g z = refl
@@ -73,17 +74,22 @@ module _ {img : List ℕ} {st : Config} {root : Row} (r : Reads img st root) (pa
   made = grown st root path child X
 
   insert-is : insertOf img path child kind label content
-      ≡ accept (insertNumber (shown root) path child X (made .1 .full))
-      (record { number = 0; place = placeOr (placeOf (made .0) (pathOf path ++ child ∷ [])); splits = made .1 .splits; lean = made .1 .lean }, image st (made .0))
+      ≡ accept (insertNumber (shown root) path child X (made .1 .full)) (
+        record { number = 0; place = placeOr (placeOf (made .0) (pathOf path ++ child ∷ [])); splits = made .1 .splits; lean = made .1 .lean },
+        image st
+            (made .0),
+      )
       (insertRefused (insertNumber (shown root) path child X (made .1 .full)), img)
   unfolding insertOf
   insert-is = rw (opens img st root r)
 
-  refused-is : (n : ℕ) → n ≡ insertNumber (shown root) path child X (made .1 .full) → (n ≡ 0 → ⊥) → (insertRefused n, img) ≡ insertOf img path child kind label content
+  refused-is : (n : ℕ) → n ≡ insertNumber (shown root) path child X (made .1 .full) → (n ≡ 0 → ⊥)
+      → (insertRefused n, img) ≡ insertOf img path child kind label content
   refused-is n e z = sym (insert-is ∙ rw (← e, ne-eqb n 0 z))
 
   -- Refused by its tests.
-  pub refused-early : (n : ℕ) → n ≡ insertNumber (shown root) path child X false → (n ≡ 0 → ⊥) → (insertRefused n, img) ≡ insertOf img path child kind label content
+  pub refused-early : (n : ℕ) → n ≡ insertNumber (shown root) path child X false → (n ≡ 0 → ⊥)
+      → (insertRefused n, img) ≡ insertOf img path child kind label content
   refused-early n e z = refused-is n (e ∙ number-before (shown root) path child X (made .1 .full) (λ k. z (e ∙ k))) z
 
   module _ (zero : 0 ≡ insertNumber (shown root) path child X false) where
@@ -130,6 +136,7 @@ module _ {img : List ℕ} {st : Config} {root : Row} (r : Reads img st root) (pa
 
       module _ (room : made .1 .full ≡ false) where
         pub accepted-is : {i : List ℕ} {at : Place} {splits : ℕ} {lean : ℤ} → i ≡ image st (made .0) → placeOf (made .0) (pathOf path ++ child ∷ []) ≡ some at
-            → splits ≡ made .1 .splits → lean ≡ made .1 .lean → (record { number = 0; place = at; splits = splits; lean = lean }, i) ≡ insertOf img path child kind label content
+            → splits ≡ made .1 .splits → lean ≡ made .1 .lean
+            → (record { number = 0; place = at; splits = splits; lean = lean }, i) ≡ insertOf img path child kind label content
         accepted-is {i} {at} {splits} {lean} e p q l =
             (λ j. (record { number = 0; place = sym (ap placeOr p) j; splits = q j; lean = l j }, e j)) ∙ sym (insert-is ∙ rw (room, ← zero))

@@ -61,7 +61,8 @@ use Rattle.grow_cascade.specs.Up.{some-left, some-fill, lone-fill, size-fill, b
 use Rattle.grow_cascade.specs.Cascade.{Cascade, goalOf, memOf}
 use Rattle.grow_insert.specs.Taken as into
 
--- The node x, whose bytes are `node`, is to be child k of the aggregate at the byte `above`, behind the sibling at `left`; a run that writes finds all its pages.
+-- The node x, whose bytes are `node`, is to be child k of the aggregate at the byte `above`, behind the sibling at `left`; a run that writes finds all its
+-- pages.
 pub record Begin (dry : Bool) (img : List ℕ) (above k left label : ℕ) (node : List ℕ) : Type 0 where
   pub aim : Aimed img above k
   pub sibling : LeftAt img above k left
@@ -73,7 +74,8 @@ pub record Begin (dry : Bool) (img : List ℕ) (above k left label : ℕ) (node 
   pub room : dry ≡ false → grow (aim .st) (aim .root) (aim .path) k x .1 .full ≡ false
 
 -- What a run of it gives: what growth counted, and the new node's place; a dry run leaves the image, another one leaves the image of what growth made.
-pub record Inserted {dry : Bool} {img : List ℕ} {above k left label : ℕ} {node : List ℕ} (w : Begin dry img above k left label node) (r : Run) (new : List ℕ) : Type 0 where
+pub record Inserted {dry : Bool} {img : List ℕ} {above k left label : ℕ} {node : List ℕ} (w : Begin dry img above k left label node) (r : Run)
+    (new : List ℕ) : Type 0 where
   pub full : r .full ≡ grow (w .aim .st) (w .aim .root) (w .aim .path) k (w .x) .1 .full
   pub splits : r .splits ≡ grow (w .aim .st) (w .aim .root) (w .aim .path) k (w .x) .1 .splits
   pub lean : r .lean ≡ grow (w .aim .st) (w .aim .root) (w .aim .path) k (w .x) .1 .lean
@@ -114,7 +116,8 @@ module _ (st : Config) (x : New) (fits : NewFits x) where
         cond-case (λ (i : List ℕ). length i ≡ length img) (apart st h (x .head))
         (λ _. length-setPage (ownPage st x h page w) (pageBytesOf r 1 page) img (length-pageBytesOf r 1 page node-record) k) (λ _. refl)
 
-    placed-mem : (img : List ℕ) → pageSize * ownPage st x h page w + pageSize ≤ length img → pageOf (imagePlaced st x h page w img) ≡ placeMem st x h page w (pageOf img)
+    placed-mem : (img : List ℕ) → pageSize * ownPage st x h page w + pageSize ≤ length img
+        → pageOf (imagePlaced st x h page w img) ≡ placeMem st x h page w (pageOf img)
     placed-mem img k = go (apart st h (x .head))
       where
         q : ℕ
@@ -278,7 +281,8 @@ module _ {dry : Bool} {img : List ℕ} {above k left label : ℕ} {node : List �
       readied e =
           let same = w .aim .reads .same in
           let z = ready-place st root valid (pageOf img) (subst (λ (l : List ℕ). Stored (pageOf l) 0 (store root)) (sym same) (stored-image st root valid))
-          (λ q f. ap (λ (l : List ℕ). pageOf l q) same ∙ images.before-free st root valid q f) c s rest held (w .x) h row-fits (full-rise st c (row, O .1) (wet-room e)) in
+          (λ q f. ap (λ (l : List ℕ). pageOf l q) same ∙ images.before-free st root valid q f) c s rest held (w .x) h row-fits
+          (full-rise st c (row, O .1) (wet-room e)) in
           subst (λ (m : Mem). Ready st (pageOf img 0) c (fill s rest) row (O .1) m × (m (lastPage c) ≡ pageOf img (lastPage c))) (sym (mem₁ e)) z
 
       page-same : pageOf img₁ (lastPage c) ≡ recordPage (lastHeld c (fill s rest))
@@ -291,7 +295,7 @@ module _ {dry : Bool} {img : List ℕ} {above k left label : ℕ} {node : List �
       -- ── the node goes into the record ──
 
       pub into-on : PageIn img₁ (t .page)
-      into-on = 
+      into-on =
           let o = stands .here .on in
           record { low = omega (arith, o .low, at-page); high = omega (arith, o .high, at-page); inside = omega (arith, o .inside, at-page, same₁) }
 
@@ -345,7 +349,8 @@ module _ {dry : Bool} {img : List ℕ} {above k left label : ℕ} {node : List �
               reads = w .aim .reads;
               held = held;
               at = at-page;
-              is = (λ i. take (len-is i) (l-is i)) ∙ take-over (recordSize (fill s (P ⊹ rest))) (recordBytes (fill s (P ⊹ rest))) buf (length-record (fill s (P ⊹ rest))) ∙ ap recordBytes (sym row-is);
+              is = (λ i. take (len-is i) (l-is i)) ∙ take-over (recordSize (fill s (P ⊹ rest))) (recordBytes (fill s (P ⊹ rest))) buf
+                  (length-record (fill s (P ⊹ rest))) ∙ ap recordBytes (sym row-is);
               long = len-is ∙ ap recordSize (sym row-is);
               most = omega (arith, ap recordSize row-is, sizes, size-⊹ P rest, into-most, into-small);
               some = ap isNil row-is ∙ some-fill s (P ⊹ rest) (some-left P rest (placed-some st (w .x) h (lastPage c) W));
@@ -392,7 +397,9 @@ module _ {dry : Bool} {img : List ℕ} {above k left label : ℕ} {node : List �
             place = z;
             still = λ d. r .still d ∙ e ∙ still₁ d;
             writes = λ d.
-                images.insert-image st (w .x) (w .fits) root valid (w .aim .path) k (w .short) (w .aim .t) (w .aim .taken) img₃ (r .same ∙ ap length e ∙ same₁ ∙ long)
+                images.insert-image st (w .x) (w .fits) root valid (w .aim .path) k (w .short) (w .aim .t) (w .aim .taken) img₃
+                (r .same ∙ ap length e ∙ same₁ ∙ long)
                 (r .pages d ∙ ap (λ (l : List ℕ). riseMem st c row (O .1) (pageOf l)) e
-                ∙ ap (riseMem st c row (O .1)) (mem₁ d ∙ ap (λ (l : List ℕ). placeMem st (w .x) h (lastPage c) W (pageOf l)) (w .aim .reads .same))) (w .room d);
+                ∙ ap (riseMem st c row (O .1)) (mem₁ d ∙ ap (λ (l : List ℕ). placeMem st (w .x) h (lastPage c) W (pageOf l)) (w .aim .reads .same)))
+                (w .room d);
           }

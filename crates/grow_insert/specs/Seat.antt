@@ -135,14 +135,20 @@ module _ {dry : Bool} {img : List ℕ} {above k left label : ℕ} {node : List �
     r = fill (begin.s w) (asRow S (w .x) (begin.rest w))
 
     row-is : begin.row w ≡ r
-    row-is = ap (λ (x : Bool). fill (begin.s w) (cond {A = Out} x (rec q true (asRow S (w .x) nil) (begin.rest w), taken S q (begin.W w)) (asRow S (w .x) (begin.rest w), begin.W w) .0)) beside
+    row-is =
+        ap (λ (x : Bool). fill (begin.s w) (cond {A = Out} x (rec q true (asRow S (w .x) nil) (begin.rest w), taken S q (begin.W w))
+        (asRow S (w .x) (begin.rest w), begin.W w) .0)) beside
 
     work-is : begin.O w .1 ≡ begin.W w
-    work-is = ap (λ (x : Bool). cond {A = Out} x (rec q true (asRow S (w .x) nil) (begin.rest w), taken S q (begin.W w)) (asRow S (w .x) (begin.rest w), begin.W w) .1) beside
+    work-is =
+        ap (λ (x : Bool). cond {A = Out} x (rec q true (asRow S (w .x) nil) (begin.rest w), taken S q (begin.W w))
+        (asRow S (w .x) (begin.rest w), begin.W w) .1) beside
 
     byte-is : t .at ≡ base r + before (begin.s w)
     byte-is =
-        let e : base r ≡ base (fill (begin.s w) (begin.rest w)) = ap base (sym row-is ∙ begin.row-is w) ∙ ap (λ (x : Bool). cond x 0 6) (sym (lone-fill (begin.s w) (begin.rest w) (begin.P w ⊹ begin.rest w) (begin.keeps w))) in
+        let e : base r ≡ base (fill (begin.s w) (begin.rest w)) =
+        ap base (sym row-is ∙ begin.row-is w) ∙ ap (λ (x : Bool). cond x 0 6)
+        (sym (lone-fill (begin.s w) (begin.rest w) (begin.P w ⊹ begin.rest w) (begin.keeps w))) in
         omega (arith, ap (λ (r : Receiver). r .at) t-is)
 
     seat-kept : length (take len l) ≤ capacity → seatPlace ≡ record { page = t .page; offset = t .at }
@@ -150,7 +156,8 @@ module _ {dry : Bool} {img : List ℕ} {above k left label : ℕ} {node : List �
         let m : leb (recordSize r) capacity ≡ true = le-leb (recordSize r) capacity (omega (arith, content-long, ap recordSize row-is)) in
         rw (beside, m) (λ i. record { page = sym at-page i; offset = sym byte-is i })
 
-    split-place : capacity < recordSize (begin.row w) → seatPlace ≡ movedRecord S (t .page) (begin.row w) (leaves S (lastSettled c) (t .page) (begin.row w) (begin.O w .1)) (t .at)
+    split-place : capacity < recordSize (begin.row w)
+        → seatPlace ≡ movedRecord S (t .page) (begin.row w) (leaves S (lastSettled c) (t .page) (begin.row w) (begin.O w .1)) (t .at)
     split-place big =
         let m : leb (recordSize r) capacity ≡ false = lt-leb (recordSize r) capacity (omega (arith, ap recordSize row-is)) in
         let e : seatPlace ≡ movedRecord S (lastPage c) r (leaves S (lastSettled c) (lastPage c) r (begin.W w)) (base r + before (begin.s w)) = rw (beside, m) in

@@ -44,7 +44,8 @@ module _ {img : List ℕ} {page pos par : ℕ} {new : List ℕ} (w : Taken img p
   pub taken-used : usedAt img (pageSize * page) ≡ recordSize (fill (w .spot) (w .tail))
   taken-used = page-used img held (w .is) (w .small)
 
-  pub taken-part : (n : ℕ) → n ≡ usedAt img (pageSize * page) → take (pageSize * page + n - pageSize * page) (drop (pageSize * page) img) ≡ recordBytes (fill (w .spot) (w .tail))
+  pub taken-part : (n : ℕ) → n ≡ usedAt img (pageSize * page)
+      → take (pageSize * page + n - pageSize * page) (drop (pageSize * page) img) ≡ recordBytes (fill (w .spot) (w .tail))
   taken-part n e = page-part img held (w .is) (w .small) n e
 
   -- Where `splice` puts it.

@@ -87,5 +87,6 @@ marked-end img u p n a b l m st root r = record { long = m .long; same = λ q h.
     go q h false true e f = rw (same, e, f, m .rest q (omega (arith, ends, leb-true n q f)) h)
     go q h false false e f =
         rw (same, e, f)
-        (ap (λ (i : ℕ). not (eqb i 0)) (m .done q (omega (arith, leb-false q 1 e)) (omega (arith, ends, leb-false n q f)) ∙ mark-count img st root r q (omega (arith, leb-false q 1 e)) (omega (arith, leb-false n q f, same)))
+        (ap (λ (i : ℕ). not (eqb i 0)) (m .done q (omega (arith, leb-false q 1 e)) (omega (arith, ends, leb-false n q f)) ∙ mark-count img st root r q
+        (omega (arith, leb-false q 1 e)) (omega (arith, leb-false n q f, same)))
         ∙ some (count q root))

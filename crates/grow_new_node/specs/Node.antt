@@ -50,12 +50,14 @@ module _ (st : Config) (k l : ℕ) (c : List ℕ) (b : kindBad (newOf k l c) ≡
   pub node-size : 6 + length c ≡ size (asRow st (newOf k l c) nil)
   node-size = ⊎-elim (λ e. rw (e .0, e .1)) (λ e. rw e (omega arith)) (kinds-are k l c b)
 
-  pub node-written : (o p q s t : List ℕ) → 6 + length c ≤ length o → p ≡ over 0 (two k) o → q ≡ over 2 (two l) p → s ≡ over 4 (two (6 + length c)) q → t ≡ over 6 c s
+  pub node-written : (o p q s t : List ℕ) → 6 + length c ≤ length o → p ≡ over 0 (two k) o → q ≡ over 2 (two l) p → s ≡ over 4 (two (6 + length c)) q
+      → t ≡ over 6 c s
       → t ≡ over 0 (bytes (asRow st (newOf k l c) nil)) o
   node-written o p q s t h pp pq ps pt =
       let w1 : q ≡ over 0 (two k ++ two l) o = over-then 0 2 (two k) (two l) o p q pp pq refl (omega arith) in
       let w2 : s ≡ over 0 (two k ++ two l ++ two (6 + length c)) o = over-then 0 4 (two k ++ two l) (two (6 + length c)) o q s w1 ps refl (omega arith) in
-      let w3 : t ≡ over 0 (two k ++ two l ++ two (6 + length c) ++ c) o = over-then 0 6 (two k ++ two l ++ two (6 + length c)) c o s t w2 pt refl (omega arith) in
+      let w3 : t ≡ over 0 (two k ++ two l ++ two (6 + length c) ++ c) o =
+      over-then 0 6 (two k ++ two l ++ two (6 + length c)) c o s t w2 pt refl (omega arith) in
       w3 ∙ ap (λ (z : List ℕ). over 0 z o) node-is
 
 -- ── the matrix ──

@@ -31,7 +31,8 @@ module _ (st : Config) (near p : ℕ) where
   inChosen start at left row w off = cond (goesInto st row) (inNode start at left row w off) (inTwo start at left row w off)
 
   step : (b : Bool) (start at n : ℕ) (left one node rest P : Row) (w : Work) (off : ℕ) → size (one ⊹ P) ≡ n + size P → goes p (at + n) rest ≡ b
-      → (0 < size rest → moved st near p start (at + n) (left ⊹ one) rest w off ≡ inChosen start (at + n + size P) ((left ⊹ one) ⊹ P) (remains p (at + n) rest) w off)
+      → (0 < size rest → moved st near p start (at + n) (left ⊹ one) rest w off ≡ inChosen start (at + n + size P) ((left ⊹ one) ⊹ P)
+      (remains p (at + n) rest) w off)
       → cond b (moved st near p start (at + n) (left ⊹ one) rest w off) (inChosen start at left node w off)
       ≡ inChosen start (at + size (cond b (one ⊹ P) nil)) (left ⊹ cond b (one ⊹ P) nil) (cond b (remains p (at + n) rest) node) w off
   step true start at n left one node rest P w off e g ih =
@@ -50,9 +51,12 @@ module _ (st : Config) (near p : ℕ) where
       let n = 6 + size cs in
       let on = moved st near p start (at + n) (left ⊹ agg hd cs nil) rest w off in
       ap (cond (goes p (at + n) rest) on) (cond-flip (stops st cs) _ _)
-      ∙ step (goes p (at + n) rest) start at n left (agg hd cs nil) (agg hd cs rest) rest (passed p (at + n) rest) w off refl refl (moved-jump start (at + n) (left ⊹ agg hd cs nil) rest w off)
+      ∙ step (goes p (at + n) rest) start at n left (agg hd cs nil) (agg hd cs rest) rest (passed p (at + n) rest) w off refl refl
+      (moved-jump start (at + n) (left ⊹ agg hd cs nil) rest w off)
   moved-jump start at left (lit hd c rest) w off h =
       let n = 6 + length c in
-      step (goes p (at + n) rest) start at n left (lit hd c nil) (lit hd c rest) rest (passed p (at + n) rest) w off refl refl (moved-jump start (at + n) (left ⊹ lit hd c nil) rest w off)
+      step (goes p (at + n) rest) start at n left (lit hd c nil) (lit hd c rest) rest (passed p (at + n) rest) w off refl refl
+      (moved-jump start (at + n) (left ⊹ lit hd c nil) rest w off)
   moved-jump start at left (rec q s r rest) w off h =
-      step (goes p (at + 8) rest) start at 8 left (rec q s r nil) (rec q s r rest) rest (passed p (at + 8) rest) w off refl refl (moved-jump start (at + 8) (left ⊹ rec q s r nil) rest w off)
+      step (goes p (at + 8) rest) start at 8 left (rec q s r nil) (rec q s r rest) rest (passed p (at + 8) rest) w off refl refl
+      (moved-jump start (at + 8) (left ⊹ rec q s r nil) rest w off)

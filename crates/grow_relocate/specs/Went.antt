@@ -160,14 +160,16 @@ module _ {g : Growing} {ch : Children} {l u img : List ℕ} {x : ℕ} (w : Sep g
 
       pub done-under : target < x + k → r ≡ moved (w .st) (g .near) (ch .p) (x + 6) (x + 6) nil (kidsOf (F w xe)) a target → r ≡ goal
       done-under y e =
-          e ∙ in-under (goesInto (w .st) (F w xe)) (ltb target x) (ltb target next) _ _ _ _ b (le-ltb target x h) (lt-ltb target next (omega (arith, size-is))) ∙ by-jump
+          e ∙ in-under (goesInto (w .st) (F w xe)) (ltb target x) (ltb target next) _ _ _ _ b (le-ltb target x h)
+          (lt-ltb target next (omega (arith, size-is))) ∙ by-jump
 
       pub done-after : x + k ≤ target
           → r ≡ groupPlace (w .st) (g .near) (restOf (F w xe)) (separate (w .st) (g .near) (ch .p) (x + 6) nil (kidsOf (F w xe)) a .1) (x + k) target → r ≡ goal
       done-after y e =
           let v = separate (w .st) (g .near) (ch .p) (x + 6) nil (kidsOf (F w xe)) a in
           e ∙ ap (λ (i : ℕ). groupPlace (w .st) (g .near) (restOf (F w xe)) (v .1) (x + i) target) size-is
-          ∙ in-after (goesInto (w .st) (F w xe)) (ltb target x) (ltb target next) _ _ _ _ b (le-ltb target x h) (le-ltb target next (omega (arith, size-is))) ∙ by-jump
+          ∙ in-after (goesInto (w .st) (F w xe)) (ltb target x) (ltb target next) _ _ _ _ b (le-ltb target x h) (le-ltb target next (omega (arith, size-is)))
+          ∙ by-jump
 
 -- ── the record ──
 

@@ -82,12 +82,15 @@ module _ (st : Config) (g : Growing) where
         let n = 6 + size cs in
         let on = separateI (at + n) (left ⊹ agg h cs nil) rest u img in
         ap (cond (goes p (at + n) rest) on) (cond-flip (stops st cs) _ _)
-        ∙ step (goes p (at + n) rest) at n left (agg h cs nil) (agg h cs rest) rest (passed p (at + n) rest) u img refl (separateI-by (at + n) (left ⊹ agg h cs nil) rest u img)
+        ∙ step (goes p (at + n) rest) at n left (agg h cs nil) (agg h cs rest) rest (passed p (at + n) rest) u img refl
+        (separateI-by (at + n) (left ⊹ agg h cs nil) rest u img)
     separateI-by at left (lit h c rest) u img =
         let n = 6 + length c in
-        step (goes p (at + n) rest) at n left (lit h c nil) (lit h c rest) rest (passed p (at + n) rest) u img refl (separateI-by (at + n) (left ⊹ lit h c nil) rest u img)
+        step (goes p (at + n) rest) at n left (lit h c nil) (lit h c rest) rest (passed p (at + n) rest) u img refl
+        (separateI-by (at + n) (left ⊹ lit h c nil) rest u img)
     separateI-by at left (rec q s r rest) u img =
-        step (goes p (at + 8) rest) at 8 left (rec q s r nil) (rec q s r rest) rest (passed p (at + 8) rest) u img refl (separateI-by (at + 8) (left ⊹ rec q s r nil) rest u img)
+        step (goes p (at + 8) rest) at 8 left (rec q s r nil) (rec q s r rest) rest (passed p (at + 8) rest) u img refl
+        (separateI-by (at + 8) (left ⊹ rec q s r nil) rest u img)
 
 -- ── what a group keeps, a level keeps ──
 

@@ -74,7 +74,8 @@ module _ (st : Config) (g : Growing) (e : setupOf st ≡ g .setup) (few : g .set
 
   module _ (p : ℕ) where
     two-mem : (left right : Row) (u img : List ℕ) (w : Work) → InUse u w → Past n u → pageSize * n ≤ length img → Below n left → Below n right
-        → Fits (twoGroupsI st g left right u img .row) → After (g .dry) (twoGroupsI st g left right u img .img) img (twoMem st (g .near) p left right w (pageOf img))
+        → Fits (twoGroupsI st g left right u img .row)
+        → After (g .dry) (twoGroupsI st g left right u img .img) img (twoMem st (g .near) p left right w (pageOf img))
     unfolding twoGroupsI twoMem
     two-mem left right u img w m past room bl br f =
         let c = groupI st g left u img in
@@ -83,10 +84,12 @@ module _ (st : Config) (g : Growing) (e : setupOf st ≡ g .setup) (few : g .set
         let k = fits-parts (c .row) (d .row) f in
         let a = group-mem left u img w m past room bl (k .0) in
         after-then (g .dry) (d .img) (c .img) img (groupMem st (g .near) right (o .1)) (groupMem st (g .near) left w (pageOf img)) a
-        (group-mem right (c .used) (c .img) (o .1) (group-same st many g inside left u img w m .used) (group-past st g e few start left u img past) (omega (arith, a .long)) br (k .1))
+        (group-mem right (c .used) (c .img) (o .1) (group-same st many g inside left u img w m .used) (group-past st g e few start left u img past)
+        (omega (arith, a .long)) br (k .1))
 
     pub separate-mem : (at : ℕ) (left row : Row) (u img : List ℕ) (w : Work) → InUse u w → Past n u → pageSize * n ≤ length img → Below n left → Below n row
-        → Fits (separateI st g p at left row u img .row) → After (g .dry) (separateI st g p at left row u img .img) img (separateMem st (g .near) p at left row w (pageOf img))
+        → Fits (separateI st g p at left row u img .row)
+        → After (g .dry) (separateI st g p at left row u img .img) img (separateMem st (g .near) p at left row w (pageOf img))
     unfolding separateI separateMem
     separate-mem at left nil u img w m past room bl br f = group-mem left u img w m past room bl f
     separate-mem at left (agg h cs rest) u img w m past room bl br f =
@@ -107,8 +110,10 @@ module _ (st : Config) (g : Growing) (e : setupOf st ≡ g .setup) (few : g .set
         let fp = fits-parts (c .row) (agg h (d .row) (z .row)) l in
         let a = group-mem left u img w m past room bl (fp .0) in
         let b = separate-mem (at + 6) nil cs (c .used) (c .img) (o .1) mo po (omega (arith, a .long)) tt (br .0) (fp .1 .1) in
-        let ab = after-then (g .dry) (d .img) (c .img) img (separateMem st (g .near) p (at + 6) nil cs (o .1)) (groupMem st (g .near) left w (pageOf img)) a b in
-        after-then (g .dry) (z .img) (d .img) img (groupMem st (g .near) rest (v .1)) (separateMem st (g .near) p (at + 6) nil cs (o .1) (groupMem st (g .near) left w (pageOf img))) ab
+        let ab = after-then (g .dry) (d .img) (c .img) img (separateMem st (g .near) p (at + 6) nil cs (o .1))
+        (groupMem st (g .near) left w (pageOf img)) a b in
+        after-then (g .dry) (z .img) (d .img) img (groupMem st (g .near) rest (v .1))
+        (separateMem st (g .near) p (at + 6) nil cs (o .1) (groupMem st (g .near) left w (pageOf img))) ab
         (group-mem rest (d .used) (d .img) (v .1) mv pv (omega (arith, ab .long)) (br .1) (fp .1 .2))))
     separate-mem at left (lit h c rest) u img w m past room bl br f =
         after-cond (g .dry) (goOn st p at (6 + length c) rest) _ _ img _ _ f

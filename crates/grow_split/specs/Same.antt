@@ -58,10 +58,12 @@ module _ (st : Config) (many : st .pages ≤ mostPages) (g : Growing) (inside : 
   pub group-same : (r : Row) (u img : List ℕ) (w : Work) → InUse u w → Matches (groupI st g r u img) w (group st (g .near) r w)
   unfolding groupI group
   group-same r u img w m =
-      matches-cond (isNil r || loneRec r) _ _ w _ _ (record { row = refl; used = m; full = or-false (w .full); splits = refl; lean = refl }) (own-same r u _ w m)
+      matches-cond (isNil r || loneRec r) _ _ w _ _ (record { row = refl; used = m; full = or-false (w .full); splits = refl; lean = refl })
+      (own-same r u _ w m)
 
   module _ (p : ℕ) where
-    pub two-same : (left right : Row) (u img : List ℕ) (w : Work) → InUse u w → Matches (twoGroupsI st g left right u img) w (twoGroups st (g .near) p left right w)
+    pub two-same : (left right : Row) (u img : List ℕ) (w : Work) → InUse u w
+        → Matches (twoGroupsI st g left right u img) w (twoGroups st (g .near) p left right w)
     unfolding twoGroupsI twoGroups
     two-same left right u img w m =
         let c = groupI st g left u img in
@@ -72,7 +74,8 @@ module _ (st : Config) (many : st .pages ≤ mostPages) (g : Growing) (inside : 
         let b : Matches d (o .1) v = group-same right (c .used) (c .img) (o .1) (a .used) in
         matches-then c d w o v (c .row ⊹ d .row) (o .0 ⊹ v .0) (d .img) (λ i. a .row i ⊹ b .row i) a b
 
-    pub separate-same : (at : ℕ) (left row : Row) (u img : List ℕ) (w : Work) → InUse u w → Matches (separateI st g p at left row u img) w (separate st (g .near) p at left row w)
+    pub separate-same : (at : ℕ) (left row : Row) (u img : List ℕ) (w : Work) → InUse u w
+        → Matches (separateI st g p at left row u img) w (separate st (g .near) p at left row w)
     unfolding separateI separate
     separate-same at left nil u img w m = group-same left u img w m
     separate-same at left (agg h cs rest) u img w m =
@@ -90,6 +93,7 @@ module _ (st : Config) (many : st .pages ≤ mostPages) (g : Growing) (inside : 
         (matches-cond (stops st cs) _ _ w _ _ (two-same left (agg h cs rest) u img w m)
         (matches-then _ f w _ z (c .row ⊹ agg h (d .row) (f .row)) (o .0 ⊹ agg h (v .0) (z .0)) (f .img) (λ i. a .row i ⊹ agg h (b .row i) (k .row i)) ab k))
     separate-same at left (lit h c rest) u img w m =
-        matches-cond (goOn st p at (6 + length c) rest) _ _ w _ _ (separate-same (at + (6 + length c)) (left ⊹ lit h c nil) rest u img w m) (two-same left (lit h c rest) u img w m)
+        matches-cond (goOn st p at (6 + length c) rest) _ _ w _ _ (separate-same (at + (6 + length c)) (left ⊹ lit h c nil) rest u img w m)
+        (two-same left (lit h c rest) u img w m)
     separate-same at left (rec q s r rest) u img w m =
         matches-cond (goOn st p at 8 rest) _ _ w _ _ (separate-same (at + 8) (left ⊹ rec q s r nil) rest u img w m) (two-same left (rec q s r rest) u img w m)

@@ -96,7 +96,8 @@ below-root st n true (lit l c rest) h = tt
 below-root st n true (rec p s r rest) h = tt
 
 -- The separator fits, so what stands for the root's children does, with its header where the root stays.
-pub good-by : (st : Config) (most : ℕ) (b : Bool) (r new : Row) → 0 < size (rootRow st b r) → Fits (withRow st b r new) → size (withRow st b r new) ≤ most → Fits new × (cond b 6 0 + size new ≤ most)
+pub good-by : (st : Config) (most : ℕ) (b : Bool) (r new : Row) → 0 < size (rootRow st b r) → Fits (withRow st b r new) → size (withRow st b r new) ≤ most
+    → Fits new × (cond b 6 0 + size new ≤ most)
 good-by st most false r new k f h = (f, omega arith)
 good-by st most true nil new k f h = absurd (omega arith)
 good-by st most true (agg l cs rest) new k f h = (f .1, omega arith)
@@ -161,7 +162,8 @@ module _ {g : Growing} {p : ℕ} {l u : List ℕ} (w : Large g p l u) where
       level-good =
           let o : ℕ → Row → Row = λ i x. separate (w .st) (g .near) i 6 nil x (w .work) .0 in
           let new = o (splitPoint (w .st) (recordSize (w .row))) (rootRow (w .st) (lone (w .row)) (w .row)) in
-          let good : Fits new × (cond (lone (w .row)) 6 0 + size new ≤ separatorSize) = good-by (w .st) separatorSize (lone (w .row)) (w .row) new some (w .good) (w .most) in
+          let good : Fits new × (cond (lone (w .row)) 6 0 + size new ≤ separatorSize) =
+          good-by (w .st) separatorSize (lone (w .row)) (w .row) new some (w .good) (w .most) in
           let e : new ≡ O .0 = λ i. o (sym (w .point) i) (sym (level .1) i) in
           (subst Fits e (good .0), omega (arith, ap size e))
 
@@ -201,7 +203,8 @@ module _ {g : Growing} {p : ℕ} {l u : List ℕ} (w : Large g p l u) where
       after : After (g .dry) (C .img) img (separatorMem (w .st) (g .near) (w .row) (w .work) (pageOf img))
       unfolding separatorMem
       after =
-          let a = separate-mem (w .st) g (w .setup) (env .few) (env .start) p 6 nil level-row u img (w .work) (w .marked) (env .past) (env .image) tt level-below good-row in
+          let a = separate-mem (w .st) g (w .setup) (env .few) (env .start) p 6 nil level-row u img (w .work) (w .marked) (env .past)
+          (env .image) tt level-below good-row in
           record {
             long = a .long;
             same = a .same;
@@ -252,4 +255,5 @@ module _ {g : Growing} {p : ℕ} {l u : List ℕ} (w : Large g p l u) where
           p3 ∙ (λ i. over 4 (two (v i)) (w2 i)) ∙ over-inside 0 4 (header 1 lb k₀ ++ B) (two (6 + size (C .row))) o₀ (omega arith) (omega (arith, short-row))
           ∙ ap (λ (y : List ℕ). over 0 y o₀) (resized lb k₀ (6 + size (C .row)) B) in
           let w4 : bytes N ≡ header 1 lb (6 + size (C .row)) ++ B = ap (λ (y : List ℕ). header 1 lb (6 + size (C .row)) ++ y) (append-nil B) in
-          severed lf (r .end) (omega (arith, lf .next, ap size z)) (w3 ∙ ap (λ (y : List ℕ). over 0 y o₀) (sym w4) ∙ ap (λ (x : Row). over 0 (bytes x) o₀) (sym z))
+          severed lf (r .end) (omega (arith, lf .next, ap size z)) (w3 ∙ ap (λ (y : List ℕ). over 0 y o₀) (sym w4) ∙ ap (λ (x : Row). over 0 (bytes x) o₀)
+          (sym z))

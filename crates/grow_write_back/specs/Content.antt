@@ -83,7 +83,8 @@ module _ {l : List ℕ} {n : ℕ} (w : Content l n) where
   }
 
   -- The record's page, then the links.
-  pub kept-is : (q holder : ℕ) (img : List ℕ) {settled : ℕ} {a b : List ℕ} (s : Bool) → settled ≡ cond s 1 0 → a ≡ setPage q (pageBytesOf l settled holder) img → b ≡ links q (w .row) a
+  pub kept-is : (q holder : ℕ) (img : List ℕ) {settled : ℕ} {a b : List ℕ} (s : Bool) → settled ≡ cond s 1 0
+      → a ≡ setPage q (pageBytesOf l settled holder) img → b ≡ links q (w .row) a
       → b ≡ written q s holder (w .row) img
   kept-is q holder img s e pa pb =
       pb ∙ ap (links q (w .row)) (pa ∙ (λ i. setPage q (pageBytesOf (w .is i) (e i) holder) img))

@@ -84,6 +84,7 @@ module _ (st : Config) (n near : ℕ) (e : st .pages ≡ n) (few : n ≤ mostPag
       let a : Named n o = separate-named p 6 nil (rootRow st (lone r) r) w tt (below-root st n (lone r) r b) h in
       record { row = below-with st n (lone r) r (o .0) b (a .row); used = a .used }
 
-pub below-separator : (st : Config) (n near : ℕ) (u : List ℕ) (w : Work) → st .pages ≡ n → n ≤ mostPages → near < n → InUse u w → Past n u → (r : Row) → Below n r
+pub below-separator : (st : Config) (n near : ℕ) (u : List ℕ) (w : Work) → st .pages ≡ n → n ≤ mostPages → near < n → InUse u w → Past n u → (r : Row)
+    → Below n r
     → Below n (separator st near r w .0)
 below-separator st n near u w e few start m past r b = separator-named st n near e few start r w b (marked-beyond m past) .row

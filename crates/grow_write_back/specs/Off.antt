@@ -139,5 +139,6 @@ module _ {g : Growing} {settled : ℕ} {l u img : List ℕ} (w : Off g settled l
       off-done {r} {u″} {i″} {o₀} {o₁} s = (
         subst (λ (x : List ℕ). Severed (w .st) g (w .row) W r u″ x i″ o₀ o₁) ie s,
         marked-past (s .marked)
-            (separator-named (w .st) (g .setup .pages) (g .near) (pages-of (w .setup)) (env .few) (env .start) (w .row) W (w .below) (marked-beyond marks past) .used),
+            (separator-named (w .st) (g .setup .pages) (g .near) (pages-of (w .setup)) (env .few) (env .start) (w .row) W (w .below)
+            (marked-beyond marks past) .used),
       )

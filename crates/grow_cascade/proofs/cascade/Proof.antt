@@ -91,8 +91,19 @@ keep-requires : tie.Need-keep-requires Inv-loop μ-loop
 keep-requires c κs =
     let b = c .before .before .before in
     let r = here (b .before .before .before .before) .now .rising in
-    let i = inside r in
-    (i .1 .1 .0, (omega (arith, long-image r), (i .1 .0, (settled-in b .0, (settled-in b .1, content r (omega (arith, r .long, c .before .before .if1 .taken)))))))
+    let i = inside r in (
+      i .1 .1 .0,
+      (
+        omega (arith, long-image r),
+        (
+          i .1 .0,
+          (
+            settled-in b .0,
+            (settled-in b .1, content r (omega (arith, r .long, c .before .before .if1 .taken))),
+          ),
+        ),
+      ),
+    )
 
 same-length : tie.Need-same-length Inv-loop μ-loop
 same-length c = c .before .before .keep .kept .0 ∙ here (c .before .before .before .before .before .before .before .before .before .before) .same
@@ -107,7 +118,8 @@ returns c =
     let o = b .before .before .before .before .loop .inv .0 w in
     let r = o .now .rising in
     let fit : recordSize (o .now .row) ≤ capacity = omega (arith, r .long, c .before .before .before .before .before .if1 .taken) in
-    onward-end o (low-done r fit (b .back-at .ensures .0 ∙ holder-is r) (c .before .before .keep .ensures (content r fit) (lastSettled (o .now .chain)) (bit-of b w)))
+    onward-end o (low-done r fit (b .back-at .ensures .0 ∙ holder-is r)
+    (c .before .before .keep .ensures (content r fit) (lastSettled (o .now .chain)) (bit-of b w)))
 
 slice-reshare-prefix-lean-now : tie.Need-slice-reshare-prefix-lean-now Inv-loop μ-loop
 slice-reshare-prefix-lean-now c = fits-buffer (c .before .before .before .before .before)
@@ -157,7 +169,9 @@ cut-of x w =
     x .split-off .ensures (off (l .loop .inv .0 w .now .rising) (large x w) (at-start l .args .start .dry) _ (bit-of (x₁ .before) w))
 
 lean-of : (x : tie.After-split-off Inv-loop μ-loop) → let y = at-loop x in let l = y .loop in (w : Given (at-start y))
-    → let k = l .inv .0 w .now in toZ w32 (ofZ w32 (x .before .before .before .before .before .lean-now .result)) ≡ leanNow (k .st) (k .row) (l .splits) (toZ w32 (l .lean))
+    → let k =
+    l .inv .0 w .now in toZ w32 (ofZ w32 (x .before .before .before .before .before .lean-now .result)) ≡ leanNow (k .st) (k .row) (l .splits)
+    (toZ w32 (l .lean))
 lean-of x w =
     let l = at-loop x .loop in
     let k = l .inv .0 w .now in
@@ -184,7 +198,8 @@ slice-aggregate-keep-2 : tie.Need-slice-aggregate-keep-2 Inv-loop μ-loop
 slice-aggregate-keep-2 c = taken-end (c .before .before .before .before .before .before .before)
 
 -- the split record is settled
-stays-of : (x : tie.After-split-off Inv-loop μ-loop) → let a = x .before .before .before .before .before .before .before .before .before .before in let l = at-loop x in
+stays-of : (x : tie.After-split-off Inv-loop μ-loop)
+    → let a = x .before .before .before .before .before .before .before .before .before .before in let l = at-loop x in
     a .settled-at .result ≡ 1 → (w : Given (at-start l)) → lastSettled (l .loop .inv .0 w .now .chain) ≡ true
 stays-of x e w =
     let b = x .before .before .before .before .before .before .before .before in
@@ -198,8 +213,13 @@ keep-requires-2 c κs =
     let r = at-loop x .loop .inv .0 w .now .rising in
     let i = inside r in
     let y = stays-of x (c .before .before .if2 .taken) w in
-    let v = cut-of x w .0 in
-    (i .1 .1 .0, (omega (arith, long-image r, severed-long r (large x w) y v), (i .1 .0, (settled-in b .0, (settled-in b .1, severed-content r (large x w) y v)))))
+    let v = cut-of x w .0 in (
+      i .1 .1 .0,
+      (
+        omega (arith, long-image r, severed-long r (large x w) y v),
+        (i .1 .0, (settled-in b .0, (settled-in b .1, severed-content r (large x w) y v))),
+      ),
+    )
 
 same-length-3 : tie.Need-same-length-3 Inv-loop μ-loop
 same-length-3 c =
@@ -228,7 +248,8 @@ slice-aggregate-lift : tie.Need-slice-aggregate-lift Inv-loop μ-loop
 slice-aggregate-lift c = taken-end (c .before .before .before .before .before .before .before)
 
 -- the record above
-above : (x : tie.After-split-off Inv-loop μ-loop) → let b = x .before .before .before .before .before .before .before .before in let y = at-loop x in let l = y .loop in let s = at-start y in
+above : (x : tie.After-split-off Inv-loop μ-loop)
+    → let b = x .before .before .before .before .before .before .before .before in let y = at-loop x in let l = y .loop in let s = at-start y in
     let z = x .split-off .last .1 in let q = x .split-off .result in (b .before .before .settled-at .result ≡ 1 → ⊥) → (w : Given s)
     → Upward (goalOf w) (memOf w) (s .args .image .now) (nearTo (s .args .start) (l .near)) (b .back-at .result) (q .end) (l .full || q .full) (l .splits + 1)
     (toZ w32 (ofZ w32 (x .before .before .before .before .before .lean-now .result))) (l .buf) (z .1 .0) (z .0) (z .1 .1 .1 .1 .0)
@@ -236,7 +257,8 @@ above x e w =
     let b = x .before .before .before .before .before .before .before .before in
     let o = at-loop x .loop .inv .0 w in
     let v = cut-of x w in
-    upward o (large x w) (bit-goes (lastSettled (o .now .chain)) _ (bit-of b w) e) (b .back-at .ensures .0 ∙ holder-is (o .now .rising)) (v .0) (v .1) (lean-of x w)
+    upward o (large x w) (bit-goes (lastSettled (o .now .chain)) _ (bit-of b w) e) (b .back-at .ensures .0 ∙ holder-is (o .now .rising)) (v .0) (v .1)
+    (lean-of x w)
 
 lift-requires : tie.Need-lift-requires Inv-loop μ-loop
 lift-requires c κs =

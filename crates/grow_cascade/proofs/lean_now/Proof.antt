@@ -10,7 +10,8 @@ use Rattle.grow_cascade.proofs.lean_now.Tie as tie
 
 returns : tie.Need-returns
 returns c =
-    λ w. rw (ne-eqb (c .before .before .args .splits) 0 (c .if1 .taken)) (toZ-ofZ {w = w32} (lean-signed (c .before .before .args .lean) (c .before .before .pre .0)))
+    λ w. rw (ne-eqb (c .before .before .args .splits) 0 (c .if1 .taken))
+    (toZ-ofZ {w = w32} (lean-signed (c .before .before .args .lean) (c .before .before .pre .0)))
 
 first-lean-requires : tie.Need-first-lean-requires
 first-lean-requires c κs = c .before .before .pre .1
@@ -19,7 +20,8 @@ returns-2 : tie.Need-returns-2
 returns-2 c =
     λ w.
     let e = c .first-lean .ensures w in
-    rw (eq-eqb (c .before .before .before .args .splits) 0 (c .before .if1 .left)) (toZ-ofZ {w = w32} (lean-signed (c .first-lean .result) (rw e (leaning-in w))) ∙ e)
+    rw (eq-eqb (c .before .before .before .args .splits) 0 (c .before .if1 .left))
+    (toZ-ofZ {w = w32} (lean-signed (c .first-lean .result) (rw e (leaning-in w))) ∙ e)
 
 pub lean-now-spec : {M : Type 1} → statement M
 lean-now-spec = tie.close (tie.spec returns first-lean-requires returns-2)

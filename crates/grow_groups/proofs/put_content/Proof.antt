@@ -62,7 +62,8 @@ same-length c = search needs
 
 returns : tie.Need-returns
 returns c =
-    λ w. page-with _ _ _ _ _ (c .before .before .put-record .ensures) (one-node _ _ w _ (c .before .before .before .before .before .size-at .ensures .0) (c .before .before .before .before .if1 .taken))
+    λ w. page-with _ _ _ _ _ (c .before .before .put-record .ensures) (one-node _ _ w _ (c .before .before .before .before .before .size-at .ensures .0)
+    (c .before .before .before .before .if1 .taken))
 
 same-length-2 : tie.Need-same-length-2
 same-length-2 c = search needs

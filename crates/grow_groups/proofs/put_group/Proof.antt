@@ -29,7 +29,8 @@ same-length c = search needs
 
 returns : tie.Need-returns
 returns c =
-    λ w. group-kept w (sym (c .before .before .before .before .if1 .taken) ∙ c .before .before .before .before .before .stays .ensures (w .row) (w .is)) _ _ _ (c .before .before .copy-in .ensures)
+    λ w. group-kept w (sym (c .before .before .before .before .if1 .taken) ∙ c .before .before .before .before .before .stays .ensures (w .row) (w .is)) _ _ _
+    (c .before .before .copy-in .ensures)
 
 first-free-requires : tie.Need-first-free-requires
 first-free-requires c κs = search needs

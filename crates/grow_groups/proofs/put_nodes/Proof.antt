@@ -20,7 +20,8 @@ same-length c = search needs
 
 returns : tie.Need-returns
 returns c =
-    λ w. c .before .before .relink .ensures (part-linked _ _ w) ∙ ap (links _ (w .row)) (c .before .before .before .before .before .before .put-content .ensures w)
+    λ w. c .before .before .relink .ensures (part-linked _ _ w) ∙ ap (links _ (w .row))
+    (c .before .before .before .before .before .before .put-content .ensures w)
 
 pub put-nodes-spec : {M : Type 1} → statement M
 put-nodes-spec = tie.close (tie.spec put-content-requires relink-requires same-length returns)

@@ -70,13 +70,15 @@ start x = x .before .before .before .before .before .before .before .before .bef
 where-is : (x : tie.After-place-node) → (w : Given (start x)) → x .before .before .before .before .find-receiver .result ≡ receiverOf (w .aim .t)
 where-is x w = x .before .before .before .before .find-receiver .ensures (w .aim)
 
-setup-of : (x : tie.After-place-node) → (w : Given (start x)) → setupOf (st w) ≡ x .before .before .before .before .before .before .before .before .before .before .setup-on .result
+setup-of : (x : tie.After-place-node) → (w : Given (start x))
+    → setupOf (st w) ≡ x .before .before .before .before .before .before .before .before .before .before .setup-on .result
 setup-of x w = setup-is w (x .before .before .before .before .before .before .before .before .before .before .setup-on .ensures)
 
 marks-is : (x : tie.After-place-node) → (w : Given (start x)) → InUse (x .before .before .before .before .before .before .usage .result) (W w)
 marks-is x w = x .before .before .before .before .before .before .usage .ensures (st w) (root w) (w .aim .reads)
 
-placed-is : (x : tie.After-place-node) → let s = start x in let u = x .before .before .before .before .before .before in (w : Given s) → let z = x .place-node .last in
+placed-is : (x : tie.After-place-node) → let s = start x in let u = x .before .before .before .before .before .before in (w : Given s)
+    → let z = x .place-node .last in
     NodePlaced (st w) (w .x) (h w) (record { setup = u .before .before .before .before .setup-on .result; near = x .before .before .before .before .find-receiver .result .page; dry = s .args .dry }) (W w)
     (s .args .image .now) (replicate mostNode 0) (x .place-node .result) (z .1 .0) (z .0) (z .1 .1 .1 .1 .1 .1 .0)
 placed-is x w =
@@ -105,7 +107,8 @@ take-in-requires c κs =
     (into-record w (where-is x w) (setup-of x w) (marks-is x w) (placed-is x w), refl)
 
 -- the record with the node
-taken-is : (y : tie.After-take-in) → let x = y .before .before .before .before .before .before .before in (w : Given (start x)) → let r = fill (spot w) (P w ⊹ rest w) in
+taken-is : (y : tie.After-take-in) → let x = y .before .before .before .before .before .before .before in (w : Given (start x))
+    → let r = fill (spot w) (P w ⊹ rest w) in
     (y .take-in .result ≡ recordSize r) × (y .take-in .last .1 .1 .1 .1 .1 .0 ≡ over 0 (recordBytes r) (replicate bufferSize 0))
 taken-is y w =
     let x = y .before .before .before .before .before .before .before in
@@ -157,7 +160,8 @@ cascade-requires c κs =
 same-length : tie.Need-same-length
 same-length c =
     let n = c .before .before .before .before .before .before .before .before .before .before in
-    c .before .before .before .before .cascade .kept .0 ∙ n .new-place .kept .0 ∙ n .before .before .before .before .before .before .before .before .before .before .before .before .place-node .kept .0
+    c .before .before .before .before .cascade .kept .0 ∙ n .new-place .kept .0
+    ∙ n .before .before .before .before .before .before .before .before .before .before .before .before .place-node .kept .0
 
 returns : tie.Need-returns
 returns c =

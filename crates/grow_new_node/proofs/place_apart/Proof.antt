@@ -47,7 +47,8 @@ returns c =
     let old = s .args .image .now in
     let new = setPage q (pageBytesOf (s .args .node .now) 1 (g .near)) old in
     let i : c .before .before .before .before .if1 .image ≡ cond (g .dry) old new =
-    ⊎-elim (λ w. wet (g .dry) _ old new (w .0 .taken) (w .5 ∙ w .2 .ensures)) (λ w. still (g .dry) _ old new (w .0 .left) (w .1)) (c .before .before .before .before .if1 .came) in
+    ⊎-elim (λ w. wet (g .dry) _ old new (w .0 .taken) (w .5 ∙ w .2 .ensures)) (λ w. still (g .dry) _ old new (w .0 .left) (w .1))
+    (c .before .before .before .before .if1 .came) in
     λ st e row l b. own st g e q row (s .args .node .now) _ old _ _ _ (f .first-free .ensures st (pages-of e)) l b i (c .before .before .put-proxy .ensures)
 
 pub place-apart-spec : {M : Type 1} → statement M

@@ -32,8 +32,11 @@ returns c =
     let s = a .before .before .before .before in
     let k = s .args .kind in
     let l = s .args .label in
-    let t = s .args .content .now in
-    (λ st. node-size st k l t (s .pre .0 .kinds), λ st. node-written st k l t (s .pre .0 .kinds) _ _ _ _ _ (s .pre .1) (a .put16 .ensures) (b .put162 .ensures) (e .put163 .ensures) (d .copy-in .ensures))
+    let t = s .args .content .now in (
+      λ st. node-size st k l t (s .pre .0 .kinds),
+      λ st. node-written st k l t (s .pre .0 .kinds) _ _ _ _ _ (s .pre .1) (a .put16 .ensures)
+          (b .put162 .ensures) (e .put163 .ensures) (d .copy-in .ensures),
+    )
 
 pub put-node-spec : {M : Type 1} → statement M
 put-node-spec =

@@ -126,16 +126,18 @@ in-group-requires-2 t c κs =
     (v .low, (v .start, (v .few, (s .pre .1 .1 .1 .0, right-span w xe))))
 
 returns-2 : (t : ℕ) → moved-in-lts.Need-returns-2 (claims t) (moved-in-at t) moved-in.Post
-returns-2 t c = (
-  refl,
-  λ w work m.
-      let s = c .before .before .before .before .before .before .before .before .before .before .before .before in
-      let v = s .pre .1 .1 .0 in
-      let xe = c .before .before .before .before .before .before .before .before .before .child .ensures (w .kids) in
-      let ue = c .before .before .before .before .before .mark-group .ensures (L w xe) (left-bytes (w .kids) _ _ xe) (w .st) (w .setup) (s .args .image .now) in
-      let e = sym (c .before .before .before .before .enters .ensures _ (at-x w xe) (w .st) (tolerance-of (w .setup))) ∙ turned _ _ (c .before .before .before .if2 .taken) in
-      done-right w xe work _ _ (c .before .before .before .before .before .before .before .before .if1 .left) e (c .in-group2 .ensures (right-span w xe) (w .st) (w .setup) _ (left-marked w xe v work m ue)),
-)
+returns-2 t c =
+    let c₁ = c .before .before .before .before .before .before .before in
+    let k = c .before .before .before .before in (
+      refl,
+      λ w work m.
+          let s = c₁ .before .before .before .before .before in
+          let v = s .pre .1 .1 .0 in
+          let xe = c₁ .before .before .child .ensures (w .kids) in
+          let ue = k .before .mark-group .ensures (L w xe) (left-bytes (w .kids) _ _ xe) (w .st) (w .setup) (s .args .image .now) in
+          let e = sym (k .enters .ensures _ (at-x w xe) (w .st) (tolerance-of (w .setup))) ∙ turned _ _ (c .before .before .before .if2 .taken) in
+          done-right w xe work _ _ (c₁ .before .if1 .left) e (c .in-group2 .ensures (right-span w xe) (w .st) (w .setup) _ (left-marked w xe v work m ue)),
+    )
 
 add-inner : (t : ℕ) → moved-in-lts.Need-add-inner (claims t) (moved-in-at t) moved-in.Post
 add-inner t c = omega (arith, x-in t (c .before .before .before .before .before .before))
@@ -144,7 +146,8 @@ size-at-requires : (t : ℕ) → moved-in-lts.Need-size-at-requires (claims t) (
 size-at-requires t c κs = omega (arith, x-in t (c .before .before .before .before .before .before))
 
 -- the child that is entered is in the row
-inner-in : (t : ℕ) → (c : moved-in-lts.After-size-at (claims t) (moved-in-at t) moved-in.Post) → let d = c .before .before .before .before .before .before .before in let a = d .before .before .before .args in
+inner-in : (t : ℕ) → (c : moved-in-lts.After-size-at (claims t) (moved-in-at t) moved-in.Post)
+    → let d = c .before .before .before .before .before .before .before in let a = d .before .before .before .args in
     let x = d .child .result in let k = c .size-at .result in (x + 6 < x + k) × ((x + k ≤ a .row .end) × (a .row .end ≤ length (a .buf .now)))
 inner-in t c =
     let w = c .before .before .before .before .before .before .before .before .before .before .pre .1 .1 .1 .1 in
@@ -157,13 +160,14 @@ add-next t c = omega (arith, inner-in t c)
 
 moved-in-requires : (t : ℕ) → moved-in-lts.Need-moved-in-requires (claims t) (moved-in-at t) moved-in.Post
 moved-in-requires t c κs =
-    let s = c .before .before .before .before .before .before .before .before .before .before .before .before .before in
+    let k = c .before .before .before .before .before in
+    let s = k .before .before .before .before .before .before .before .before in
     let d = s .pre .1 .0 in
     let v = s .pre .1 .1 .0 in
     let w = s .pre .1 .1 .1 .1 in
-    let xe = c .before .before .before .before .before .before .before .before .before .before .child .ensures (w .kids) in
-    let ue = c .before .before .before .before .before .before .mark-group .ensures (L w xe) (left-bytes (w .kids) _ _ xe) (w .st) (w .setup) (s .args .image .now) in
-    let e = sym (c .before .before .before .before .before .enters .ensures _ (at-x w xe) (w .st) (tolerance-of (w .setup))) ∙ turned _ _ (c .before .before .before .before .if2 .left) in
+    let xe = k .before .before .before .before .before .child .ensures (w .kids) in
+    let ue = k .before .mark-group .ensures (L w xe) (left-bytes (w .kids) _ _ xe) (w .st) (w .setup) (s .args .image .now) in
+    let e = sym (k .enters .ensures _ (at-x w xe) (w .st) (tolerance-of (w .setup))) ∙ turned _ _ (c .before .before .before .before .if2 .left) in
     let z = c .before .before .before .size-at .ensures .0 in
     (omega (arith, s .pre .0, x-fits w xe, inner-in t (c .before .before .before)), (d, (next-env w xe d ue v, (s .pre .1 .1 .1 .0, next-sep w xe d ue e _ z))))
 
@@ -171,29 +175,33 @@ same-length : (t : ℕ) → moved-in-lts.Need-same-length (claims t) (moved-in-a
 same-length t c = ap length (c .before .before .moved-in .ensures .0)
 
 returns-3 : (t : ℕ) → moved-in-lts.Need-returns-3 (claims t) (moved-in-at t) moved-in.Post
-returns-3 t c = (
-  c .before .before .moved-in .ensures .0,
-  λ w work m.
-      let s = c .before .before .before .before .before .before .before .before .before .before .before .before .before .before .before .before in
-      let d = s .pre .1 .0 in
-      let v = s .pre .1 .1 .0 in
-      let xe = c .before .before .before .before .before .before .before .before .before .before .before .before .before .child .ensures (w .kids) in
-      let ue = c .before .before .before .before .before .before .before .before .before .mark-group .ensures (L w xe) (left-bytes (w .kids) _ _ xe) (w .st) (w .setup) (s .args .image .now) in
-      let e = sym (c .before .before .before .before .before .before .before .before .enters .ensures _ (at-x w xe) (w .st) (tolerance-of (w .setup))) ∙ turned _ _ (c .before .before .before .before .before .before .before .if2 .left) in
-      let z = c .before .before .before .before .before .before .size-at .ensures .0 in
-      done-under w xe work _ _ (c .before .before .before .before .before .before .before .before .before .before .before .before .if1 .left) e _ z (c .before .before .before .before .before .if3 .taken)
-      (c .before .before .moved-in .ensures .1 (next-sep w xe d ue e _ z) _ (left-marked w xe v work m ue)),
-)
+returns-3 t c =
+    let c₁ = c .before .before .before .before .before .before .before in
+    let c₂ = c₁ .before .before .before .before .before .before .before in
+    let k = c₁ .before in (
+      c .before .before .moved-in .ensures .0,
+      λ w work m.
+          let s = c₂ .before .before in
+          let d = s .pre .1 .0 in
+          let v = s .pre .1 .1 .0 in
+          let xe = k .before .before .before .before .before .child .ensures (w .kids) in
+          let ue = k .before .mark-group .ensures (L w xe) (left-bytes (w .kids) _ _ xe) (w .st) (w .setup) (s .args .image .now) in
+          let e = sym (k .enters .ensures _ (at-x w xe) (w .st) (tolerance-of (w .setup))) ∙ turned _ _ (c₁ .if2 .left) in
+          let z = c .before .before .before .before .before .before .size-at .ensures .0 in
+          done-under w xe work _ _ (k .before .before .before .before .if1 .left) e _ z (c .before .before .before .before .before .if3 .taken)
+          (c .before .before .moved-in .ensures .1 (next-sep w xe d ue e _ z) _ (left-marked w xe v work m ue)),
+    )
 
 mark-level-requires : (t : ℕ) → moved-in-lts.Need-mark-level-requires (claims t) (moved-in-at t) moved-in.Post
 mark-level-requires t c κs =
-    let s = c .before .before .before .before .before .before .before .before .before .before .before .before .before in
+    let k = c .before .before .before .before .before in
+    let s = k .before .before .before .before .before .before .before .before in
     let d = s .pre .1 .0 in
     let v = s .pre .1 .1 .0 in
     let w = s .pre .1 .1 .1 .1 in
-    let xe = c .before .before .before .before .before .before .before .before .before .before .child .ensures (w .kids) in
-    let ue = c .before .before .before .before .before .before .mark-group .ensures (L w xe) (left-bytes (w .kids) _ _ xe) (w .st) (w .setup) (s .args .image .now) in
-    let e = sym (c .before .before .before .before .before .enters .ensures _ (at-x w xe) (w .st) (tolerance-of (w .setup))) ∙ turned _ _ (c .before .before .before .before .if2 .left) in
+    let xe = k .before .before .before .before .before .child .ensures (w .kids) in
+    let ue = k .before .mark-group .ensures (L w xe) (left-bytes (w .kids) _ _ xe) (w .st) (w .setup) (s .args .image .now) in
+    let e = sym (k .enters .ensures _ (at-x w xe) (w .st) (tolerance-of (w .setup))) ∙ turned _ _ (c .before .before .before .before .if2 .left) in
     let z = c .before .before .before .size-at .ensures .0 in
     (d, (next-env w xe d ue v, next-sep w xe d ue e _ z))
 
@@ -209,11 +217,12 @@ part-in-group-end-3 t c = omega (arith, inner-in t (c .before .before .before .b
 in-group-requires-3 : (t : ℕ) → moved-in-lts.Need-in-group-requires-3 (claims t) (moved-in-at t) moved-in.Post
 in-group-requires-3 t c κs =
     let c₁ = c .before .before .before .before .before .before .before .before .before in
-    let s = c₁ .before .before .before .before .before .before .before .before .before in
+    let k = c₁ .before in
+    let s = k .before .before .before .before .before .before .before .before in
     let v = s .pre .1 .1 .0 in
     let w = s .pre .1 .1 .1 .1 in
-    let xe = c₁ .before .before .before .before .before .before .child .ensures (w .kids) in
-    let e = sym (c₁ .before .enters .ensures _ (at-x w xe) (w .st) (tolerance-of (w .setup))) ∙ turned _ _ (c₁ .if2 .left) in
+    let xe = k .before .before .before .before .before .child .ensures (w .kids) in
+    let e = sym (k .enters .ensures _ (at-x w xe) (w .st) (tolerance-of (w .setup))) ∙ turned _ _ (c₁ .if2 .left) in
     let z = c .before .before .before .before .before .before .before .before .size-at .ensures .0 in
     (v .low, (v .start, (v .few, (s .pre .1 .1 .1 .0, rest-span w xe e _ z))))
 
@@ -221,19 +230,22 @@ same-length-2 : (t : ℕ) → moved-in-lts.Need-same-length-2 (claims t) (moved-
 same-length-2 t c = ap length (c .before .before .before .before .before .mark-level .ensures .0)
 
 returns-4 : (t : ℕ) → moved-in-lts.Need-returns-4 (claims t) (moved-in-at t) moved-in.Post
-returns-4 t c = (
-  c .before .before .before .before .before .mark-level .ensures .0,
-  λ w work m.
-      let s = c .before .before .before .before .before .before .before .before .before .before .before .before .before .before .before .before .before .before .before in
-      let d = s .pre .1 .0 in
-      let v = s .pre .1 .1 .0 in
-      let xe = c .before .before .before .before .before .before .before .before .before .before .before .before .before .before .before .before .child .ensures (w .kids) in
-      let ue = c .before .before .before .before .before .before .before .before .before .before .before .before .mark-group .ensures (L w xe) (left-bytes (w .kids) _ _ xe) (w .st) (w .setup) (s .args .image .now) in
-      let e = sym (c .before .before .before .before .before .before .before .before .before .before .before .enters .ensures _ (at-x w xe) (w .st) (tolerance-of (w .setup))) ∙ turned _ _ (c .before .before .before .before .before .before .before .before .before .before .if2 .left) in
-      let z = c .before .before .before .before .before .before .before .before .before .size-at .ensures .0 in
-      let y = inner-marked w xe v work m ue (c .before .before .before .before .before .mark-level .ensures .1 (next-sep w xe d ue e _ z)) in
-      done-after w xe work _ _ (c .before .before .before .before .before .before .before .before .before .before .before .before .before .before .before .if1 .left) e _ z (c .before .before .before .before .before .before .before .before .if3 .left) (c .in-group3 .ensures (rest-span w xe e _ z) (w .st) (w .setup) _ y),
-)
+returns-4 t c =
+    let c₁ = c .before .before .before .before .before .before .before in
+    let c₂ = c₁ .before .before .before .before .before .before .before in
+    let k = c₁ .before .before .before .before in (
+      c .before .before .before .before .before .mark-level .ensures .0,
+      λ w work m.
+          let s = c₂ .before .before .before .before .before in
+          let d = s .pre .1 .0 in
+          let v = s .pre .1 .1 .0 in
+          let xe = c₂ .before .before .child .ensures (w .kids) in
+          let ue = k .before .mark-group .ensures (L w xe) (left-bytes (w .kids) _ _ xe) (w .st) (w .setup) (s .args .image .now) in
+          let e = sym (k .enters .ensures _ (at-x w xe) (w .st) (tolerance-of (w .setup))) ∙ turned _ _ (c₁ .before .before .before .if2 .left) in
+          let z = c₁ .before .before .size-at .ensures .0 in
+          let y = inner-marked w xe v work m ue (c .before .before .before .before .before .mark-level .ensures .1 (next-sep w xe d ue e _ z)) in
+          done-after w xe work _ _ (c₂ .before .if1 .left) e _ z (c₁ .before .if3 .left) (c .in-group3 .ensures (rest-span w xe e _ z) (w .st) (w .setup) _ y),
+    )
 
 pub +moved-in-spec : {M : Type 1} → statement M
 +moved-in-spec = close μ-moved-in λ t. moved-in-lts.spec (claims t)

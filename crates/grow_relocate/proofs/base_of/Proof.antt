@@ -20,11 +20,13 @@ size-at-requires c κs =
 
 returns-2 : tie.Need-returns-2
 returns-2 c =
-    λ w. base-one w (sym (c .before .before .before .stays .ensures (w .row) (w .is)) ∙ c .before .before .if1 .left) _ (c .before .size-at .ensures .0) (c .if2 .taken)
+    λ w. base-one w (sym (c .before .before .before .stays .ensures (w .row) (w .is)) ∙ c .before .before .if1 .left) _ (c .before .size-at .ensures .0)
+    (c .if2 .taken)
 
 returns-3 : tie.Need-returns-3
 returns-3 c =
-    λ w. base-more w (sym (c .before .before .before .stays .ensures (w .row) (w .is)) ∙ c .before .before .if1 .left) _ (c .before .size-at .ensures .0) (c .if2 .left)
+    λ w. base-more w (sym (c .before .before .before .stays .ensures (w .row) (w .is)) ∙ c .before .before .if1 .left) _ (c .before .size-at .ensures .0)
+    (c .if2 .left)
 
 pub base-of-spec : {M : Type 1} → statement M
 base-of-spec = tie.close (tie.spec stays-requires returns size-at-requires returns-2 returns-3)

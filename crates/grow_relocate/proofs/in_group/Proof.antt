@@ -17,7 +17,8 @@ returns : tie.Need-returns
 returns c =
     λ w st e work m.
     let s = c .before .before .before .before in
-    place-is (s .args .g) _ (s .pre .1 .1 .0) (s .pre .1 .0) st e _ (c .before .before .first-free .ensures st (pages-of e)) (w .row) _ _ _ _ work m (c .before .base-of .ensures w) (omega (arith, c .if1 .taken))
+    place-is (s .args .g) _ (s .pre .1 .1 .0) (s .pre .1 .0) st e _ (c .before .before .first-free .ensures st (pages-of e)) (w .row) _ _ _ _ work m
+    (c .before .base-of .ensures w) (omega (arith, c .if1 .taken))
 
 sub-t9 : tie.Need-sub-t9
 sub-t9 c = search needs
@@ -32,7 +33,8 @@ returns-2 : tie.Need-returns-2
 returns-2 c =
     λ w st e work m.
     let s = c .before .before .before .before in
-    place-is (s .args .g) _ (s .pre .1 .1 .0) (s .pre .1 .0) st e _ (c .before .before .first-free .ensures st (pages-of e)) (w .row) _ _ _ _ work m (c .before .base-of .ensures w) refl
+    place-is (s .args .g) _ (s .pre .1 .1 .0) (s .pre .1 .0) st e _ (c .before .before .first-free .ensures st (pages-of e)) (w .row) _ _ _ _ work m
+    (c .before .base-of .ensures w) refl
 
 pub in-group-spec : {M : Type 1} → statement M
 in-group-spec =

@@ -24,7 +24,8 @@ returns-2 : tie.Need-returns-2
 returns-2 c =
     λ row is st e img.
     let s = c .before .before .before .before .before in
-    marks-fresh (s .args .g) _ (s .pre .1 .1) (s .pre .1 .0) st e _ (c .first-free .ensures st (pages-of e)) row img (sym (c .before .before .if1 .left) ∙ c .before .before .before .stays .ensures row is)
+    marks-fresh (s .args .g) _ (s .pre .1 .1) (s .pre .1 .0) st e _ (c .first-free .ensures st (pages-of e)) row img
+    (sym (c .before .before .if1 .left) ∙ c .before .before .before .stays .ensures row is)
 
 pub mark-group-spec : {M : Type 1} → statement M
 mark-group-spec =

@@ -90,7 +90,9 @@ size-at-requires : (t : ℕ) → separate-lts.Need-size-at-requires (claims t) (
 size-at-requires t c κs = omega (arith, x-in t (c .before .before .before .before .before .before .before .before .before .before .before))
 
 -- the child that is entered is in the row
-inner-in : (t : ℕ) → (c : separate-lts.After-size-at (claims t) (separate-at t) separate.Post) → let d = c .before .before .before .before .before .before .before .before .before .before .before .before in let a = d .before .before .before .before .args in
+inner-in : (t : ℕ) → (c : separate-lts.After-size-at (claims t) (separate-at t) separate.Post)
+    → let d =
+    c .before .before .before .before .before .before .before .before .before .before .before .before in let a = d .before .before .before .before .args in
     let x = d .child .result in let k = c .size-at .result in (x + 6 < x + k) × ((x + k ≤ a .row .end) × (a .row .end ≤ length (a .buf .now)))
 inner-in t c =
     let s = c .before .before .before .before .before .before .before .before .before .before .before .before .before .before .before .before in
@@ -146,8 +148,7 @@ separate-requires t c κs =
     let h : s .args .at + (length (s .args .out .now) - s .args .at) ≤ length (s .args .out .now) = omega (arith, s .pre .1 .1 .0) in
     let lf = g .put-group .ensures (left-group w xe) in
     let e = sym (z .before .before .enters .ensures _ (at-x w xe) (w .st) (tolerance-of (w .setup))) ∙ z .before .if1 .taken in
-    let k = y .copy-in .kept .1 .0 ∙ g .put-group .kept .1 .1 .1 .1 .0 in
-    (
+    let k = y .copy-in .kept .1 .0 ∙ g .put-group .kept .1 .1 .1 .1 .0 in (
       omega (arith, s .pre .0, x-in t (g .before .before .before .before .before), inner-in t z),
       (
         env-left w xe lf (s .pre .1 .0) (g .put-group .kept .1 .0),
@@ -156,7 +157,10 @@ separate-requires t c κs =
     )
 
 -- what the inner level wrote is in out
-inner-out : (t : ℕ) → (c : separate-lts.After-separate (claims t) (separate-at t) separate.Post) → let b = c .before .before .before .before .before .before .before .before .before .before .before .before .before .before .before .before .before in let a = b .before .before .before .before .before .before .before .before .before .args in
+inner-out : (t : ℕ) → (c : separate-lts.After-separate (claims t) (separate-at t) separate.Post)
+    → let b =
+    c .before .before .before .before .before .before .before .before .before .before .before .before .before .before .before .before .before in let a =
+    b .before .before .before .before .before .before .before .before .before .args in
     (b .put-group .result .end + 6 ≤ c .separate .result .end) × ((c .separate .result .end ≤ length (a .out .now))
     × ((length (c .separate .last .1 .1 .1 .1 .1 .0) ≡ length (a .out .now)) × (length (a .out .now) < 65536)))
 inner-out t c =
@@ -213,8 +217,7 @@ put-group-requires-2 t c κs =
     let e = sym (z .before .before .enters .ensures _ (at-x w xe) (w .st) (tolerance-of (w .setup))) ∙ z .before .if1 .taken in
     let k = y .copy-in .kept .1 .0 ∙ g .put-group .kept .1 .1 .1 .1 .0 in
     let ml = v .separate .ensures (inner-sep w xe e lf h _ (z .size-at .ensures .0) (length (y .copy-in .last .1 .0)) k) in
-    let m = o .put16 .kept .0 ∙ v .separate .kept .1 .1 .1 .1 .1 .0 ∙ k in
-    (
+    let m = o .put16 .kept .0 ∙ v .separate .kept .1 .1 .1 .1 .1 .0 ∙ k in (
       env-inner w xe e lf h ml (env-left w xe lf (s .pre .1 .0) (g .put-group .kept .1 .0)) (v .separate .kept .1 .1 .0),
       (omega (arith, inner-out t v, m), rest-group w xe e lf h ml _ (z .size-at .ensures .0) _ m),
     )
@@ -279,7 +282,8 @@ put-group-requires-3 t c κs =
     let xe = g .before .before .before .before .before .child .ensures (w .kids) in
     let h : s .args .at + (length (s .args .out .now) - s .args .at) ≤ length (s .args .out .now) = omega (arith, s .pre .1 .1 .0) in
     let lf = g .put-group .ensures (left-group w xe) in
-    let e = sym (c .before .before .before .before .before .enters .ensures _ (at-x w xe) (w .st) (tolerance-of (w .setup))) ∙ c .before .before .before .before .if1 .left in
+    let e = sym (c .before .before .before .before .before .enters .ensures _ (at-x w xe) (w .st) (tolerance-of (w .setup)))
+    ∙ c .before .before .before .before .if1 .left in
     let k = g .put-group .kept .1 .1 .1 .1 .0 in
     (env-left w xe lf (s .pre .1 .0) (g .put-group .kept .1 .0), (omega (arith, left-end w xe lf h, k), right-group w xe e lf h k))
 
@@ -304,7 +308,8 @@ returns-2 t c =
     let h : s .args .at + (length (s .args .out .now) - s .args .at) ≤ length (s .args .out .now) = omega (arith, s .pre .1 .1 .0) in
     let lf = g .put-group .ensures (left-group w xe) in
     let e = sym (c₁ .before .enters .ensures _ (at-x w xe) (w .st) (tolerance-of (w .setup))) ∙ c₁ .if1 .left in
-    done-apart w xe e lf h (c .before .before .before .before .before .before .put-group3 .ensures (right-group w xe e lf h (g .put-group .kept .1 .1 .1 .1 .0)))
+    done-apart w xe e lf h (c .before .before .before .before .before .before .put-group3 .ensures
+    (right-group w xe e lf h (g .put-group .kept .1 .1 .1 .1 .0)))
 
 pub +separate-spec : {M : Type 1} → statement M
 +separate-spec = close μ-separate λ t. separate-lts.spec (claims t)

@@ -23,7 +23,8 @@ returns : tie.Need-returns
 returns c =
     let z = c .lean .ensures in
     λ w. toZ-ofZ {w = w32} (lean-signed (c .lean .result) (z .1)) ∙ z .0
-    ∙ lean-is w (c .before .before .split-point .ensures (w .st) (target-of (w .setup))) (c .before .start-of .ensures (leaning-kids w) (w .st) (tolerance-of (w .setup)))
+    ∙ lean-is w (c .before .before .split-point .ensures (w .st) (target-of (w .setup)))
+    (c .before .start-of .ensures (leaning-kids w) (w .st) (tolerance-of (w .setup)))
 
 pub first-lean-spec : {M : Type 1} → statement M
 first-lean-spec = tie.close (tie.spec split-point-requires start-of-requires lean-requires returns)

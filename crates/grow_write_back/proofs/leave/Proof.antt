@@ -33,7 +33,8 @@ returns-3 : tie.Need-returns-3
 returns-3 c =
     let a = c .before .before .before .before .before .before .before .args in
     λ stays e. left-marked (a .settled) (a .g) (a .used .now) (a .image .now) _ (c .before .before .before .before .before .if1 .left)
-    (wet (a .g .dry) _ (a .image .now) (setPage (a .g .near) blank (a .image .now)) (ap not (c .before .before .before .before .if2 .left)) (c .before .before .clear-page .ensures)) stays e
+    (wet (a .g .dry) _ (a .image .now) (setPage (a .g .near) blank (a .image .now)) (ap not (c .before .before .before .before .if2 .left))
+    (c .before .before .clear-page .ensures)) stays e
 
 pub leave-spec : {M : Type 1} → statement M
 leave-spec =
