@@ -282,37 +282,8 @@ loop-again c =
 
 pub cascade-spec : {M : Type 1} → statement M
 cascade-spec =
-    tie.close
-    (tie.spec
-    Inv-loop
-    μ-loop
-    loop-holds
-    mul-settled-at
-    settled-at-requires
-    mul-back-at
-    back-at-requires
-    slice-reshare-prefix-keep
-    slice-aggregate-keep
-    keep-requires
-    same-length
-    same-length-2
-    returns
-    slice-reshare-prefix-lean-now
-    slice-aggregate-lean-now
-    lean-now-requires
-    add-splits
-    slice-reshare-prefix-split-off
-    slice-aggregate-split-off
-    slice-aggregate-split-off-2
-    split-off-requires
-    array-share-prefix-sep
-    slice-aggregate-keep-2
-    keep-requires-2
-    same-length-3
-    same-length-4
-    returns-2
-    array-share-prefix-sep-2
-    slice-aggregate-lift
-    lift-requires
-    loop-less
+    tie.close (tie.spec Inv-loop μ-loop loop-holds mul-settled-at settled-at-requires mul-back-at back-at-requires slice-reshare-prefix-keep
+    slice-aggregate-keep keep-requires same-length same-length-2 returns slice-reshare-prefix-lean-now slice-aggregate-lean-now lean-now-requires
+    add-splits slice-reshare-prefix-split-off slice-aggregate-split-off slice-aggregate-split-off-2 split-off-requires array-share-prefix-sep
+    slice-aggregate-keep-2 keep-requires-2 same-length-3 same-length-4 returns-2 array-share-prefix-sep-2 slice-aggregate-lift lift-requires loop-less
     loop-again)

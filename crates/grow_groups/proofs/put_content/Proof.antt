@@ -77,21 +77,6 @@ returns-2 c =
 
 pub put-content-spec : {M : Type 1} → statement M
 put-content-spec =
-    tie.close
-    (tie.spec
-    size-at-requires
-    put-record-requires
-    array-write-content
-    slice-aggregate-put16
-    add-put16
-    put16-requires
-    slice-aggregate-copy-in
-    copy-in-requires
-    add-content
-    array-share-prefix-content
-    slice-aggregate-put-record
-    put-record-requires-2
-    same-length
-    returns
-    same-length-2
-    returns-2)
+    tie.close (tie.spec size-at-requires put-record-requires array-write-content slice-aggregate-put16 add-put16 put16-requires
+    slice-aggregate-copy-in copy-in-requires add-content array-share-prefix-content slice-aggregate-put-record put-record-requires-2 same-length
+    returns same-length-2 returns-2)

@@ -82,18 +82,5 @@ returns-2 c =
 
 pub put-group-spec : {M : Type 1} → statement M
 put-group-spec =
-    tie.close
-    (tie.spec
-    stays-requires
-    copy-in-requires
-    add-t15
-    same-length
-    returns
-    first-free-requires
-    element-write-used
-    put-nodes-requires
-    put-proxy-requires
-    add-t26
-    same-length-2
-    same-length-3
-    returns-2)
+    tie.close (tie.spec stays-requires copy-in-requires add-t15 same-length returns first-free-requires element-write-used put-nodes-requires
+    put-proxy-requires add-t26 same-length-2 same-length-3 returns-2)

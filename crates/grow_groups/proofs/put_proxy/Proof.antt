@@ -38,14 +38,4 @@ returns c =
 
 pub put-proxy-spec : {M : Type 1} → statement M
 put-proxy-spec =
-    tie.close
-    (tie.spec
-    put16-requires
-    add-put16
-    put16-requires-2
-    add-put16-2
-    put16-requires-3
-    add-put16-3
-    put16-requires-4
-    same-length
-    returns)
+    tie.close (tie.spec put16-requires add-put16 put16-requires-2 add-put16-2 put16-requires-3 add-put16-3 put16-requires-4 same-length returns)

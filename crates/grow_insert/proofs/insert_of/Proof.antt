@@ -173,22 +173,6 @@ returns-3 c =
 
 pub insert-of-spec : {M : Type 1} → statement M
 insert-of-spec =
-    tie.close
-    (tie.spec
-    admit-requires
-    refused-requires
-    same-length
-    returns
-    slice-aggregate-put-node
-    put-node-requires
-    array-share-prefix-node
-    slice-aggregate-once
-    once-requires
-    refused-requires-2
-    same-length-2
-    returns-2
-    array-share-prefix-node-2
-    slice-aggregate-once-2
-    once-requires-2
-    same-length-3
-    returns-3)
+    tie.close (tie.spec admit-requires refused-requires same-length returns slice-aggregate-put-node put-node-requires array-share-prefix-node
+    slice-aggregate-once once-requires refused-requires-2 same-length-2 returns-2 array-share-prefix-node-2 slice-aggregate-once-2 once-requires-2
+    same-length-3 returns-3)

@@ -65,16 +65,5 @@ returns-3 c =
 
 pub new-place-spec : {M : Type 1} → statement M
 new-place-spec =
-    tie.close
-    (tie.spec
-    shared-slice-read-if1
-    name-at-requires
-    returns
-    returns-2
-    mul-settled-at
-    settled-at-requires
-    leave-requires
-    split-point-requires
-    moved-to-requires
-    same-length
-    returns-3)
+    tie.close (tie.spec shared-slice-read-if1 name-at-requires returns returns-2 mul-settled-at settled-at-requires leave-requires
+    split-point-requires moved-to-requires same-length returns-3)

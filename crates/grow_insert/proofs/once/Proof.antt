@@ -17,6 +17,7 @@ use Rattle.model.specs.Growth.{asRow}
 use Rattle.theory_rows.specs.Laws.{length-bytes}
 use Rattle.theory_insert_point.specs.Chain.{fill}
 use Rattle.base_numbers.specs.Over.{over}
+use Rattle.base_layout.specs.declared.Growing.{Growing}
 use Rattle.base_layout.specs.Setup.{setupOf}
 use Rattle.base_layout.specs.Growing.{bufferSize, pages-of, matrix-of}
 use Rattle.grow_split_point.specs.Lean.{lean-signed}
@@ -77,9 +78,10 @@ setup-of x w = setup-is w (x .before .before .before .before .before .before .be
 marks-is : (x : tie.After-place-node) → (w : Given (start x)) → InUse (x .before .before .before .before .before .before .usage .result) (W w)
 marks-is x w = x .before .before .before .before .before .before .usage .ensures (st w) (root w) (w .aim .reads)
 
-placed-is : (x : tie.After-place-node) → let s = start x in let u = x .before .before .before .before .before .before in (w : Given s)
+placed-is : (x : tie.After-place-node) → let s = start x in let t = x .before .before .before .before in let u = t .before .before in (w : Given s)
     → let z = x .place-node .last in
-    NodePlaced (st w) (w .x) (h w) (record { setup = u .before .before .before .before .setup-on .result; near = x .before .before .before .before .find-receiver .result .page; dry = s .args .dry }) (W w)
+    let g : Growing = record { setup = u .before .before .before .before .setup-on .result; near = t .find-receiver .result .page; dry = s .args .dry } in
+    NodePlaced (st w) (w .x) (h w) g (W w)
     (s .args .image .now) (replicate mostNode 0) (x .place-node .result) (z .1 .0) (z .0) (z .1 .1 .1 .1 .1 .1 .0)
 placed-is x w =
     x .place-node .ensures (st w) (root w) (w .aim .reads) (setup-of x w) (W w) (marks-is x w) (w .x) (h w)
@@ -185,24 +187,6 @@ returns c =
 
 pub once-spec : {M : Type 1} → statement M
 once-spec =
-    tie.close
-    (tie.spec
-    setup-on-requires
-    label-at-requires
-    usage-requires
-    find-receiver-requires
-    slice-aggregate-place-node
-    place-node-requires
-    array-share-prefix-new
-    slice-aggregate-take-in
-    slice-aggregate-take-in-2
-    take-in-requires
-    array-share-prefix-new-2
-    slice-aggregate-new-place
-    array-share-prefix-buf
-    slice-aggregate-new-place-2
-    new-place-requires
-    slice-aggregate-cascade
-    cascade-requires
-    same-length
-    returns)
+    tie.close (tie.spec setup-on-requires label-at-requires usage-requires find-receiver-requires slice-aggregate-place-node place-node-requires
+    array-share-prefix-new slice-aggregate-take-in slice-aggregate-take-in-2 take-in-requires array-share-prefix-new-2 slice-aggregate-new-place
+    array-share-prefix-buf slice-aggregate-new-place-2 new-place-requires slice-aggregate-cascade cascade-requires same-length returns)

@@ -39,14 +39,4 @@ returns c = λ w. c .before .before .splice .ensures (taken-place w _ (taken-par
 
 pub take-in-spec : {M : Type 1} → statement M
 take-in-spec =
-    tie.close
-    (tie.spec
-    mul-a
-    used-at-requires
-    add-e
-    sub-splice
-    part-splice-start
-    part-splice-end
-    splice-requires
-    same-length
-    returns)
+    tie.close (tie.spec mul-a used-at-requires add-e sub-splice part-splice-start part-splice-end splice-requires same-length returns)

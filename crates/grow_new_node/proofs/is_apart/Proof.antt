@@ -32,12 +32,4 @@ returns c =
 
 pub is-apart-spec : {M : Type 1} → statement M
 is-apart-spec =
-    tie.close
-    (tie.spec
-    label-class-requires
-    label-class-requires-2
-    mul-at
-    add-at
-    add-at-2
-    shared-slice-read-result
-    returns)
+    tie.close (tie.spec label-class-requires label-class-requires-2 mul-at add-at add-at-2 shared-slice-read-result returns)

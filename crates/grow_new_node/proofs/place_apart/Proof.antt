@@ -53,12 +53,4 @@ returns c =
 
 pub place-apart-spec : {M : Type 1} → statement M
 place-apart-spec =
-    tie.close
-    (tie.spec
-    first-free-requires
-    element-write-used
-    put-record-requires
-    put-proxy-requires
-    same-length
-    same-length-2
-    returns)
+    tie.close (tie.spec first-free-requires element-write-used put-record-requires put-proxy-requires same-length same-length-2 returns)

@@ -47,14 +47,5 @@ returns-2 c =
 
 pub place-node-spec : {M : Type 1} → statement M
 place-node-spec =
-    tie.close
-    (tie.spec
-    is-apart-requires
-    place-apart-requires
-    same-length
-    same-length-2
-    returns
-    copy-in-requires
-    same-length-3
-    same-length-4
+    tie.close (tie.spec is-apart-requires place-apart-requires same-length same-length-2 returns copy-in-requires same-length-3 same-length-4
     returns-2)

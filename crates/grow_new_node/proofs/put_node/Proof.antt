@@ -40,12 +40,4 @@ returns c =
 
 pub put-node-spec : {M : Type 1} → statement M
 put-node-spec =
-    tie.close
-    (tie.spec
-    add-n
-    put16-requires
-    put16-requires-2
-    put16-requires-3
-    copy-in-requires
-    same-length
-    returns)
+    tie.close (tie.spec add-n put16-requires put16-requires-2 put16-requires-3 copy-in-requires same-length returns)

@@ -42,16 +42,4 @@ returns c =
 
 pub usage-spec : {M : Type 1} → statement M
 usage-spec =
-    tie.close
-    (tie.spec
-    Inv-loop
-    μ-loop
-    loop-holds
-    mul-used
-    add-used
-    shared-slice-read-used
-    array-write-used
-    add-p
-    loop-less
-    loop-again
-    returns)
+    tie.close (tie.spec Inv-loop μ-loop loop-holds mul-used add-used shared-slice-read-used array-write-used add-p loop-less loop-again returns)

@@ -224,11 +224,11 @@ put-group-requires-2 t c κs =
 
 same-length : (t : ℕ) → separate-lts.Need-same-length (claims t) (separate-at t) separate.Post
 same-length t c =
-    let c₁ = c .before .before .before .before .before .before .before in
-    let c₂ = c₁ .before .before .before .before .before .before .before in
-    let c₃ = c₂ .before .before .before .before .before .before .before in
-    let v = c₃ .before .before in
-    c₁ .put-group2 .kept .1 .0 ∙ v .separate .kept .1 .1 .0 ∙ v .before .before .before .before .before .before .before .before .before .before .before .before .before .before .before .before .before .put-group .kept .1 .0
+    let o = c .before .before .before .before .before .before .before .before .before .before .before .before .before .before in
+    let v = o .before .before .before .before .before .before .before .before .before in
+    let y = v .before .before .before .before .before .before .before in
+    let g = y .before .before .before .before .before .before .before .before .before .before in
+    c .before .before .before .before .before .before .before .put-group2 .kept .1 .0 ∙ v .separate .kept .1 .1 .0 ∙ g .put-group .kept .1 .0
 
 same-length-2 : (t : ℕ) → separate-lts.Need-same-length-2 (claims t) (separate-at t) separate.Post
 same-length-2 t c =
@@ -313,37 +313,8 @@ returns-2 t c =
 
 pub +separate-spec : {M : Type 1} → statement M
 +separate-spec = close μ-separate λ t. separate-lts.spec (claims t)
-    (separate-at t)
-    separate.Post
-    (child-requires t)
-    (sub-put-group t)
-    (part-put-group-start t)
-    (part-put-group-end t)
-    (put-group-requires t)
-    (enters-requires t)
-    (add-inner t)
-    (size-at-requires t)
-    (add-next t)
-    (sub-copy-in t)
-    (part-copy-in-start t)
-    (part-copy-in-end t)
-    (copy-in-requires t)
-    (add-separate t)
-    (separate-requires t)
-    (add-put16 t)
-    (sub-put16 t)
-    (put16-requires t)
-    (sub-put-group-2 t)
-    (part-put-group-start-2 t)
-    (part-put-group-end-2 t)
-    (put-group-requires-2 t)
-    (same-length t)
-    (same-length-2 t)
-    (returns t)
-    (sub-put-group-3 t)
-    (part-put-group-start-3 t)
-    (part-put-group-end-3 t)
-    (put-group-requires-3 t)
-    (same-length-3 t)
-    (same-length-4 t)
-    (returns-2 t)
+    (separate-at t) separate.Post (child-requires t) (sub-put-group t) (part-put-group-start t) (part-put-group-end t) (put-group-requires t)
+    (enters-requires t) (add-inner t) (size-at-requires t) (add-next t) (sub-copy-in t) (part-copy-in-start t) (part-copy-in-end t)
+    (copy-in-requires t) (add-separate t) (separate-requires t) (add-put16 t) (sub-put16 t) (put16-requires t) (sub-put-group-2 t)
+    (part-put-group-start-2 t) (part-put-group-end-2 t) (put-group-requires-2 t) (same-length t) (same-length-2 t) (returns t) (sub-put-group-3 t)
+    (part-put-group-start-3 t) (part-put-group-end-3 t) (put-group-requires-3 t) (same-length-3 t) (same-length-4 t) (returns-2 t)

@@ -86,17 +86,5 @@ returns-2 c =
 
 pub separator-spec : {M : Type 1} → statement M
 separator-spec =
-    tie.close
-    (tie.spec
-    shared-slice-read-if1
-    slice-aggregate-copy-in
-    copy-in-requires
-    separate-requires
-    put16-requires
-    same-length
-    same-length-2
-    returns
-    separate-requires-2
-    same-length-3
-    same-length-4
-    returns-2)
+    tie.close (tie.spec shared-slice-read-if1 slice-aggregate-copy-in copy-in-requires separate-requires put16-requires same-length same-length-2
+    returns separate-requires-2 same-length-3 same-length-4 returns-2)

@@ -63,14 +63,5 @@ returns-2 c =
 
 pub keep-spec : {M : Type 1} → statement M
 keep-spec =
-    tie.close
-    (tie.spec
-    returns
-    put-record-requires
-    first-node-requires
-    sub-relink
-    part-relink-start
-    part-relink-end
-    relink-requires
-    same-length
+    tie.close (tie.spec returns put-record-requires first-node-requires sub-relink part-relink-start part-relink-end relink-requires same-length
     returns-2)

@@ -38,5 +38,4 @@ returns-3 c =
 
 pub leave-spec : {M : Type 1} → statement M
 leave-spec =
-    tie.close
-    (tie.spec returns element-write-used returns-2 clear-page-requires same-length returns-3)
+    tie.close (tie.spec returns element-write-used returns-2 clear-page-requires same-length returns-3)

@@ -38,11 +38,4 @@ returns c =
 
 pub split-off-spec : {M : Type 1} → statement M
 split-off-spec =
-    tie.close
-    (tie.spec
-    leave-requires
-    split-point-requires
-    separator-requires
-    same-length
-    same-length-2
-    returns)
+    tie.close (tie.spec leave-requires split-point-requires separator-requires same-length same-length-2 returns)
