@@ -25,7 +25,7 @@ use Rattle.theory_calls.specs.Insert.{Accepted, accepted}
 use Rattle.grow_locate.specs.Receive.{LeftAt}
 use Rattle.grow_refusals.specs.Admit.{foundAt, aims}
 use Rattle.grow_new_node.specs.Node.{Sound}
-use Rattle.grow_insert.specs.Begin.{Begin}
+use Rattle.grow_run.specs.Begin.{Begin}
 
 -- ── the number ──
 

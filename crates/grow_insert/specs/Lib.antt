@@ -1,4 +1,1 @@
-pub mod Taken
-pub mod Begin
 pub mod Answer
-pub mod Seat

@@ -23,7 +23,7 @@ use Rattle.base_numbers.specs.Over.{take-over}
 use Rattle.theory_calls.specs.Open.{passing}
 use Rattle.theory_check.specs.Heads.{is-byte}
 use Rattle.grow_split_point.specs.Lean.{lean-signed}
-use Rattle.grow_insert.specs.Begin.{Begin, node-most, new-lean, new-stands}
+use Rattle.grow_run.specs.Begin.{Begin, node-most, new-lean, new-stands}
 use Rattle.grow_insert.specs.Answer.{refused-early, refused-full, sound, new-fits, begin, accepted-is, made}
 use Rattle.grow_insert.proofs.insert_of.Statement.{statement}
 use Rattle.grow_insert.proofs.insert_of.Tie as tie

@@ -1,12 +1,12 @@
--- `grow_insert::new_place`: the three cases, the last by what the split's page leaves.
+-- `grow_run::new_place`: the three cases, the last by what the split's page leaves.
 use mathlib.Core.Path.{refl, sym, ap, _∙_}
 use Prim.Native.Nat.{ℕ}
 use native.Mathlib.Omega.{arith}
 use borrow.Author.Needs.{needs}
 use Rattle.base_layout.specs.Growing.{target-of}
 use Rattle.grow_write_back.specs.Off.{off-sizes, off-env, off-large}
-use Rattle.grow_insert.proofs.new_place.Statement.{statement}
-use Rattle.grow_insert.proofs.new_place.Tie as tie
+use Rattle.grow_run.proofs.new_place.Statement.{statement}
+use Rattle.grow_run.proofs.new_place.Tie as tie
 
 shared-slice-read-if1 : tie.Need-shared-slice-read-if1
 shared-slice-read-if1 c = search needs

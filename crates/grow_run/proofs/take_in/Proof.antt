@@ -1,9 +1,9 @@
--- `grow_insert::take_in`: the record's bytes, and the new node's place in them.
+-- `grow_run::take_in`: the record's bytes, and the new node's place in them.
 use native.Mathlib.Omega.{arith}
 use borrow.Author.Needs.{needs}
-use Rattle.grow_insert.specs.Taken.{taken-used, taken-part, taken-place, taken-fits}
-use Rattle.grow_insert.proofs.take_in.Statement.{statement}
-use Rattle.grow_insert.proofs.take_in.Tie as tie
+use Rattle.grow_run.specs.Taken.{taken-used, taken-part, taken-place, taken-fits}
+use Rattle.grow_run.proofs.take_in.Statement.{statement}
+use Rattle.grow_run.proofs.take_in.Tie as tie
 
 mul-a : tie.Need-mul-a
 mul-a c = search needs

@@ -33,7 +33,7 @@ use Rattle.grow_locate.specs.Aim.{receiverOf}
 use Rattle.grow_new_node.specs.declared.Fresh.{Fresh}
 use Rattle.grow_cascade.specs.Rising.{Rising, settled-is, off, env}
 use Rattle.grow_cascade.specs.Up.{lone-fill}
-use Rattle.grow_insert.specs.Begin as begin
+use Rattle.grow_run.specs.Begin as begin
 
 -- `new` are the bytes that stand for the node in its record, `content` the record's bytes with them at byte `off`.
 pub record Seat (img used : List ℕ) (g : Growing) (off : ℕ) (new content : List ℕ) : Type 0 where

@@ -1,4 +1,4 @@
--- `grow_insert::once`: the node is placed, goes into the record that takes it, and growth goes on from there.
+-- `grow_run::once`: the node is placed, goes into the record that takes it, and growth goes on from there.
 -- In each need: x the place after place_node, y that after take_in, w what once requires; e is where the node goes, f what page 0 says, m the marks,
 -- z what placing the node left, t the record with it.
 use mathlib.Core.Path.{_≡_, refl, sym, ap, subst, _∙_}
@@ -25,11 +25,11 @@ use Rattle.grow_groups.specs.Used.{InUse}
 use Rattle.grow_locate.specs.Aim.{receiverOf}
 use Rattle.grow_refusals.specs.Label.{parent-label}
 use Rattle.grow_new_node.specs.Placed.{NodePlaced}
-use Rattle.grow_insert.specs.Begin.{Begin, Inserted, node-most, st, root, h, W, long, few, setup-is, start-env, placed-size, into-record}
-use Rattle.grow_insert.specs.Begin.{begun, cascade-ready, once-done, new-lean, s as spot, rest, P}
-use Rattle.grow_insert.specs.Seat.{seat, seat-is}
-use Rattle.grow_insert.proofs.once.Statement.{statement}
-use Rattle.grow_insert.proofs.once.Tie as tie
+use Rattle.grow_run.specs.Begin.{Begin, Inserted, node-most, st, root, h, W, long, few, setup-is, start-env, placed-size, into-record}
+use Rattle.grow_run.specs.Begin.{begun, cascade-ready, once-done, new-lean, s as spot, rest, P}
+use Rattle.grow_run.specs.Seat.{seat, seat-is}
+use Rattle.grow_run.proofs.once.Statement.{statement}
+use Rattle.grow_run.proofs.once.Tie as tie
 
 -- what once requires
 abbrev Given : tie.Start → Type 0

@@ -48,7 +48,7 @@ use Rattle.grow_groups.specs.Used.{InUse, Past, Env, free-within}
 use Rattle.grow_locate.specs.declared.Receiver.{Receiver}
 use Rattle.grow_new_node.specs.declared.Fresh.{Fresh}
 use Rattle.grow_cascade.specs.declared.Grown.{Grown}
-use Rattle.grow_insert.specs.declared.Run.{Run}
+use Rattle.grow_run.specs.declared.Run.{Run}
 use Rattle.grow_splice.specs.Spot.{at}
 use Rattle.grow_splice.specs.Splice.{KeepsRoot}
 use Rattle.grow_locate.specs.Aim.{Aimed, receiverOf}
@@ -59,7 +59,7 @@ use Rattle.grow_new_node.specs.Marks.{rest-past}
 use Rattle.grow_cascade.specs.Rising.{Rising, Risen}
 use Rattle.grow_cascade.specs.Up.{some-left, some-fill, lone-fill, size-fill, below-count, below-fill, below-spot}
 use Rattle.grow_cascade.specs.Cascade.{Cascade, goalOf, memOf}
-use Rattle.grow_insert.specs.Taken as into
+use Rattle.grow_run.specs.Taken as into
 
 -- The node x, whose bytes are `node`, is to be child k of the aggregate at the byte `above`, behind the sibling at `left`; a run that writes finds all its
 -- pages.
