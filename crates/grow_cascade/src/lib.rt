@@ -36,24 +36,22 @@ fn lean_now(splits: u32, lean: i32, buf: &[u8], setup: Setup) -> i32
     first_lean(buf, setup)
 }
 
-// The record on the page `start` is near has the new content buf[..size].
+// The record on the page that `start` is near has the new content buf[..len]; `full` says whether a page was missing before.
 pub fn cascade(
     image: &mut [u8],
     used: &mut [u8; Settings::PAGES],
     start: Growing,
     buf: &mut [u8],
-    size: usize,
-    missing: bool,
+    mut len: usize,
+    mut full: bool,
 ) -> Grown
-    requires { ⌜ (length (now buf) ≡ bufferSize) × Cascade start size missing 0 (pos 0) (now buf) (now used) (now image) ⌝ }
-    ensures { λ r. ⌜ ((w : Cascade start size missing 0 (pos 0) (now (buf .entry)) (now (used .entry)) (now (image .entry)))
+    requires { ⌜ (length (now buf) ≡ bufferSize) × Cascade start len full 0 (pos 0) (now buf) (now used) (now image) ⌝ }
+    ensures { λ r. ⌜ ((w : Cascade start len full 0 (pos 0) (now (buf .entry)) (now (used .entry)) (now (image .entry)))
         → Risen (goalOf w) (memOf w) (start .dry) r (now (image .entry)) (now (image .exit))) ⌝ }
 {
     let setup = start.setup;
     let dry = start.dry;
     let mut near = start.near;
-    let mut len = size;
-    let mut full = missing;
     let mut splits: u32 = 0;
     let mut lean: i32 = 0;
     loop {

@@ -26,13 +26,13 @@ use Rattle.grow_cascade.proofs.cascade.Statement.{statement}
 use Rattle.grow_cascade.proofs.cascade.Tie as tie
 
 abbrev Inv-loop : tie.InvT-loop
-Inv-loop image₀ used₀ buf₀ size missing setup dry near₀ len₀ full₀ splits₀ lean₀ image used buf near len full splits lean =
-    ((w : Cascade (record { setup = setup; near = near₀; dry = dry }) size missing 0 (pos 0) buf₀ used₀ image₀)
+Inv-loop image₀ used₀ buf₀ len₀ full₀ setup dry near₀ splits₀ lean₀ image used buf len full near splits lean =
+    ((w : Cascade (record { setup = setup; near = near₀; dry = dry }) len₀ full₀ 0 (pos 0) buf₀ used₀ image₀)
     → Onward (goalOf w) (memOf w) image₀ (record { setup = setup; near = near; dry = dry }) len full splits (toZ w32 lean) buf used image)
     × (length buf ≡ bufferSize)
 
 abbrev μ-loop : tie.MeasureT-loop
-μ-loop image₀ used₀ buf₀ size missing setup dry near₀ len₀ full₀ splits₀ lean₀ image used buf near len full splits lean = mostPages - splits
+μ-loop image₀ used₀ buf₀ len₀ full₀ setup dry near₀ splits₀ lean₀ image used buf len full near splits lean = mostPages - splits
 
 loop-holds : tie.Need-loop-holds Inv-loop μ-loop
 loop-holds c = (λ w. onward-start w, c .before .before .before .pre .0)
@@ -41,7 +41,7 @@ loop-holds c = (λ w. onward-start w, c .before .before .before .pre .0)
 abbrev Given : tie.Start Inv-loop μ-loop → Type 0
 Given s =
     let a = s .args in
-    Cascade (a .start) (a .size) (a .missing) 0 (pos 0) (a .buf .now) (a .used .now) (a .image .now)
+    Cascade (a .start) (a .len) (a .full) 0 (pos 0) (a .buf .now) (a .used .now) (a .image .now)
 
 abbrev at-start : tie.At-loop Inv-loop μ-loop → tie.Start Inv-loop μ-loop
 at-start c = c .before .before .before .before
