@@ -1,4 +1,4 @@
--- `cascade::lean_now`: the lean of the first split stays.
+-- `grow_cascade::lean_now`: the lean of the first split stays.
 use mathlib.Core.Path.{_∙_}
 use borrow.Author.Tests.{eq-eqb, ne-eqb}
 use mir.Syntax.{w32}
