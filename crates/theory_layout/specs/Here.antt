@@ -113,46 +113,46 @@ pub record View (img : List ℕ) (page pos : ℕ) (row : Row) : Type 0 where
   pub under : UnderProxy img page row
 
 -- What a row holds, its first node's children and the nodes behind it hold.
-record Parts (mem : ℕ → List ℕ) (page : ℕ) (row : Row) : Type 0 where
+record Parts (img : List ℕ) (page : ℕ) (row : Row) : Type 0 where
   head : HeadFits (headOf row)
+  name : nameOf row < 65536
   within : 6 + size (kidsOf row) + size (restOf row) ≤ size row
-  kids : Fits (kidsOf row) × Stored mem page (kidsOf row)
-  rest : Fits (restOf row) × Stored mem page (restOf row)
+  kids : Fits (kidsOf row) × Stored (pageOf img) page (kidsOf row)
+  rest : Fits (restOf row) × Stored (pageOf img) page (restOf row)
   names : (q : ℕ) → (count q (kidsOf row) ≤ count q row) × (count q (restOf row) ≤ count q row)
+  under : UnderProxy img page row
 
-parts : (mem : ℕ → List ℕ) (page : ℕ) (row : Row) → 0 < size row → Fits row → Stored mem page row → Parts mem page row
-parts mem page nil h f m = absurd (omega arith)
-parts mem page (agg hd cs rest) h f m =
-    record { head = f .0; within = omega arith; kids = (f .1, m .0); rest = (f .2, m .1); names = λ q. (omega arith, omega arith) }
-parts mem page (lit hd c rest) h f m =
-    record { head = f .0; within = omega arith; kids = (tt, tt); rest = (f .3, m); names = λ q. (omega arith, omega arith) }
-parts mem page (rec p s r rest) h f m =
-    record { head = record { label = omega arith }; within = omega arith; kids = (tt, tt); rest = (f .2, m .2); names = λ q. (omega arith, omega arith) }
-
-under-first : (img : List ℕ) (page pos : ℕ) (row : Row) → Here img page pos row → UnderProxy img page row
-under-first img page pos nil v = tt
-under-first img page pos (agg h cs rest) v = tt
-under-first img page pos (lit h c rest) v = tt
-under-first img page pos (rec p s r rest) v =
+parts : (img : List ℕ) (page pos : ℕ) (row : Row) → 0 < size row → Here img page pos row → Parts img page row
+parts img page pos nil h v = absurd (omega arith)
+parts img page pos (agg hd cs rest) h v =
     let f = v .fits in
-    page-view img (recordOn p s page r) (v .names p (names-own p s r rest)) (v .stored .0) (f .0 .fits) (v .on .high) (f .1) (v .stored .1)
-    (λ q k. v .names q (omega arith))
-
-name-low : (img : List ℕ) (row : Row) → ((q : ℕ) → 1 ≤ count q row → PageIn img q) → nameOf row < 65536
-name-low img nil n = omega arith
-name-low img (agg h cs rest) n = omega arith
-name-low img (lit h c rest) n = omega arith
-name-low img (rec p s r rest) n = omega (arith, n p (names-own p s r rest) .high)
+    let n : (q : ℕ) → (count q cs ≤ count q cs + count q rest) × (count q rest ≤ count q cs + count q rest) = λ q. (omega arith, omega arith) in
+    record { head = f .0; name = omega arith; within = omega arith; kids = (f .1, v .stored .0); rest = (f .2, v .stored .1); names = n; under = tt }
+parts img page pos (lit hd c rest) h v =
+    let n : (q : ℕ) → (0 ≤ count q rest) × (count q rest ≤ count q rest) = λ q. (omega arith, omega arith) in
+    record { head = v .fits .0; name = omega arith; within = omega arith; kids = (tt, tt); rest = (v .fits .3, v .stored); names = n; under = tt }
+parts img page pos (rec p s r rest) h v =
+    let f = v .fits in
+    let own = v .names p (names-own p s r rest) in
+    record {
+      head = record { label = omega arith };
+      name = omega (arith, own .high);
+      within = omega arith;
+      kids = (tt, tt);
+      rest = (f .2, v .stored .2);
+      names = λ q. (omega arith, omega arith);
+      under = page-view img (recordOn p s page r) own (v .stored .0) (f .0 .fits) (v .on .high) (f .1) (v .stored .1) (λ q k. v .names q (omega arith));
+    }
 
 pub view : {img : List ℕ} {page pos : ℕ} {row : Row} → Here img page pos row → 0 < size row → View img page pos row
 view {img} {page} {pos} {row} v some =
     let n = first-node img pos row some (omega (arith, v .start, v .room)) (v .at) in
-    let p = parts (pageOf img) page row some (v .fits) (v .stored) in
+    let p = parts img page pos row some v in
     record {
       kind-is = n .kind-is;
       head-is = n .head-is (p .head);
       size-is = n .size-is;
-      name-is = λ k. n .name-is k (name-low img row (v .names));
+      name-is = λ k. n .name-is k (p .name);
       content = n .body-is;
       more = n .more;
       total = n .total;
@@ -174,7 +174,7 @@ view {img} {page} {pos} {row} v some =
         stored = p .rest .1;
         names = λ q k. v .names q (omega (arith, p .names q .1));
       };
-      under = under-first img page pos row v;
+      under = p .under;
     }
 
 -- ── the root record ──

@@ -3,7 +3,7 @@ use mathlib.Core.Path.{_≡_, refl, sym, ap, ap₂, subst, _∙_}
 use mathlib.Core.Bool.{Bool, true, false, cond, false≢true}
 use mathlib.Core.List.{List, [], _∷_, _++_, map, map-append, append-assoc, append-nil, List·Memᴰ, List·Memᴰ·head, List·Memᴰ·tail, List·Memᴰ·append-cases}
 use mathlib.Core.List.{List·Memᴰ·cases-cons, List·Memᴰ·not-nil, Memᴰ·append-left, Memᴰ·append-right}
-use mathlib.Core.Logic.{_⊎_, inl, inr}
+use mathlib.Core.Logic.{⊎-elim}
 use Prim.Native.Nat.{ℕ, suc, _+_, _*_, _≤_, _<_}
 use native.Mathlib.Omega.{arith}
 use borrow.Author.Tests.{eqb-true, eq-eqb}
@@ -274,26 +274,13 @@ item-ind : (i : Item) (P : Row → Type 0) → ((pos : ℕ) (row : Row) → 0 < 
     → (pos : ℕ) (row : Row) → List·Memᴰ i (items pos row) → P row
 item-ind i P f u a l r pos nil m = absurd (List·Memᴰ·not-nil m)
 item-ind i P f u a l r pos (agg h cs rest) m =
-    go (List·Memᴰ·cases-cons m) (item-ind i P f u a l r (pos + 6) cs) (item-ind i P f u a l r (pos + (6 + size cs)) rest)
-  where
-    go : (i ≡ node pos) ⊎ List·Memᴰ i (items (pos + 6) cs ++ items (pos + (6 + size cs)) rest)
-        → (List·Memᴰ i (items (pos + 6) cs) → P cs) → (List·Memᴰ i (items (pos + (6 + size cs)) rest) → P rest) → P (agg h cs rest)
-    go (inl e) x y = f pos (agg h cs rest) (omega arith) e
-    go (inr j) x y = sides (List·Memᴰ·append-cases (items (pos + 6) cs) j)
-      where
-        sides : List·Memᴰ i (items (pos + 6) cs) ⊎ List·Memᴰ i (items (pos + (6 + size cs)) rest) → P (agg h cs rest)
-        sides (inl k) = u h cs rest (x k)
-        sides (inr k) = a h cs rest (y k)
-item-ind i P f u a l r pos (lit h c rest) m = go (List·Memᴰ·cases-cons m) (item-ind i P f u a l r (pos + (6 + length c)) rest)
-  where
-    go : (i ≡ node pos) ⊎ List·Memᴰ i (items (pos + (6 + length c)) rest) → (List·Memᴰ i (items (pos + (6 + length c)) rest) → P rest) → P (lit h c rest)
-    go (inl e) y = f pos (lit h c rest) (omega arith) e
-    go (inr k) y = l h c rest (y k)
-item-ind i P f u a l r pos (rec p s x rest) m = go (List·Memᴰ·cases-cons m) (item-ind i P f u a l r (pos + 8) rest)
-  where
-    go : (i ≡ proxy pos p x) ⊎ List·Memᴰ i (items (pos + 8) rest) → (List·Memᴰ i (items (pos + 8) rest) → P rest) → P (rec p s x rest)
-    go (inl e) y = f pos (rec p s x rest) (omega arith) e
-    go (inr k) y = r p s x rest (y k)
+    ⊎-elim (f pos (agg h cs rest) (omega arith))
+    (λ j. ⊎-elim (λ k. u h cs rest (item-ind i P f u a l r (pos + 6) cs k)) (λ k. a h cs rest (item-ind i P f u a l r (pos + (6 + size cs)) rest k))
+    (List·Memᴰ·append-cases (items (pos + 6) cs) j)) (List·Memᴰ·cases-cons m)
+item-ind i P f u a l r pos (lit h c rest) m =
+    ⊎-elim (f pos (lit h c rest) (omega arith)) (λ k. l h c rest (item-ind i P f u a l r (pos + (6 + length c)) rest k)) (List·Memᴰ·cases-cons m)
+item-ind i P f u a l r pos (rec p s x rest) m =
+    ⊎-elim (f pos (rec p s x rest) (omega arith)) (λ k. r p s x rest (item-ind i P f u a l r (pos + 8) rest k)) (List·Memᴰ·cases-cons m)
 
 module _ (q p : ℕ) (r : Row) where
   proxy-first : (P : Row → Type 0) → ((s : Bool) (rest : Row) → P (rec p s r rest)) → (pos : ℕ) (row : Row) → 0 < size row
@@ -402,39 +389,24 @@ row-records : {root : Row} (r : Row) {page holder : ℕ} {row : Row} {before aft
     → (pos : ℕ) (xs ys : List Item) → items (pageSize * page + base row) row ≡ xs ++ (items pos r ++ ys)
     → (h : Held) → List·Memᴰ h (records page r) → Some root (h .page)
 row-records nil w pos xs ys e h m = absurd (List·Memᴰ·not-nil m)
-row-records {root} (agg l cs rest) {page = page} w pos xs ys e h m =
-    sides (List·Memᴰ·append-cases (records page cs) m)
-    (row-records cs w (pos + 6) (xs ++ node pos ∷ []) (items (pos + (6 + size cs)) rest ++ ys) (e ∙ simp append-assoc) h)
+row-records (agg l cs rest) {page = page} w pos xs ys e h m =
+    ⊎-elim (row-records cs w (pos + 6) (xs ++ node pos ∷ []) (items (pos + (6 + size cs)) rest ++ ys) (e ∙ simp append-assoc) h)
     (row-records rest w (pos + (6 + size cs)) (xs ++ node pos ∷ items (pos + 6) cs) ys (e ∙ simp append-assoc) h)
-  where
-    sides : List·Memᴰ h (records page cs) ⊎ List·Memᴰ h (records page rest) → (List·Memᴰ h (records page cs) → Some root (h .page))
-        → (List·Memᴰ h (records page rest) → Some root (h .page)) → Some root (h .page)
-    sides (inl i) f g = f i
-    sides (inr i) f g = g i
+    (List·Memᴰ·append-cases (records page cs) m)
 row-records (lit l c rest) w pos xs ys e h m = row-records rest w (pos + (6 + length c)) (xs ++ node pos ∷ []) ys (e ∙ simp append-assoc) h m
 row-records {root} (rec p s r rest) {page = page} w pos xs ys e h m =
     let under = sub w xs (items (pos + 8) rest ++ ys) pos p r e in
-    first (List·Memᴰ·cases-cons m) (record { holder = _; row = _; before = _; after = _; depth = _; within = under })
-    (row-records r under (pageSize * p + base r) [] [] (sym (append-nil (items (pageSize * p + base r) r))) h)
-    (row-records rest w (pos + 8) (xs ++ proxy pos p r ∷ []) ys (e ∙ simp append-assoc) h)
-  where
-    first : (h ≡ (recordOn p s page r)) ⊎ List·Memᴰ h (records p r ++ records page rest) → Some root p
-        → (List·Memᴰ h (records p r) → Some root (h .page)) → (List·Memᴰ h (records page rest) → Some root (h .page)) → Some root (h .page)
-    first (inl q) i f g = subst (Some root) (sym (ap (λ (h : Held). h .page) q)) i
-    first (inr j) i f g = sides (List·Memᴰ·append-cases (records p r) j)
-      where
-        sides : List·Memᴰ h (records p r) ⊎ List·Memᴰ h (records page rest) → Some root (h .page)
-        sides (inl k) = f k
-        sides (inr k) = g k
+    let own : Some root p = record { holder = _; row = _; before = _; after = _; depth = _; within = under } in
+    let inner = row-records r under (pageSize * p + base r) [] [] (sym (append-nil (items (pageSize * p + base r) r))) h in
+    let later = row-records rest w (pos + 8) (xs ++ proxy pos p r ∷ []) ys (e ∙ simp append-assoc) h in
+    ⊎-elim (λ q. subst (Some root) (sym (ap (λ (h : Held). h .page) q)) own) (λ j. ⊎-elim inner later (List·Memᴰ·append-cases (records p r) j))
+    (List·Memᴰ·cases-cons m)
 
 root-records : (root : Row) (h : Held) → List·Memᴰ h (records 0 (store root)) → Some root (h .page)
-root-records root h m = first (List·Memᴰ·cases-cons m)
-  where
-    first : (h ≡ (recordOn 1 true 0 root)) ⊎ List·Memᴰ h (records 1 root ++ []) → Some root (h .page)
-    first (inl q) = subst (Some root) (sym (ap (λ (h : Held). h .page) q)) (record { holder = _; row = _; before = _; after = _; depth = _; within = top })
-    first (inr j) =
-        row-records root top (pageSize + base root) [] [] (sym (append-nil (items (pageSize + base root) root))) h
-        (rw (append-nil (records 1 root)) at j)
+root-records root h m =
+    let own : Some root 1 = record { holder = _; row = _; before = _; after = _; depth = _; within = top } in
+    let inner = row-records root top (pageSize + base root) [] [] (sym (append-nil (items (pageSize + base root) root))) h in
+    ⊎-elim (λ q. subst (Some root) (sym (ap (λ (h : Held). h .page) q)) own) (λ j. inner (rw (append-nil (records 1 root)) at j)) (List·Memᴰ·cases-cons m)
 
 -- A page whose trailer's first byte is 1 has a record.
 page-held : (hs : List Held) (q : ℕ) → stateAt (pageAt hs q) 0 ≡ 1 → (h : Held) × List·Memᴰ h hs × (h .page ≡ q)
@@ -469,39 +441,18 @@ row-nodes : {root : Row} (r : Row) {page holder : ℕ} {row : Row} {before after
     → (pos : ℕ) (xs ys : List Item) → items (pageSize * page + base row) row ≡ xs ++ (items pos r ++ ys)
     → (n : ℕ) → List·Memᴰ n (spots pos r) → NodeIn root n
 row-nodes nil w pos xs ys e n m = absurd (List·Memᴰ·not-nil m)
-row-nodes {root} (agg l cs rest) {page = page} w pos xs ys e n m =
-    first (List·Memᴰ·cases-cons m)
-    (node-within w pos xs (items (pos + 6) cs ++ items (pos + (6 + size cs)) rest ++ ys) e)
-    (row-nodes cs w (pos + 6) (xs ++ node pos ∷ []) (items (pos + (6 + size cs)) rest ++ ys) (e ∙ simp append-assoc) n)
-    (row-nodes rest w (pos + (6 + size cs)) (xs ++ node pos ∷ items (pos + 6) cs) ys (e ∙ simp append-assoc) n)
-  where
-    first : (n ≡ pos) ⊎ List·Memᴰ n (spots (pos + 6) cs ++ spots (pos + (6 + size cs)) rest) → NodeIn root pos
-        → (List·Memᴰ n (spots (pos + 6) cs) → NodeIn root n) → (List·Memᴰ n (spots (pos + (6 + size cs)) rest) → NodeIn root n) → NodeIn root n
-    first (inl q) i f g = subst (NodeIn root) (sym q) i
-    first (inr j) i f g = sides (List·Memᴰ·append-cases (spots (pos + 6) cs) j)
-      where
-        sides : List·Memᴰ n (spots (pos + 6) cs) ⊎ List·Memᴰ n (spots (pos + (6 + size cs)) rest) → NodeIn root n
-        sides (inl k) = f k
-        sides (inr k) = g k
+row-nodes {root} (agg l cs rest) w pos xs ys e n m =
+    let own = node-within w pos xs (items (pos + 6) cs ++ items (pos + (6 + size cs)) rest ++ ys) e in
+    let inner = row-nodes cs w (pos + 6) (xs ++ node pos ∷ []) (items (pos + (6 + size cs)) rest ++ ys) (e ∙ simp append-assoc) n in
+    let later = row-nodes rest w (pos + (6 + size cs)) (xs ++ node pos ∷ items (pos + 6) cs) ys (e ∙ simp append-assoc) n in
+    ⊎-elim (λ q. subst (NodeIn root) (sym q) own) (λ j. ⊎-elim inner later (List·Memᴰ·append-cases (spots (pos + 6) cs) j)) (List·Memᴰ·cases-cons m)
 row-nodes {root} (lit l c rest) w pos xs ys e n m =
-    first (List·Memᴰ·cases-cons m)
-    (node-within w pos xs (items (pos + (6 + length c)) rest ++ ys) e)
-    (row-nodes rest w (pos + (6 + length c)) (xs ++ node pos ∷ []) ys (e ∙ simp append-assoc) n)
-  where
-    first : (n ≡ pos) ⊎ List·Memᴰ n (spots (pos + (6 + length c)) rest) → NodeIn root pos → (List·Memᴰ n (spots (pos + (6 + length c)) rest) → NodeIn root n)
-        → NodeIn root n
-    first (inl q) i g = subst (NodeIn root) (sym q) i
-    first (inr j) i g = g j
-row-nodes {root} (rec p s r rest) w pos xs ys e n m =
+    ⊎-elim (λ q. subst (NodeIn root) (sym q) (node-within w pos xs (items (pos + (6 + length c)) rest ++ ys) e))
+    (row-nodes rest w (pos + (6 + length c)) (xs ++ node pos ∷ []) ys (e ∙ simp append-assoc) n) (List·Memᴰ·cases-cons m)
+row-nodes (rec p s r rest) w pos xs ys e n m =
     let under = sub w xs (items (pos + 8) rest ++ ys) pos p r e in
-    sides (List·Memᴰ·append-cases (spots (pageSize * p + base r) r) m)
-    (row-nodes r under (pageSize * p + base r) [] [] (sym (append-nil (items (pageSize * p + base r) r))) n)
-    (row-nodes rest w (pos + 8) (xs ++ proxy pos p r ∷ []) ys (e ∙ simp append-assoc) n)
-  where
-    sides : List·Memᴰ n (spots (pageSize * p + base r) r) ⊎ List·Memᴰ n (spots (pos + 8) rest) → (List·Memᴰ n (spots (pageSize * p + base r) r) → NodeIn root n)
-        → (List·Memᴰ n (spots (pos + 8) rest) → NodeIn root n) → NodeIn root n
-    sides (inl k) f g = f k
-    sides (inr k) f g = g k
+    ⊎-elim (row-nodes r under (pageSize * p + base r) [] [] (sym (append-nil (items (pageSize * p + base r) r))) n)
+    (row-nodes rest w (pos + 8) (xs ++ proxy pos p r ∷ []) ys (e ∙ simp append-assoc) n) (List·Memᴰ·append-cases (spots (pageSize * p + base r) r) m)
 
 -- and so each position of the document order is a node item of a record.
 pub node-in : (root : Row) (n : ℕ) → List·Memᴰ n (spots (pageSize + base root) root) → NodeIn root n
