@@ -140,7 +140,8 @@ unfolding over
 take-over n xs l e = take-at xs (drop (0 + length xs) l) n e
 
 -- a write within what was written
-pub over-inside : (a k : ℕ) (xs ys l : List ℕ) → k + length ys ≤ length xs → a + length xs ≤ length l → over (a + k) ys (over a xs l) ≡ over a (over k ys xs) l
+pub over-inside : (a k : ℕ) (xs ys l : List ℕ) → k + length ys ≤ length xs → a + length xs ≤ length l
+    → over (a + k) ys (over a xs l) ≡ over a (over k ys xs) l
 over-inside a k xs ys l h room =
     let t : length (take a l) ≡ a = length-take-le a l (omega arith) in
     let r : List ℕ = drop (a + length xs) l in

@@ -31,7 +31,8 @@ module _ (img : List ℕ) (s : Settings) (m : List ℕ) (label : ℕ) where
     unfolding formatOf formatNumber
     refused-2 f = rw (e, f)
 
-    pub accepted : (inRange (config s m) && eqb (s .pages) (length img / pageSize)) ≡ true → formatOf img s m label ≡ (0, image (config s m) (firstRoot label))
+    pub accepted : (inRange (config s m) && eqb (s .pages) (length img / pageSize)) ≡ true
+        → formatOf img s m label ≡ (0, image (config s m) (firstRoot label))
     unfolding formatOf formatNumber
     accepted f = rw (e, f)
 

@@ -40,7 +40,8 @@ rewritten g s h row img new b k room i e = go (g .dry) refl
     }
 
 module _ {st : Config} {was : List ℕ} {root : Row} {c : Chain} {old row : Row} {work : Work}
-    {g : Growing} {len : ℕ} {filled : Bool} {count : ℕ} {leans : ℤ} {l u img : List ℕ} (w : Rising st was root c old row work g len filled count leans l u img)
+    {g : Growing} {len : ℕ} {filled : Bool} {count : ℕ} {leans : ℤ} {l u img : List ℕ}
+    (w : Rising st was root c old row work g len filled count leans l u img)
     (fit : recordSize row ≤ capacity) where
   -- What the code that writes it requires.
   abbrev pub content : Content (take len l) (g .setup .pages)

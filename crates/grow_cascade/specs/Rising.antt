@@ -132,7 +132,8 @@ module _ {st : Config} {was : List ℕ} {root : Row} {c : Chain} {old row : Row}
   unfolding twoAt
   holder-is =
       ap (λ (i : ℕ). backAt img (pageSize * i)) (w .at) ∙ page-number img (lastHeld c old) on-page own-page (stands .fits) holder-high 4084 (omega arith)
-      ∙ rw (in-trailer (lastHeld c old) (stands .fits) 4, in-trailer (lastHeld c old) (stands .fits) 5) (two-bytes (lastHolder c) (omega (arith, holder-high)))
+      ∙ rw (in-trailer (lastHeld c old) (stands .fits) 4, in-trailer (lastHeld c old) (stands .fits) 5)
+      (two-bytes (lastHolder c) (omega (arith, holder-high)))
 
   -- ── the new row ──
 

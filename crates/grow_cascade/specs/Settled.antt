@@ -65,7 +65,8 @@ unfolding kept
 kept-big st q o k = rw (lt-leb (recordSize (o .0)) capacity k)
 
 module _ {st : Config} {was : List ℕ} {root : Row} {c : Chain} {old row : Row} {work : Work}
-    {g : Growing} {len : ℕ} {filled : Bool} {count : ℕ} {leans : ℤ} {l u img : List ℕ} (w : Rising st was root c old row work g len filled count leans l u img)
+    {g : Growing} {len : ℕ} {filled : Bool} {count : ℕ} {leans : ℤ} {l u img : List ℕ}
+    (w : Rising st was root c old row work g len filled count leans l u img)
     (big : capacity < recordSize row) (stays : lastSettled c ≡ true) where
   abbrev v : Work
   v = counted st row work

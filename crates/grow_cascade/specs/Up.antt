@@ -206,7 +206,8 @@ module _ {st : Config} {was : List ℕ} {root : Row} {c : Chain} {s : Spot} {q :
         (above-stands was st root (w .reads) c s q false rest old (w .held) .fits)
 
     pub lift-once : count (g .near) (fill s (rec (g .near) false old rest)) ≡ 1
-    lift-once = subst (λ (p : ℕ). count p (fill s (rec p false old rest)) ≡ 1) (sym (w .at)) (above-once was st root (w .reads) c s q false rest old (w .held))
+    lift-once =
+        subst (λ (p : ℕ). count p (fill s (rec p false old rest)) ≡ 1) (sym (w .at)) (above-once was st root (w .reads) c s q false rest old (w .held))
 
     pub lift-names : (m : ℕ) → 1 ≤ count m (fill s (rec (g .near) false old rest)) → m < 65536
     lift-names =

@@ -49,7 +49,8 @@ named-some root (some p) e = go (named (shown root) p) refl e
     go none f e = absurd (true≢false e)
     go (some n) f e = named-place root p n f
 
-module _ (img : List ℕ) (st : Config) (root : Row) (reads : Reads img st root) (path : List ℕ) (k : ℕ) (x : New) (full : Bool) (a : Accepted (shown root) path k x full) where
+module _ (img : List ℕ) (st : Config) (root : Row) (reads : Reads img st root) (path : List ℕ) (k : ℕ) (x : New) (full : Bool)
+    (a : Accepted (shown root) path k x full) where
   -- Find gives the parent's place.
   pub find-parent : (y : Place) → placeOf root (pathOf path) ≡ some y → findOf img path .place ≡ y
   unfolding findOf findIn

@@ -64,7 +64,18 @@ held-by img st root reads c s q b r rest w =
     let u : InRoot root (lastPage c) (lastHolder c) row = subst (λ (n : Row). InRoot n (lastPage c) (lastHolder c) row) w (chain-in c row) in
     let (xs, ys, e) = items-fill (pageSize * lastPage c + base row) s (rec q b r rest) in (
       record {
-        above = record { settings = st; root = root; reads = reads; holder = lastHolder c; row = row; before = u .before; after = u .after; depth = u .depth; within = u .within };
+        above = record {
+          settings = st;
+          root = root;
+          reads = reads;
+          holder = lastHolder c;
+          row = row;
+          before = u .before;
+          after = u .after;
+          depth =
+              u .depth;
+          within = u .within;
+        };
         left = xs;
         right = _;
         pos = _;

@@ -75,7 +75,8 @@ enter c s q b r rest t (lower i m) = lower i (omega (arith, count-part (lastPage
 
 at-once : (parent : Head) (c : Chain) (s : Spot) (one rest : Row) (t : Taking) → takingAt parent c (past s one) rest ≡ some t → Level c s (one ⊹ rest) t
 at-once parent c s one rest t e =
-    subst (Level c s (one ⊹ rest)) (Option·some-injective _ t e) (same refl (fill-past s one rest) (λ outer pos. parent-past s one outer pos) (inside-past s one))
+    subst (Level c s (one ⊹ rest)) (Option·some-injective _ t e)
+    (same refl (fill-past s one rest) (λ outer pos. parent-past s one outer pos) (inside-past s one))
 
 after-behind : (parent : Head) (c : Chain) (s : Spot) (i : ℕ) (row : Row) (t : Taking) → takingAfter parent c s i row ≡ some t → BehindChild c s i row t
 unfolding takingAfter
@@ -89,7 +90,8 @@ after-behind parent c s (suc i) (lit h x rest) t e =
     let g = after-behind parent c (past s (lit h x nil)) i rest t e in
     record { wide = omega (arith, g .wide); level = pass c s (lit h x nil) rest t (g .level) }
 after-behind parent c s i (rec q b r rest) t e =
-    go (ltb i (width r)) (lone r) refl e (after-behind parent (below c s q b rest) (here nil) i r t) (after-behind parent c (past s (rec q b r nil)) (i - width r) rest t)
+    go (ltb i (width r)) (lone r) refl e (after-behind parent (below c s q b rest) (here nil) i r t)
+    (after-behind parent c (past s (rec q b r nil)) (i - width r) rest t)
   where
     go : (u v : Bool) → ltb i (width r) ≡ u
         → cond u (cond v (takingAt parent c (past s (rec q b r nil)) rest) (takingAfter parent (below c s q b rest) (here nil) i r))
@@ -123,7 +125,8 @@ module _ (root : Row) (k : ℕ) (t : Taking) (y : Place) where
   abbrev ParentIn : Chain → (at i : ℕ) → (path : List ℕ) → Row → Type 0
   ParentIn c at i path row = Parent root k (λ j. placeAt (lastPage c) at i (path ++ j ∷ []) row) t y
 
-  in-parent : (c : Chain) (s : Spot) (at i : ℕ) (path : List ℕ) (row : Row) → whole c (fill s row) ≡ root → at ≡ offsetIn s row → takingIn k c s i path row ≡ some t
+  in-parent : (c : Chain) (s : Spot) (at i : ℕ) (path : List ℕ) (row : Row) → whole c (fill s row) ≡ root → at ≡ offsetIn s row
+      → takingIn k c s i path row ≡ some t
       → placeAt (lastPage c) at i path row ≡ some y → ParentIn c at i path row
   unfolding takingIn placeAt
   in-parent c s at i path nil w o e p = absurd (Option·none-ne-some t e)
@@ -158,7 +161,8 @@ module _ (root : Row) (k : ℕ) (t : Taking) (y : Place) where
     where
       go : (u : Bool) → cond u (takingIn k (below c s q b rest) (here nil) i path r) (takingIn k c (past s (rec q b r nil)) (i - width r) path rest) ≡ some t
           → cond u (placeAt q (base r) i path r) (placeAt (lastPage c) (at + 8) (i - width r) path rest) ≡ some y
-          → (takingIn k (below c s q b rest) (here nil) i path r ≡ some t → placeAt q (base r) i path r ≡ some y → ParentIn (below c s q b rest) (base r) i path r)
+          → (takingIn k (below c s q b rest) (here nil) i path r ≡ some t → placeAt q (base r) i path r ≡ some y
+          → ParentIn (below c s q b rest) (base r) i path r)
           → (takingIn k c (past s (rec q b r nil)) (i - width r) path rest ≡ some t
           → placeAt (lastPage c) (at + 8) (i - width r) path rest ≡ some y → ParentIn c (at + 8) (i - width r) path rest)
           → Parent root k (λ j. cond u (placeAt q (base r) i (path ++ j ∷ []) r) (placeAt (lastPage c) (at + 8) (i - width r) (path ++ j ∷ []) rest)) t y
@@ -184,14 +188,26 @@ module _ (st : Config) (root : Row) (v : Valid st root) (k : ℕ) (find : ℕ �
   one-page a b f =
       let n : ℕ = base (fill (t .spot) (t .rest)) in
       rw (eq-eqb (y .page) (lastPage (t .chain)) (p .page ∙ sym a))
-      (omega (arith, f 0 n, parent-into (p .spot) (p .head) (p .rest) 0 n, ap base b, ap base (fill-into (p .spot) (p .head) (p .rest) (p .children)), p .offset))
+      (omega (
+        arith,
+        f 0 n,
+        parent-into (p .spot) (p .head) (p .rest) 0 n,
+        ap base b,
+        ap base (fill-into (p .spot) (p .head) (p .rest) (p .children)),
+        p .offset,
+      ))
 
   two-pages : isInside (t .spot) ≡ false → 1 ≤ count (lastPage (t .chain)) (p .children) → Holds
   two-pages i m =
       let f : y .page ≡ lastPage (t .chain) → ⊥ =
       λ q.
       let n : 1 ≤ count (lastPage (p .chain)) (p .children) = subst (λ (n : ℕ). 1 ≤ count n (p .children)) (sym q ∙ p .page) m in
-      omega (arith, not-own st root v (p .chain) (fill (p .spot) x) (p .is), part-fill (count (lastPage (p .chain))) (count-part (lastPage (p .chain))) (p .spot) x) in
+      omega (
+        arith,
+        not-own st root v (p .chain) (fill (p .spot) x) (p .is),
+        part-fill (count (lastPage (p .chain))) (count-part (lastPage (p .chain)))
+            (p .spot) x,
+      ) in
       rw (ne-eqb (y .page) (lastPage (t .chain)) f) (top-parent (t .spot) (base (fill (t .spot) (t .rest))) i)
 
   levels : Level (p .chain) s (p .children) t → Holds
@@ -201,7 +217,8 @@ module _ (st : Config) (root : Row) (v : Valid st root) (k : ℕ) (find : ℕ �
   holds : (k : ℕ) → takingChild (p .head) (p .chain) s k (p .children) ≡ some t → Holds
   holds zero q =
       let z = Option·some-injective _ t q in
-      one-page (sym (ap (λ (t : Taking). lastPage (t .chain)) z)) (sym (ap (λ (t : Taking). fill (t .spot) (t .rest)) z)) (λ outer pos. sym (ap (λ (t : Taking). parent outer pos (t .spot)) z))
+      one-page (sym (ap (λ (t : Taking). lastPage (t .chain)) z)) (sym (ap (λ (t : Taking). fill (t .spot) (t .rest)) z))
+      (λ outer pos. sym (ap (λ (t : Taking). parent outer pos (t .spot)) z))
   holds (suc i) q = levels (after-behind (p .head) (p .chain) s i (p .children) t q .level)
 
   -- The record that takes the node holds the parent if they are on one page, else the place is at the top of its row.
@@ -210,9 +227,12 @@ module _ (st : Config) (root : Row) (v : Valid st root) (k : ℕ) (find : ℕ �
 
   -- The parent has the sibling that the new node goes behind.
   pub parent-wide : (i : ℕ) → k ≡ suc i → i < width (p .children)
-  parent-wide i z = after-behind (p .head) (p .chain) s i (p .children) t (subst (λ (k : ℕ). takingChild (p .head) (p .chain) s k (p .children) ≡ some t) z (p .takes)) .wide
+  parent-wide i z =
+      after-behind (p .head) (p .chain) s i (p .children) t
+      (subst (λ (k : ℕ). takingChild (p .head) (p .chain) s k (p .children) ≡ some t) z (p .takes)) .wide
 
-module _ (st : Config) (root : Row) (v : Valid st root) (path : List ℕ) (k : ℕ) (t : Taking) (y : Place) (e : taking root path k ≡ some t) (n : placeOf root path ≡ some y) where
+module _ (st : Config) (root : Row) (v : Valid st root) (path : List ℕ) (k : ℕ) (t : Taking) (y : Place) (e : taking root path k ≡ some t)
+    (n : placeOf root path ≡ some y) where
   pub parent-of : Parent root k (λ j. placeOf root (path ++ j ∷ [])) t y
   parent-of = in-parent root k t y top (here nil) 0 0 path root refl (rw (lone-root st root v)) e n
 

@@ -53,7 +53,8 @@ record-written p s h c l a b d e f g room k t qa qb qd qe qf qg =
     let nz : length z ≡ capacity - length c = length-replicate _ _ in
     let qd′ : d ≡ over (at + capacity) (1 ∷ s ∷ []) b = rw (state s t) at qd in
     let w1 : b ≡ over at (c ++ z) l = over-then _ _ _ _ _ _ _ qa qb refl (omega arith) in
-    let w2 : d ≡ over at ((c ++ z) ++ (1 ∷ s ∷ [])) l = over-then _ _ _ _ _ _ _ w1 qd′ (simp length-append (omega arith)) (simp length-append (omega arith)) in
+    let w2 : d ≡ over at ((c ++ z) ++ (1 ∷ s ∷ [])) l =
+    over-then _ _ _ _ _ _ _ w1 qd′ (simp length-append (omega arith)) (simp length-append (omega arith)) in
     let w3 : e ≡ over at (((c ++ z) ++ (1 ∷ s ∷ [])) ++ two (length c)) l =
     over-then _ _ _ _ _ _ _ w2 qe (simp length-append (omega arith)) (simp length-append (omega arith)) in
     let w4 : f ≡ over at ((((c ++ z) ++ (1 ∷ s ∷ [])) ++ two (length c)) ++ two h) l =

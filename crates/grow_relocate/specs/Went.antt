@@ -123,7 +123,8 @@ module _ {g : Growing} {ch : Children} {l u img : List ℕ} {x : ℕ} (w : Sep g
 
     pub left-marked : {u₁ : List ℕ} → u₁ ≡ A w xe .used → InUse u₁ (group (w .st) (g .near) (L w xe) work .1)
     left-marked {u₁} e =
-        subst (λ (z : List ℕ). InUse z (group (w .st) (g .near) (L w xe) work .1)) (sym e) (group-same (w .st) few-pages g near-low (L w xe) u img work m .used)
+        subst (λ (z : List ℕ). InUse z (group (w .st) (g .near) (L w xe) work .1)) (sym e)
+        (group-same (w .st) few-pages g near-low (L w xe) u img work m .used)
 
     pub inner-marked : {u₁ u₂ : List ℕ} → u₁ ≡ A w xe .used → u₂ ≡ separateI (w .st) g (ch .p) (x + 6) nil (kidsOf (F w xe)) u₁ img .used
         → InUse u₂ (separate (w .st) (g .near) (ch .p) (x + 6) nil (kidsOf (F w xe)) (group (w .st) (g .near) (L w xe) work .1) .1)
@@ -164,7 +165,8 @@ module _ {g : Growing} {ch : Children} {l u img : List ℕ} {x : ℕ} (w : Sep g
           (lt-ltb target next (omega (arith, size-is))) ∙ by-jump
 
       pub done-after : x + k ≤ target
-          → r ≡ groupPlace (w .st) (g .near) (restOf (F w xe)) (separate (w .st) (g .near) (ch .p) (x + 6) nil (kidsOf (F w xe)) a .1) (x + k) target → r ≡ goal
+          → r ≡ groupPlace (w .st) (g .near) (restOf (F w xe)) (separate (w .st) (g .near) (ch .p) (x + 6) nil (kidsOf (F w xe)) a .1) (x + k) target
+          → r ≡ goal
       done-after y e =
           let v = separate (w .st) (g .near) (ch .p) (x + 6) nil (kidsOf (F w xe)) a in
           e ∙ ap (λ (i : ℕ). groupPlace (w .st) (g .near) (restOf (F w xe)) (v .1) (x + i) target) size-is

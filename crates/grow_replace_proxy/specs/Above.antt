@@ -15,13 +15,15 @@ use Rattle.theory_insert_point.specs.Bytes.{chain-page}
 use Rattle.theory_insert_point.specs.Parts.{part-whole, count-part}
 use Rattle.grow_replace_proxy.specs.Seek.{count-spot}
 
-module _ (was : List ℕ) (st : Config) (root : Row) (r : Reads was st root) (c : Chain) (s : Spot) (q : ℕ) (b : Bool) (rest row : Row) (e : whole (below c s q b rest) row ≡ root) where
+module _ (was : List ℕ) (st : Config) (root : Row) (r : Reads was st root) (c : Chain) (s : Spot) (q : ℕ) (b : Bool) (rest row : Row)
+    (e : whole (below c s q b rest) row ≡ root) where
   pub above-stands : OnPage was (lastPage c) (lastHolder c) (fill s (rec q b row rest))
   above-stands = chain-page was st root r c (fill s (rec q b row rest)) e
 
   pub above-once : count q (fill s (rec q b row rest)) ≡ 1
   above-once =
-      let most : count q (fill s (rec q b row rest)) ≤ count q root = subst (λ (z : Row). count q (fill s (rec q b row rest)) ≤ count q z) e (part-whole (count q) (count-part q) c (fill s (rec q b row rest))) in
+      let most : count q (fill s (rec q b row rest)) ≤ count q root =
+      subst (λ (z : Row). count q (fill s (rec q b row rest)) ≤ count q z) e (part-whole (count q) (count-part q) c (fill s (rec q b row rest))) in
       omega (arith, most, once st root (reads-valid was st root r) q, count-spot s q b row rest)
 
   pub above-fits : Fits (store (whole c (fill s (rec q b row rest))))

@@ -28,7 +28,8 @@ proxy-keeps (here left) q b old rest put (inr n) k =
     (omega (arith, nodeCount-⊹ left (rec q b old rest), nodeCount-⊹ left (put ⊹ rest), nodeCount-⊹ put rest))
 
 -- So it is in a record that fits.
-pub shape-keeps : {t : Bool} (s : Spot) (q : ℕ) (b : Bool) (old rest put : Row) → Shape t (fill s (rec q b old rest)) → 1 ≤ nodeCount put → KeepsRoot s (rec q b old rest) (put ⊹ rest)
+pub shape-keeps : {t : Bool} (s : Spot) (q : ℕ) (b : Bool) (old rest put : Row) → Shape t (fill s (rec q b old rest)) → 1 ≤ nodeCount put
+    → KeepsRoot s (rec q b old rest) (put ⊹ rest)
 shape-keeps s q b old rest put v k = proxy-keeps s q b old rest put (beside s v) k
   where
     beside : {t : Bool} (s : Spot) → Shape t (fill s (rec q b old rest)) → (isInside s ≡ true) ⊎ (2 ≤ nodeCount (fill s (rec q b old rest)))

@@ -65,7 +65,8 @@ module _ (img : List ℕ) (holder page : ℕ) (sep : List ℕ) (w : Lift img hol
   pub used : usedAt img (pageSize * holder) ≡ recordSize before
   used = page-used img held (w .is) (w .small)
 
-  pub part : (n : ℕ) → n ≡ usedAt img (pageSize * holder) → take (pageSize * holder + n - pageSize * holder) (drop (pageSize * holder) img) ≡ recordBytes before
+  pub part : (n : ℕ) → n ≡ usedAt img (pageSize * holder)
+      → take (pageSize * holder + n - pageSize * holder) (drop (pageSize * holder) img) ≡ recordBytes before
   part n e = page-part img held (w .is) (w .small) n e
 
   pub sep-least : 8 ≤ length sep

@@ -160,7 +160,8 @@ module _ {dry : Bool} {img : List ℕ} {above k left label : ℕ} {node : List �
         → seatPlace ≡ movedRecord S (t .page) (begin.row w) (leaves S (lastSettled c) (t .page) (begin.row w) (begin.O w .1)) (t .at)
     split-place big =
         let m : leb (recordSize r) capacity ≡ false = lt-leb (recordSize r) capacity (omega (arith, ap recordSize row-is)) in
-        let e : seatPlace ≡ movedRecord S (lastPage c) r (leaves S (lastSettled c) (lastPage c) r (begin.W w)) (base r + before (begin.s w)) = rw (beside, m) in
+        let e : seatPlace ≡ movedRecord S (lastPage c) r (leaves S (lastSettled c) (lastPage c) r (begin.W w)) (base r + before (begin.s w)) =
+        rw (beside, m) in
         e ∙ (λ i. movedRecord S (sym at-page i) (sym row-is i) (leaves S (lastSettled c) (sym at-page i) (sym row-is i) (sym work-is i)) (sym byte-is i))
 
     seat-split : capacity < length (take len l) → (o : Off (dried g) (settledAt img₁ (pageSize * t .page)) (take len l) u)

@@ -11,7 +11,8 @@ use Rattle.base_numbers.specs.Over.{over}
 use Rattle.theory_rows.specs.Laws.{length-bytes}
 use Rattle.theory_insert_point.specs.Chain.{Spot, inside}
 use Rattle.theory_row_bytes.specs.RowAt.{HeaderAt, header-after, header-size, header-inside, header-resized, kindOf, headOf, bodyOf, restOf, one-bytes}
-use Rattle.grow_splice.specs.Spot.{spot-case, parent, around, before, push, before-push, around-push, parent-push, parent-low, parent-high, before-plain}
+use Rattle.grow_splice.specs.Spot.{spot-case, parent, around, before, push, before-push, around-push, parent-push, parent-low, parent-high}
+use Rattle.grow_splice.specs.Spot.{before-plain}
 
 -- cur is goal, but that the nodes from pos on have not grown yet
 pub record Mid (cur goal : List ℕ) (pos par n : ℕ) : Type 0 where

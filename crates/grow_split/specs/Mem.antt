@@ -35,7 +35,8 @@ after-cond dry true x y img m m′ f a a′ = a f
 after-cond dry false x y img m m′ f a a′ = a′ f
 
 -- One step after another.
-after-then : (dry : Bool) (new mid old : List ℕ) (f : Mem → Mem) (m : Mem) → After dry mid old m → After dry new mid (f (pageOf mid)) → After dry new old (f m)
+after-then : (dry : Bool) (new mid old : List ℕ) (f : Mem → Mem) (m : Mem) → After dry mid old m → After dry new mid (f (pageOf mid))
+    → After dry new old (f m)
 after-then dry new mid old f m a b = record {
   long = b .long ∙ a .long;
   same = λ e. b .same e ∙ a .same e;
@@ -70,7 +71,8 @@ module _ (st : Config) (g : Growing) (e : setupOf st ≡ g .setup) (few : g .set
       let h : q < n = free-within st n (g .near) (usedBy u) (pages-of e) few start past (st .pages) in
       let d = g .dry in
       after-cond d (isNil r || loneRec r) _ _ img _ _ f (λ _. record { long = refl; same = λ _. refl; pages = λ _. refl })
-      (λ k. subst (λ (i : ℕ). After d (cond d img (written q false 0 r img)) img (putMem i false 0 r (pageOf img))) z (own-mem d q r img h (k .0 .fits) b room))
+      (λ k. subst (λ (i : ℕ). After d (cond d img (written q false 0 r img)) img (putMem i false 0 r (pageOf img))) z
+      (own-mem d q r img h (k .0 .fits) b room))
 
   module _ (p : ℕ) where
     two-mem : (left right : Row) (u img : List ℕ) (w : Work) → InUse u w → Past n u → pageSize * n ≤ length img → Below n left → Below n right

@@ -170,7 +170,8 @@ module _ {g : Growing} {ch : Children} {l u img : List ℕ} {room x : ℕ} (w : 
           let na : length (bytes (A .row)) ≡ size (A .row) = length-bytes (A .row) in
           let nb : length (bytes (B .row)) ≡ size (B .row) = length-bytes (B .row) in
           let wr : o₂ ≡ over at (bytes (A .row) ++ bytes (B .row)) o₀ =
-          over-then at (r .end) (bytes (A .row)) (bytes (B .row)) o₀ o₁ o₂ (lf .written) (rt′ .written) (omega (arith, lf .next)) (omega (arith, apart-size)) in
+          over-then at (r .end) (bytes (A .row)) (bytes (B .row)) o₀ o₁ o₂ (lf .written) (rt′ .written) (omega (arith, lf .next)) (omega (arith, apart-size))
+          in
           subst (λ (c : Cutting). Outcome c at (record { end = s .end; full = r .full || s .full }) u₂ i₂ o₂ o₀) (sym apart-is) (record {
             used = rt′ .used;
             image = rt′ .image;

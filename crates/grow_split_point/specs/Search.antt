@@ -47,7 +47,8 @@ unfolding mayStand standing
 into-read st tol nil k e = absurd (omega arith)
 into-read st tol (agg h cs rest) k e =
     not-or (isNil cs) (ltb (6 + size cs) (st .tolerance))
-    ∙ ap₂ _&&_ (some-test cs ∙ sym (ltb-shift 6 (size cs) (6 + size cs) refl)) (not-ltb (6 + size cs) (st .tolerance) _ refl ∙ ap (λ t. leb t (6 + size cs)) e)
+    ∙ ap₂ _&&_ (some-test cs ∙ sym (ltb-shift 6 (size cs) (6 + size cs) refl))
+    (not-ltb (6 + size cs) (st .tolerance) _ refl ∙ ap (λ t. leb t (6 + size cs)) e)
 into-read st tol (lit h c rest) k e = refl
 into-read st tol (rec p s r rest) k e = refl
 

@@ -40,7 +40,8 @@ module _ {l : List ℕ} {s : Setup} (w : Leaning l s) where
 
   pub level : (k : Kids l 6 (recordSize (w .row))) × (k .row ≡ rootRow (w .st) (lone (w .row)) (w .row))
   level =
-      root-kids (w .st) l [] (w .row) (w .is ∙ sym (append-nil (recordBytes (w .row)))) (root-some (w .st) (w .row) (w .fits) (w .big)) (omega (arith, w .most))
+      root-kids (w .st) l [] (w .row) (w .is ∙ sym (append-nil (recordBytes (w .row)))) (root-some (w .st) (w .row) (w .fits) (w .big))
+      (omega (arith, w .most))
 
   -- The children of its root, up to the end of the bytes.
   abbrev pub leaning-kids : Kids l 6 (length l)

@@ -24,7 +24,13 @@ row-bound l (agg k cs rest) f h =
       row-bound l rest (f .2) (omega arith),
     )
 row-bound l (lit k c rest) f h =
-    omega (arith, length-append (lineOf l 76 (k .label) c) (rowText l rest), line-length l 76 (k .label) c (omega arith) (f .0 .label), row-bound l rest (f .3) (omega arith))
+    omega (
+      arith,
+      length-append (lineOf l 76 (k .label) c) (rowText l rest),
+      line-length l 76 (k .label) c (omega arith) (f .0 .label),
+      row-bound l rest
+          (f .3) (omega arith),
+    )
 row-bound l (rec p s r rest) f h =
     omega (arith, length-append (rowText l r) (rowText l rest), row-bound l r (f .1) (omega arith), f .0 .fits, row-bound l rest (f .2) (omega arith))
 

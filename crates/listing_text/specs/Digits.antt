@@ -108,7 +108,8 @@ line-length level letter label c a b =
 pub decimal-long : (n : ℕ) → 10 ≤ n → length (decimalOf n) ≡ length (decimalOf (n / 10)) + 1
 decimal-long n h = ap length (decimal-more n h) ∙ length-append (decimalOf (n / 10)) (digit (n % 10) ∷ [])
 
-pub line-long : (level letter label : ℕ) (c : List ℕ) → length (lineOf level letter label c) ≡ length (decimalOf level) + length (decimalOf label) + length (contentOf c) + 5
+pub line-long : (level letter label : ℕ) (c : List ℕ)
+    → length (lineOf level letter label c) ≡ length (decimalOf level) + length (decimalOf label) + length (contentOf c) + 5
 unfolding lineOf
 line-long level letter label c = simp length-append (omega arith)
 

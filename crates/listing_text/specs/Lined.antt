@@ -31,7 +31,8 @@ lines-append : (l : ℕ) (a b : List Node) → linesOf l (a ++ b) ≡ linesOf l 
 unfolding linesOf
 lines-append l [] b = refl
 lines-append l (n ∷ a) b =
-    rw (lines-append l a b) (sym (append-assoc (lineOf (l + length (n .path)) (letterOf (n .kind)) (n .head .label) (n .content)) (linesOf l a) (linesOf l b)))
+    rw (lines-append l a b) (sym (append-assoc (lineOf (l + length (n .path)) (letterOf (n .kind)) (n .head .label) (n .content)) (linesOf l a)
+    (linesOf l b)))
 
 -- A node's level does not depend on its number in its row, and is one more from the row above.
 lines-further : (l k : ℕ) (a : List Node) → linesOf l (map (further k) a) ≡ linesOf l a
@@ -173,7 +174,15 @@ module _ {img : List ℕ} {i next end level depth : ℕ} (a : LinedNode img i ne
       rw (v .kind-is) record {
         below = omega arith;
         names = λ y. absurd (omega (arith, v .kind-is));
-        inside = record { page = page; row = cs; here = v .children; ends = omega (arith, a .long, v .size-is); deep = omega arith; low = omega (arith, low) };
+        inside = record {
+          page = page;
+          row = cs;
+          here = v .children;
+          ends = omega (arith, a .long, v .size-is);
+          deep = omega arith;
+          low =
+              omega (arith, low);
+        };
         after = behind (agg k cs rest) h e d;
         text = rw label;
       }
@@ -305,5 +314,6 @@ module _ (img : List ℕ) (i next level : ℕ) where
   pub own-none : (kindAt img i ≡ 1 → ⊥) → (kindAt img i ≡ 2 → ⊥) → ownOf img i next level ≡ []
   own-none k m = rw (ne-eqb (kindAt img i) 1 k, ne-eqb (kindAt img i) 2 m)
 
-pub named-page : {img : List ℕ} {i next end level depth : ℕ} (p : ℕ) → LinedNode img i next end level depth → kindAt img i ≡ 3 → p ≡ nameAt img i → PageIn img p
+pub named-page : {img : List ℕ} {i next end level depth : ℕ} (p : ℕ) → LinedNode img i next end level depth → kindAt img i ≡ 3 → p ≡ nameAt img i
+    → PageIn img p
 named-page {img} p a k e = subst (PageIn img) (sym e) (node-lines a .names k .0)

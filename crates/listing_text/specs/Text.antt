@@ -32,7 +32,8 @@ contentOf (b ∷ bs) = hexOf (b ∷ bs)
 
 -- The line of a node: level, A or L, label, content; a space between them.
 unfoldable pub lineOf : (level letter label : ℕ) → (content : List ℕ) → List ℕ
-lineOf level letter label content = decimalOf level ++ (32 ∷ []) ++ (letter ∷ []) ++ (32 ∷ []) ++ decimalOf label ++ (32 ∷ []) ++ contentOf content ++ (10 ∷ [])
+lineOf level letter label content =
+    decimalOf level ++ (32 ∷ []) ++ (letter ∷ []) ++ (32 ∷ []) ++ decimalOf label ++ (32 ∷ []) ++ contentOf content ++ (10 ∷ [])
 
 -- The letters A and L.
 abbrev pub letterOf : (kind : ℕ) → ℕ

@@ -107,7 +107,15 @@ module _ {img : List ℕ} {n : ℕ} (p : Plan img n) {a b : ℕ} (first : a ≡ 
   whole-fitting =
       let l = p .lined in
       record {
-        lined = record { page = l .page; row = l .row; here = subst (λ (m : ℕ). Here img (l .page) m (l .row)) (sym first) (l .here); ends = omega (arith, l .ends); deep = l .deep; low = l .low };
+        lined = record {
+          page = l .page;
+          row = l .row;
+          here = subst (λ (m : ℕ). Here img (l .page) m (l .row)) (sym first) (l .here);
+          ends =
+              omega (arith, l .ends);
+          deep = l .deep;
+          low = l .low;
+        };
         room = record { fits = omega (arith, p .most, w .ends, w .same) };
       }
 

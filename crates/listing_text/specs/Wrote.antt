@@ -17,7 +17,8 @@ pub record Wrote (text : List ℕ) (at : ℕ) (before after : List ℕ) (end : �
   pub fits : end ≤ length after
   pub same : length after ≡ length before
 
-pub wrote : {text : List ℕ} {at : ℕ} {before : List ℕ} → Room text at before → (after : List ℕ) (end : ℕ) → after ≡ over at text before → end ≡ at + length text → Wrote text at before after end
+pub wrote : {text : List ℕ} {at : ℕ} {before : List ℕ} → Room text at before → (after : List ℕ) (end : ℕ) → after ≡ over at text before
+    → end ≡ at + length text → Wrote text at before after end
 wrote {text} {at} {before} r after end b e =
     let s : length after ≡ length before = ap length b ∙ length-over at text before (r .fits) in
     record { bytes = b; ends = e; fits = omega (arith, r .fits); same = s }
@@ -41,7 +42,8 @@ pub one-byte : {b at : ℕ} {out : List ℕ} → Room (b ∷ []) at out → Wrot
 one-byte {b} {at} {out} r =
     let h : at + 0 < length out = omega (arith, r .fits) in
     let z : at + 0 ≡ at = omega arith in
-    wrote r (set out at b) (at + 1) (subst (λ (n : ℕ). set out n b ≡ over at (b ∷ []) out) z (ap (λ (l : List ℕ). set l (at + 0) b) (sym (over-nil at out)) ∙ over-snoc at [] out b h)) refl
+    wrote r (set out at b) (at + 1) (subst (λ (n : ℕ). set out n b ≡ over at (b ∷ []) out) z
+    (ap (λ (l : List ℕ). set l (at + 0) b) (sym (over-nil at out)) ∙ over-snoc at [] out b h)) refl
 
 pub same-text : {xs ys : List ℕ} {at m : ℕ} {a b : List ℕ} → xs ≡ ys → Wrote xs at a b m → Wrote ys at a b m
 same-text {xs} {ys} {at} {m} {a} {b} e w = subst (λ (t : List ℕ). Wrote t at a b m) e w

@@ -91,7 +91,8 @@ module _ (img : List ℕ) (st : Config) (root : Row) (r : Reads img st root) whe
   unfolding findOf findIn
   found-small path =
       rw (opens img st root r)
-      (cond-case (λ (a : FindAnswer). SmallPlace (a .place)) (eqb (lowest ((4, ltb longestPath (length path)) ∷ (7, isNone (namedBy (shown root) path)) ∷ [])) 0) (λ _. small-place (pathOf path))
+      (cond-case (λ (a : FindAnswer). SmallPlace (a .place))
+      (eqb (lowest ((4, ltb longestPath (length path)) ∷ (7, isNone (namedBy (shown root) path)) ∷ [])) 0) (λ _. small-place (pathOf path))
       (λ _. no-place))
 
   next-node-small : (x : Place) → SmallNext (nextOf img x .next)
@@ -120,7 +121,8 @@ module _ (img : List ℕ) (st : Config) (root : Row) (r : Reads img st root) whe
   listed-small buffer =
       let v = reads-valid img st root r in
       let n = same-length (upPages img) (recordPages root) (up-order img st root r) in
-      rw (opens img st root r) (write-small (pageBytes (upPages img)) buffer 2048 (omega (arith, length-pageBytes (upPages img), pages-few st root v, v .ranges .many)))
+      rw (opens img st root r) (write-small (pageBytes (upPages img)) buffer 2048
+      (omega (arith, length-pageBytes (upPages img), pages-few st root v, v .ranges .many)))
 
   read-start-small : (x : Place) → readOf img x .start + readOf img x .len ≤ mostBytes
   read-start-small x = omega (arith, part-inside img x, reads-length img st root r, reads-valid img st root r .ranges .many)

@@ -72,7 +72,8 @@ module _ (img s : List ℕ) (page level : ℕ) (w : State) where
       let a : 6 * d + 6 + 6 ≡ 6 * suc d + 6 = omega arith in
       let b : level + d + 1 ≡ level + suc d = omega arith in
       let x = drop (6 * d + 6) s in
-      let g : listOf img (drop 6 x) page 1 (level + d + 1) w ≡ listOf img (drop (6 * suc d + 6) s) page 1 (level + suc d) w = cc (drop-drop 6 (6 * d + 6) s) in
+      let g : listOf img (drop 6 x) page 1 (level + d + 1) w ≡ listOf img (drop (6 * suc d + 6) s) page 1 (level + suc d) w =
+      cc (drop-drop 6 (6 * d + 6) s) in
       alike-trans (each-walk d (λ i k. h i (omega arith)))
       (alike-trans (list-only img x page 1 (level + d) w (alone s level d (h d (omega arith)))) (alike-same g))
 

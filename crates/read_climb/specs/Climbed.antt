@@ -27,7 +27,8 @@ use Rattle.read_next.specs.Scan.{NodeAt, NodeOf, Located}
 use Rattle.read_climb.specs.Rise.{Rose, placeAtByte}
 
 -- A path that finds a place is what Climb writes for it.
-climbs : (img : List ℕ) (st : Config) (root : Row) → Reads img st root → (x : Place) (path buffer : List ℕ) → placeOf root path ≡ some x → climbOf img x buffer ≡ write (pathBytes path) buffer
+climbs : (img : List ℕ) (st : Config) (root : Row) → Reads img st root → (x : Place) (path buffer : List ℕ) → placeOf root path ≡ some x
+    → climbOf img x buffer ≡ write (pathBytes path) buffer
 unfolding climbOf climbIn
 climbs img st root r x path buffer f = go (named (shown root) path) refl
   where
@@ -57,7 +58,8 @@ climb-none img x buffer pos ok l z =
 pub some-node : (img : List ℕ) (page offset pos : ℕ) → Located img page offset pos → (pos ≡ 0 → ⊥) → NodeOf img page offset pos
 some-node img page offset pos l k = l .found (omega arith)
 
-pub room : (img : List ℕ) (pos at : ℕ) (path : List ℕ) → NodeAt img pos → ((w : NodeAt img pos) → Rose (w .root) (placeAtByte pos) at path) × (length path ≡ longestPath) → at ≤ longestPath
+pub room : (img : List ℕ) (pos at : ℕ) (path : List ℕ) → NodeAt img pos
+    → ((w : NodeAt img pos) → Rose (w .root) (placeAtByte pos) at path) × (length path ≡ longestPath) → at ≤ longestPath
 room img pos at path w r = omega (arith, r .0 w .ends)
 
 module _ (img : List ℕ) (x : Place) (buffer : List ℕ) (pos : ℕ) (n : NodeOf img (x .page) (x .offset) pos) (at : ℕ) (path : List ℕ)
@@ -74,7 +76,8 @@ module _ (img : List ℕ) (x : Place) (buffer : List ℕ) (pos : ℕ) (n : NodeO
   writes : climbOf img x buffer ≡ write (drop at path) buffer
   writes =
       let w = n .node in
-      climbs img (w .settings) (w .root) (w .reads) x (rose .names) buffer (rose .finds ∙ ap some place-is) ∙ ap (λ (b : List ℕ). write b buffer) (sym (rose .bytes))
+      climbs img (w .settings) (w .root) (w .reads) x (rose .names) buffer (rose .finds ∙ ap some place-is)
+      ∙ ap (λ (b : List ℕ). write b buffer) (sym (rose .bytes))
 
   size-is : length (drop at path) ≡ longestPath - at
   size-is = length-drop at path ∙ ap (λ (k : ℕ). k - at) (r .1)
@@ -82,7 +85,8 @@ module _ (img : List ℕ) (x : Place) (buffer : List ℕ) (pos : ℕ) (n : NodeO
   pub climb-short : length buffer < longestPath - at → Answers img x buffer (writeRefused 11) buffer
   climb-short h = answers img x buffer (writeRefused 11) buffer (writes ∙ rw (size-is, lt-ltb (length buffer) (longestPath - at) h))
 
-  pub climb-done : (new : List ℕ) → longestPath - at ≤ length buffer → new ≡ over 0 (take (longestPath - at) (drop at path)) buffer → Answers img x buffer (record { number = 0; written = longestPath - at }) new
+  pub climb-done : (new : List ℕ) → longestPath - at ≤ length buffer → new ≡ over 0 (take (longestPath - at) (drop at path)) buffer
+      → Answers img x buffer (record { number = 0; written = longestPath - at }) new
   climb-done new h e =
       let whole : take (longestPath - at) (drop at path) ≡ drop at path = take-all (longestPath - at) (drop at path) (omega (arith, size-is)) in
       let same : new ≡ over 0 (drop at path) buffer = e ∙ ap (λ (b : List ℕ). over 0 b buffer) whole in

@@ -65,7 +65,8 @@ parent (sub {holder = holder} {row = row} {before = before} {after = after} {dep
 }
 
 -- What the search for that proxy asks.
-abbrev pub held : (img : List ℕ) (st : Config) (root : Row) → Reads img st root → (page : ℕ) (row : Row) (depth holder : ℕ) → Holder root page row depth holder
+abbrev pub held : (img : List ℕ) (st : Config) (root : Row) → Reads img st root → (page : ℕ) (row : Row) (depth holder : ℕ)
+    → Holder root page row depth holder
     → HeldBy img holder page
 held img st root reads page row depth holder p = record {
   above = record {

@@ -114,7 +114,16 @@ module _ (img : List ℕ) (i n target : ℕ) (long : n ≡ sizeAt img i) (w : Se
       let l = parts-less (w .row) (omega (arith, has-some i (w .row) (w .has))) in
       rw n-is (record {
         more = seen .more;
-        after = record { page = w .page; row = restOf (w .row); here = seen .after; item = w .item; starts = w .starts; has = b; few = omega (arith, w .few) };
+        after = record {
+          page = w .page;
+          row = restOf (w .row);
+          here = seen .after;
+          item = w .item;
+          starts = w .starts;
+          has = b;
+          few =
+              omega (arith, w .few);
+        };
         same = e;
         counts = f;
       })

@@ -76,7 +76,8 @@ reach img page pos off k path (rec p s r rest) h e d f y =
   where
     go : (b : Bool) → ltb k (width r) ≡ b
         → (nthOf (pageSize * p + base r) r k .found ≡ true → Leads img (nthOf (pageSize * p + base r) r k .at) path (placeAt p (base r) k path r))
-        → (nthOf (pos + 8) rest (k - width r) .found ≡ true → Leads img (nthOf (pos + 8) rest (k - width r) .at) path (placeAt page (off + 8) (k - width r) path rest))
+        → (nthOf (pos + 8) rest (k - width r) .found ≡ true
+        → Leads img (nthOf (pos + 8) rest (k - width r) .at) path (placeAt page (off + 8) (k - width r) path rest))
         → Leads img (nthOf pos (rec p s r rest) k .at) path (cond b (placeAt p (base r) k path r) (placeAt page (off + 8) (k - width r) path rest))
     go true b within beyond =
         let g = nth-inside pos p s r rest k (ltb-true k (width r) b) in

@@ -128,7 +128,15 @@ module _ (img : List ℕ) (i end depth p : ℕ) (some : i < end) (kind : kindAt 
         below = omega arith;
         long = v .size-is;
         inside =
-            record { page = q; row = r; here = subst (λ (n : ℕ). Here img q n r) (sym a) (u .here); ends = omega arith; deep = omega arith; few = omega arith };
+            record {
+              page = q;
+              row = r;
+              here = subst (λ (n : ℕ). Here img q n r) (sym a) (u .here);
+              ends = omega arith;
+              deep = omega arith;
+              few =
+                  omega arith;
+            };
         after = record { page = page; row = rest; here = v .after; ends = omega arith; deep = omega arith; few = omega arith };
         wide = refl;
         told = λ c t. ap (λ (n : ℕ). getD c n 0) same ∙ t .told q page r (h .on .low) u;
@@ -163,7 +171,8 @@ pub count-node : (img : List ℕ) (i end depth n t len : ℕ) → (s : Counted i
 count-node img i end depth n t len s a = record { rest = a .after; sum = omega (arith, s .sum, a .wide) }
 
 -- A proxy, by the table's number of its record's nodes.
-pub count-proxy : (img : List ℕ) (i end depth n t len p : ℕ) → len ≡ sizeAt img i → (s : Counted img i end depth n t) → Entered img i end depth p (s .rest .row)
+pub count-proxy : (img : List ℕ) (i end depth n t len p : ℕ) → len ≡ sizeAt img i → (s : Counted img i end depth n t)
+    → Entered img i end depth p (s .rest .row)
     → (c : List ℕ) → Widths img c → Counted img (i + len) end depth (n + getD c p 0) t
 count-proxy img i end depth n t len p e s a c table =
     subst (λ (m : ℕ). Counted img (i + m) end depth (n + getD c p 0) t) (sym (e ∙ a .long))

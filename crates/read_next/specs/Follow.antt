@@ -82,7 +82,8 @@ pub node-head : {img : List ℕ} {pos : ℕ} (a : NodeAt img pos) → HeaderRoom
 node-head {img} {pos} a =
     let s = a .spot in
     head-of img (s .page) pos (node pos)
-    (item-at img (s .page) (pageSize * s .page + base (s .row)) (s .row) (in-page img (a .settings) (a .root) (a .reads) (s .within) .here) (s .left) (s .right)
+    (item-at img (s .page) (pageSize * s .page + base (s .row)) (s .row) (in-page img (a .settings) (a .root) (a .reads) (s .within) .here) (s .left)
+    (s .right)
     (node pos) (s .split) .0)
 
 pub upward-start : {img : List ℕ} {pos : ℕ} (a : NodeAt img pos) (page n : ℕ) → page ≡ pos / pageSize → n ≡ step img pos → Upward img pos page n mostPages

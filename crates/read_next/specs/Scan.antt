@@ -357,7 +357,8 @@ module _ {img : List ℕ} {holder page : ℕ} where
             let two : eqb page page ≡ true = eq-eqb page page refl in
             let later = left ++ proxy target page (s .row) ∷ s .right in
             let o₂ : 1 + named page later ≤ 1 = rw one at (subst (λ (i : Item). named page (i ∷ later) ≤ 1) (q .2) o) in
-            let n : named page later ≡ named page left + (1 + named page (s .right)) = rw two at (named-++ page left (proxy target page (s .row) ∷ s .right)) in
+            let n : named page later ≡ named page left + (1 + named page (s .right)) =
+            rw two at (named-++ page left (proxy target page (s .row) ∷ s .right)) in
             absurd (omega arith)
 
     -- and until then it is further on.

@@ -38,7 +38,8 @@ page-found mem (h ∷ hs) m q z = go (eqb q (h .page)) refl z (page-found mem hs
     n : ℕ
     n = times q (map (λ (h : Held). h .page) hs)
 
-    go : (b : Bool) → eqb q (h .page) ≡ b → (cond b 1 0 + n ≡ 0 → mem q ≡ replicate pageSize 0) → ((n ≡ 0 → mem q ≡ replicate pageSize 0) → mem q ≡ pageAt hs q)
+    go : (b : Bool) → eqb q (h .page) ≡ b → (cond b 1 0 + n ≡ 0 → mem q ≡ replicate pageSize 0)
+        → ((n ≡ 0 → mem q ≡ replicate pageSize 0) → mem q ≡ pageAt hs q)
         → mem q ≡ cond b (recordPage h) (pageAt hs q)
     go true e z ih = ap mem (eqb-true q (h .page) e) ∙ m .0
     go false e z ih = ih (λ d. z (omega arith))

@@ -29,7 +29,13 @@ sum-none (suc k) p = omega (arith, sum-none k (suc p))
 sum-count : (k p : ℕ) (r : Row) → ((q : ℕ) → 1 ≤ count q r → (p ≤ q) × (q < p + k)) → sum (λ q. count q r) k p ≡ recordCount r
 sum-count k p nil h = sum-none k p
 sum-count k p (agg l cs rest) h =
-    omega (arith, sum-add (λ q. count q cs) (λ q. count q rest) k p, sum-count k p cs (λ q g. h q (omega arith)), sum-count k p rest (λ q g. h q (omega arith)))
+    omega (
+      arith,
+      sum-add (λ q. count q cs) (λ q. count q rest) k p,
+      sum-count k p cs (λ q g. h q (omega arith)),
+      sum-count k p rest
+          (λ q g. h q (omega arith)),
+    )
 sum-count k p (lit l c rest) h = sum-count k p rest h
 sum-count k p (rec x s r rest) h =
     let i = h x (names-own x s r rest) in

@@ -142,7 +142,8 @@ module _ (img : List ℕ) (f : Job → Decoded) (h : Less f) where
   unfolding listStep
   less-list s page holder level w =
       both (Kept w) (eqb (length s) 0) (le-refl (w .left))
-      (both (Kept w) (eqb (w .left) 0) (le-refl (w .left)) (both (Kept w) (eqb (wholeSize s) 0) (less-stop w) (less-more s page holder level w (wholeSize s))))
+      (both (Kept w) (eqb (w .left) 0) (le-refl (w .left))
+      (both (Kept w) (eqb (wholeSize s) 0) (less-stop w) (less-more s page holder level w (wholeSize s))))
 
   less-step : Less (step img f)
   less-step (node s page holder level w) = less-node s page holder level w (passingKind s holder)

@@ -48,7 +48,8 @@ module _ (s : List ℕ) where
   module _ (bytes : AllBytes s) (long : length s ≡ pageSize) where
     trailer-is : allZero (take 10 (drop (capacity + 6) s)) ≡ true → drop capacity s ≡ trailer (stateAt s 0) (settledAt s 0) (usedAt s 0) (backAt s 0)
     trailer-is z =
-        let last = next-zeros (capacity + 6) 10 (omega arith) z ∙ ap (λ (x : List ℕ). replicate 10 0 ++ x) (drop-of-length-le s {i = pageSize} (omega arith)) in
+        let last = next-zeros (capacity + 6) 10 (omega arith) z
+        ∙ ap (λ (x : List ℕ). replicate 10 0 ++ x) (drop-of-length-le s {i = pageSize} (omega arith)) in
         let used = next-two (capacity + 2) bytes (omega arith) in
         let back = next-two (capacity + 4) bytes (omega arith) ∙ ap (λ (x : List ℕ). two (backAt s 0) ++ x) last in
         drop-cons s capacity 0 (omega arith) ∙ ap (λ (x : List ℕ). stateAt s 0 ∷ x)

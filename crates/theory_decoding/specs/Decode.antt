@@ -36,7 +36,8 @@ config-image st root v =
     let t = two-bytes (st .tolerance) (omega (arith, v .ranges .tol)) in
     let f = two-bytes (st .form) (omega (arith, v .ranges .form)) in
     let m : take 256 (drop 16 (image st root)) ≡ st .matrix =
-    take-first (st .matrix) (replicate (capacity - settingsSize) 0) (trailer 2 0 settingsSize 0) (pagesFrom (records 0 (store root)) (st .pages - 1) 1) 256 (v .ranges .entries) in
+    take-first (st .matrix) (replicate (capacity - settingsSize) 0) (trailer 2 0 settingsSize 0) (pagesFrom (records 0 (store root)) (st .pages - 1) 1) 256
+    (v .ranges .entries) in
     λ i. record { pages = p i; target = st .target; tolerance = t i; form = f i; matrix = m i }
 
 -- ── a record's page ──

@@ -87,17 +87,8 @@ module _ (st : Config) (root : Row) (v : Valid st root) where
 
   pub few-records : recordCount (store root) ≤ st .pages
   few-records =
-      omega (
-        arith,
-        count-sum (st .pages) (store root) (λ q h. named-inside q h .1),
-        sum-at-most (st .pages) (λ q. count q (store root)) (once st root v),
-      )
+      omega (arith, count-sum (st .pages) (store root) (λ q h. named-inside q h .1), sum-at-most (st .pages) (λ q. count q (store root)) (once st root v))
 
   pub few-steps : steps root ≤ pageSize * st .pages
   few-steps =
-      omega (
-        arith,
-        steps-bound (store root) (v .rows),
-        few-records,
-        v .ranges .few,
-      )
+      omega (arith, steps-bound (store root) (v .rows), few-records, v .ranges .few)

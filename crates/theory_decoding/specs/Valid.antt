@@ -8,7 +8,8 @@ use borrow.Author.Tests.{ltb-true, lt-ltb, leb-true, le-leb, eqb-true, eq-eqb, n
 use lib.ListN.{length}
 use lib.Dec.{leb, eqb}
 use Rattle.model.specs.Limits.{mostPages, capacity, mostContent}
-use Rattle.model.specs.Row.{Row, nil, agg, lit, rec, store, lone, nodeCount, recordSize, isAgg, height, count, outside, placed, Config, every, isByte, isEntry, inRange, headFits, recordFits, fits, valid, standing, mayStand, byTable}
+use Rattle.model.specs.Row.{Row, nil, agg, lit, rec, store, lone, nodeCount, recordSize, isAgg, height, count, outside, placed, Config, every, isByte}
+use Rattle.model.specs.Row.{isEntry, inRange, headFits, recordFits, fits, valid, standing, mayStand, byTable}
 use Rattle.theory_rows.specs.Fits.{IsByte, Shape, one, more, RecordFits, Fits, Ranges, Placed, Valid}
 use Rattle.theory_rows.specs.Laws.{cond-case, isNil-nil}
 

@@ -93,7 +93,8 @@ root-place q i (rec p s r rest) l z = absurd (false≢true l)
 both : (t t₁ : Taking) (y y₁ : Place) → some t ≡ some t₁ → some y ≡ some y₁ → Beside t y → Beside t₁ y₁
 both t t₁ y y₁ e p b = subst (λ (t : Taking). Beside t y₁) (Option·some-injective t t₁ e) (subst (Beside t) (Option·some-injective y y₁ p) b)
 
-after-beside : (parent : Head) (c : Chain) (s : Spot) (at i : ℕ) (row : Row) (t : Taking) (y : Place) → at ≡ offsetIn s row → takingAfter parent c s i row ≡ some t
+after-beside : (parent : Head) (c : Chain) (s : Spot) (at i : ℕ) (row : Row) (t : Taking) (y : Place) → at ≡ offsetIn s row
+    → takingAfter parent c s i row ≡ some t
     → placeAt (lastPage c) at i [] row ≡ some y → Beside t y
 unfolding takingAfter placeAt
 after-beside parent c s at i nil t y o e p = absurd (Option·none-ne-some t e)
@@ -108,7 +109,8 @@ after-beside parent c s at (suc i) (lit h x rest) t y o e p =
 after-beside parent c s at i (rec q b r rest) t y o e p =
     let z : base r ≡ base r + 0 = omega arith in
     go (ltb i (width r)) (lone r) refl refl e p (λ e p. after-beside parent (below c s q b rest) (here nil) (base r) i r t y z e p)
-    (λ e p. after-beside parent c (past s (rec q b r nil)) (at + 8) (i - width r) rest t y (omega (arith, offset-past s (rec q b r nil) rest 8 (omega arith))) e p)
+    (λ e p. after-beside parent c (past s (rec q b r nil)) (at + 8) (i - width r) rest t y (omega (arith, offset-past s (rec q b r nil) rest 8 (omega arith)))
+    e p)
   where
     go : (u v : Bool) → ltb i (width r) ≡ u → lone r ≡ v
         → cond u (cond v (takingAt parent c (past s (rec q b r nil)) rest) (takingAfter parent (below c s q b rest) (here nil) i r))
@@ -123,7 +125,8 @@ after-beside parent c s at i (rec q b r rest) t y o e p =
     go true false m l e p f g = f e p
     go false v m l e p f g = g e p
 
-in-beside : (k : ℕ) (c : Chain) (s : Spot) (at i : ℕ) (path : List ℕ) (row : Row) (t : Taking) (y : Place) → at ≡ offsetIn s row → takingIn (suc k) c s i path row ≡ some t
+in-beside : (k : ℕ) (c : Chain) (s : Spot) (at i : ℕ) (path : List ℕ) (row : Row) (t : Taking) (y : Place) → at ≡ offsetIn s row
+    → takingIn (suc k) c s i path row ≡ some t
     → placeAt (lastPage c) at i (path ++ k ∷ []) row ≡ some y → Beside t y
 unfolding takingIn placeAt
 in-beside k c s at i path nil t y o e p = absurd (Option·none-ne-some t e)
@@ -141,7 +144,8 @@ in-beside k c s at (suc i) path (lit h x rest) t y o e p =
 in-beside k c s at i path (rec q b r rest) t y o e p =
     let z : base r ≡ base r + 0 = omega arith in
     go (ltb i (width r)) e p (λ e p. in-beside k (below c s q b rest) (here nil) (base r) i path r t y z e p)
-    (λ e p. in-beside k c (past s (rec q b r nil)) (at + 8) (i - width r) path rest t y (omega (arith, offset-past s (rec q b r nil) rest 8 (omega arith))) e p)
+    (λ e p. in-beside k c (past s (rec q b r nil)) (at + 8) (i - width r) path rest t y (omega (arith, offset-past s (rec q b r nil) rest 8 (omega arith))) e
+    p)
   where
     go : (u : Bool)
         → cond u (takingIn (suc k) (below c s q b rest) (here nil) i path r) (takingIn (suc k) c (past s (rec q b r nil)) (i - width r) path rest) ≡ some t

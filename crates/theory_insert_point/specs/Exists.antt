@@ -44,7 +44,8 @@ record Open (k : ℕ) (n : Node) : Type 0 where
   many : k ≤ n .children
 
 -- the same node from another row
-open-same : (f : Node → Node) (k : ℕ) (m n : Node) → ((n : Node) → f n .kind ≡ n .kind) → ((n : Node) → f n .children ≡ n .children) → f m ≡ n → Open k n → Open k m
+open-same : (f : Node → Node) (k : ℕ) (m n : Node) → ((n : Node) → f n .kind ≡ n .kind) → ((n : Node) → f n .children ≡ n .children) → f m ≡ n → Open k n
+    → Open k m
 open-same f k m n a b e o =
     let p = ap (λ (n : Node). n .kind) e in
     let q = ap (λ (n : Node). n .children) e in
@@ -55,7 +56,8 @@ in-found : (k : ℕ) (c : Chain) (s : Spot) (i : ℕ) (path : List ℕ) (row : R
 unfolding takingIn
 in-found k c s i path nil n e o = absurd (Option·none-ne-some n e)
 in-found k c s zero [] (agg h cs rest) n e o =
-    child-found h c (into s h rest) k cs (omega (arith, o .many, ap (λ (n : Node). n .children) (Option·some-injective (branchNode h (shown cs)) n e), breadth-shown cs))
+    child-found h c (into s h rest) k cs (omega
+    (arith, o .many, ap (λ (n : Node). n .children) (Option·some-injective (branchNode h (shown cs)) n e), breadth-shown cs))
 in-found k c s zero (j ∷ path) (agg h cs rest) n e o =
     let (m, g, f) = unmap lower (nodeAt j path (shown cs)) n e in
     in-found k c (into s h rest) j path cs m g (open-same lower k m n (λ n. refl) (λ n. refl) f o)

@@ -6,7 +6,8 @@ use lib.ListN.{length}
 use lib.Dec.{leb, eqb}
 use Rattle.model.specs.Limits.{capacity}
 use Rattle.model.specs.Row.{Row, nil, agg, lit, rec, _⊹_, size, isNil, lone, loneRec, recordSize, Config}
-use Rattle.model.specs.Growth.{Work, Out, onRow, freeFrom, group, twoGroups, separate, goOn, stops, rootRow, splitPoint, separator, counted, freed, kept, close}
+use Rattle.model.specs.Growth.{Work, Out, onRow, freeFrom, group, twoGroups, separate, goOn, stops, rootRow, splitPoint, separator, counted, freed, kept}
+use Rattle.model.specs.Growth.{close}
 use Rattle.theory_rows.specs.Laws.{cond-case}
 use Rattle.theory_rows.specs.Pages.{or-left}
 use Rattle.theory_insert_point.specs.Chain.{fill, Chain, top, below, rise}
@@ -37,7 +38,8 @@ module _ (st : Config) where
         (λ _. full-two left (agg h cs rest) w)
         (λ _ z. full-group near left w (full-separate (at + 6) nil cs (a .1) (full-group near rest (b .1) z))))
     full-separate at left (lit h c rest) w =
-        cond-case (Since w) (goOn st p at (6 + length c) rest) (λ _. full-separate (at + (6 + length c)) (left ⊹ lit h c nil) rest w) (λ _. full-two left (lit h c rest) w)
+        cond-case (Since w) (goOn st p at (6 + length c) rest) (λ _. full-separate (at + (6 + length c)) (left ⊹ lit h c nil) rest w)
+        (λ _. full-two left (lit h c rest) w)
     full-separate at left (rec q s r rest) w =
         cond-case (Since w) (goOn st p at 8 rest) (λ _. full-separate (at + 8) (left ⊹ rec q s r nil) rest w) (λ _. full-two left (rec q s r rest) w)
 

@@ -85,7 +85,8 @@ root-depth st c old x e k f h = go c (lone x) refl e k h
     under (lit l c rest) f h = omega arith
     under (rec p s r rest) f h = omega arith
 
-    go : (c : Chain) (b : Bool) → lone x ≡ b → lone (whole c old) ≡ true → (lone old ≡ true → b ≡ true) → height (whole c x) ≤ 24 → depth (rootRow st b x) ≤ 23
+    go : (c : Chain) (b : Bool) → lone x ≡ b → lone (whole c old) ≡ true → (lone old ≡ true → b ≡ true) → height (whole c x) ≤ 24
+        → depth (rootRow st b x) ≤ 23
     go c true z e k h = under x f (omega (arith, height-whole c x))
     go top false z e k h = absurd (false≢true (k e))
     go (below c s q b rest) false z e k h = omega (arith, depth-height x f, below-height c s q b rest old e x)

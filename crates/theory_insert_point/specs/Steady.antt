@@ -52,7 +52,8 @@ after-steady parent c s (suc i) (agg h cs rest) t e o = after-steady parent c (p
 after-steady parent c s zero (lit h x rest) t e o = subst SteadyAt (Option·some-injective _ t e) (steady-past s (lit h x nil) rest refl o)
 after-steady parent c s (suc i) (lit h x rest) t e o = after-steady parent c (past s (lit h x nil)) i rest t e (onward-past s (lit h x nil) rest o)
 after-steady parent c s i (rec q b r rest) t e o =
-    go (ltb i (width r)) (lone r) refl e (after-steady parent (below c s q b rest) (here nil) i r t) (after-steady parent c (past s (rec q b r nil)) (i - width r) rest t)
+    go (ltb i (width r)) (lone r) refl e (after-steady parent (below c s q b rest) (here nil) i r t)
+    (after-steady parent c (past s (rec q b r nil)) (i - width r) rest t)
   where
     go : (u v : Bool) → lone r ≡ v
         → cond u (cond v (takingAt parent c (past s (rec q b r nil)) rest) (takingAfter parent (below c s q b rest) (here nil) i r))
@@ -132,9 +133,11 @@ module _ (st : Config) (x : New) (parent : Head) (page : ℕ) (w : Work) where
   pub place-row : (rest : Row) → place st x parent page rest w .0 ≡ asPlaced ⊹ rest
   place-row rest = go (apart st parent (x .head)) (eqb (x .kind) 1)
     where
-      go : (a b : Bool) → cond {A = Row × Work} a (rec (freeFrom st (st .pages) (w .used) page) true (asRow st x nil) rest, taken st (freeFrom st (st .pages) (w .used) page) w)
+      go : (a b : Bool) → cond {A = Row × Work} a
+          (rec (freeFrom st (st .pages) (w .used) page) true (asRow st x nil) rest, taken st (freeFrom st (st .pages) (w .used) page) w)
           (cond b (agg (x .head) nil rest) (lit (x .head) (x .content) rest), w) .0
-          ≡ cond a (rec (freeFrom st (st .pages) (w .used) page) true (asRow st x nil) nil) (cond b (agg (x .head) nil nil) (lit (x .head) (x .content) nil)) ⊹ rest
+          ≡ cond a (rec (freeFrom st (st .pages) (w .used) page) true (asRow st x nil) nil)
+          (cond b (agg (x .head) nil nil) (lit (x .head) (x .content) nil)) ⊹ rest
       go true b = refl
       go false true = refl
       go false false = refl
@@ -143,7 +146,8 @@ module _ (st : Config) (x : New) (parent : Head) (page : ℕ) (w : Work) where
   placed-some = go (apart st parent (x .head)) (eqb (x .kind) 1)
     where
       go : (a b : Bool)
-          → isNil (cond a (rec (freeFrom st (st .pages) (w .used) page) true (asRow st x nil) nil) (cond b (agg (x .head) nil nil) (lit (x .head) (x .content) nil))) ≡ false
+          → isNil (cond a (rec (freeFrom st (st .pages) (w .used) page) true (asRow st x nil) nil)
+          (cond b (agg (x .head) nil nil) (lit (x .head) (x .content) nil))) ≡ false
       go true b = refl
       go false true = refl
       go false false = refl

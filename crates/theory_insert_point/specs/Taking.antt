@@ -69,7 +69,8 @@ wholeOf t = whole (t .chain) (fill (t .spot) (t .rest))
 whole-past : (c : Chain) (s : Spot) (one row : Row) → whole c (fill (past s one) row) ≡ whole c (fill s (one ⊹ row))
 whole-past c s one row = ap (whole c) (fill-past s one row)
 
-after-whole : (parent : Head) (c : Chain) (s : Spot) (i : ℕ) (row : Row) (t : Taking) → takingAfter parent c s i row ≡ some t → wholeOf t ≡ whole c (fill s row)
+after-whole : (parent : Head) (c : Chain) (s : Spot) (i : ℕ) (row : Row) (t : Taking) → takingAfter parent c s i row ≡ some t
+    → wholeOf t ≡ whole c (fill s row)
 unfolding takingAfter
 after-whole parent c s i nil t e = absurd (Option·none-ne-some t e)
 after-whole parent c s zero (agg h cs rest) t e = ap wholeOf (sym (Option·some-injective _ t e)) ∙ whole-past c s (agg h cs nil) rest
@@ -77,7 +78,8 @@ after-whole parent c s (suc i) (agg h cs rest) t e = after-whole parent c (past 
 after-whole parent c s zero (lit h x rest) t e = ap wholeOf (sym (Option·some-injective _ t e)) ∙ whole-past c s (lit h x nil) rest
 after-whole parent c s (suc i) (lit h x rest) t e = after-whole parent c (past s (lit h x nil)) i rest t e ∙ whole-past c s (lit h x nil) rest
 after-whole parent c s i (rec q b r rest) t e =
-    go (ltb i (width r)) (lone r) e (after-whole parent (below c s q b rest) (here nil) i r t) (after-whole parent c (past s (rec q b r nil)) (i - width r) rest t)
+    go (ltb i (width r)) (lone r) e (after-whole parent (below c s q b rest) (here nil) i r t)
+    (after-whole parent c (past s (rec q b r nil)) (i - width r) rest t)
   where
     go : (u v : Bool)
         → cond u (cond v (takingAt parent c (past s (rec q b r nil)) rest) (takingAfter parent (below c s q b rest) (here nil) i r))
@@ -89,11 +91,13 @@ after-whole parent c s i (rec q b r rest) t e =
     go true false e f g = f e
     go false v e f g = g e ∙ whole-past c s (rec q b r nil) rest
 
-child-whole : (parent : Head) (c : Chain) (s : Spot) (k : ℕ) (row : Row) (t : Taking) → takingChild parent c s k row ≡ some t → wholeOf t ≡ whole c (fill s row)
+child-whole : (parent : Head) (c : Chain) (s : Spot) (k : ℕ) (row : Row) (t : Taking) → takingChild parent c s k row ≡ some t
+    → wholeOf t ≡ whole c (fill s row)
 child-whole parent c s zero row t e = ap wholeOf (sym (Option·some-injective _ t e))
 child-whole parent c s (suc i) row t e = after-whole parent c s i row t e
 
-in-whole : (k : ℕ) (c : Chain) (s : Spot) (i : ℕ) (path : List ℕ) (row : Row) (t : Taking) → takingIn k c s i path row ≡ some t → wholeOf t ≡ whole c (fill s row)
+in-whole : (k : ℕ) (c : Chain) (s : Spot) (i : ℕ) (path : List ℕ) (row : Row) (t : Taking) → takingIn k c s i path row ≡ some t
+    → wholeOf t ≡ whole c (fill s row)
 unfolding takingIn
 in-whole k c s i path nil t e = absurd (Option·none-ne-some t e)
 in-whole k c s zero [] (agg h cs rest) t e = child-whole h c (into s h rest) k cs t e ∙ ap (whole c) (fill-into s h rest cs)
@@ -130,7 +134,8 @@ module _ (st : Config) (x : New) where
   rise-past : (c : Chain) (s : Spot) (one : Row) (o : Out) → rise st c (onRow (λ r. fill s (one ⊹ r)) o) ≡ rise st c (onRow (fill (past s one)) o)
   rise-past c s one o = ap (λ (r : Row). rise st c (r, o .1)) (sym (fill-past s one (o .0)))
 
-  rise-into : (c : Chain) (s : Spot) (h : Head) (rest : Row) (o : Out) → rise st c (onRow (λ r. fill s (agg h r rest)) o) ≡ rise st c (onRow (fill (into s h rest)) o)
+  rise-into : (c : Chain) (s : Spot) (h : Head) (rest : Row) (o : Out)
+      → rise st c (onRow (λ r. fill s (agg h r rest)) o) ≡ rise st c (onRow (fill (into s h rest)) o)
   rise-into c s h rest o = ap (λ (r : Row). rise st c (r, o .1)) (sym (fill-into s h rest (o .0)))
 
   after-risen : (parent : Head) (c : Chain) (s : Spot) (i : ℕ) (row : Row) (w : Work) (t : Taking) → takingAfter parent c s i row ≡ some t
@@ -146,17 +151,21 @@ module _ (st : Config) (x : New) where
   after-risen parent c s (suc i) (lit h y rest) w t e =
       rise-past c s (lit h y nil) (after st x parent (lastPage c) i rest w) ∙ after-risen parent c (past s (lit h y nil)) i rest w t e
   after-risen parent c s i (rec q b r rest) w t e =
-      go (ltb i (width r)) (lone r) e (after-risen parent (below c s q b rest) (here nil) i r w t) (after-risen parent c (past s (rec q b r nil)) (i - width r) rest w t)
+      go (ltb i (width r)) (lone r) e (after-risen parent (below c s q b rest) (here nil) i r w t)
+      (after-risen parent c (past s (rec q b r nil)) (i - width r) rest w t)
     where
       go : (u v : Bool)
           → cond u (cond v (takingAt parent c (past s (rec q b r nil)) rest) (takingAfter parent (below c s q b rest) (here nil) i r))
           (takingAfter parent c (past s (rec q b r nil)) (i - width r) rest) ≡ some t
-          → (takingAfter parent (below c s q b rest) (here nil) i r ≡ some t → rise st c (onRow (fill s) (close st q b rest (after st x parent q i r w))) ≡ risen t w)
+          → (takingAfter parent (below c s q b rest) (here nil) i r ≡ some t
+          → rise st c (onRow (fill s) (close st q b rest (after st x parent q i r w))) ≡ risen t w)
           → (takingAfter parent c (past s (rec q b r nil)) (i - width r) rest ≡ some t
           → rise st c (onRow (fill (past s (rec q b r nil))) (after st x parent (lastPage c) (i - width r) rest w)) ≡ risen t w)
-          → rise st c (onRow (fill s) (cond u (cond v (onRow (rec q b r) (place st x parent (lastPage c) rest w)) (close st q b rest (after st x parent q i r w)))
+          → rise st c (onRow (fill s) (cond u (cond v (onRow (rec q b r) (place st x parent (lastPage c) rest w))
+          (close st q b rest (after st x parent q i r w)))
           (onRow (rec q b r) (after st x parent (lastPage c) (i - width r) rest w)))) ≡ risen t w
-      go true true e f g = rise-past c s (rec q b r nil) (place st x parent (lastPage c) rest w) ∙ ap (λ (t : Taking). risen t w) (Option·some-injective _ t e)
+      go true true e f g =
+          rise-past c s (rec q b r nil) (place st x parent (lastPage c) rest w) ∙ ap (λ (t : Taking). risen t w) (Option·some-injective _ t e)
       go true false e f g = f e
       go false v e f g = rise-past c s (rec q b r nil) (after st x parent (lastPage c) (i - width r) rest w) ∙ g e
 
@@ -183,7 +192,8 @@ module _ (st : Config) (x : New) where
     where
       go : (u : Bool)
           → cond u (takingIn k (below c s q b rest) (here nil) i path r) (takingIn k c (past s (rec q b r nil)) (i - width r) path rest) ≡ some t
-          → (takingIn k (below c s q b rest) (here nil) i path r ≡ some t → rise st c (onRow (fill s) (close st q b rest (inserted st x k q i path r w))) ≡ risen t w)
+          → (takingIn k (below c s q b rest) (here nil) i path r ≡ some t
+          → rise st c (onRow (fill s) (close st q b rest (inserted st x k q i path r w))) ≡ risen t w)
           → (takingIn k c (past s (rec q b r nil)) (i - width r) path rest ≡ some t
           → rise st c (onRow (fill (past s (rec q b r nil))) (inserted st x k (lastPage c) (i - width r) path rest w)) ≡ risen t w)
           → rise st c (onRow (fill s) (cond u (close st q b rest (inserted st x k q i path r w))

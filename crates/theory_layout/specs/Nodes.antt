@@ -76,7 +76,8 @@ abbrev pub ReadAt : (img : List ℕ) → Node → (pos : ℕ) → Type 0
 ReadAt img n pos = NodeRead img (n .kind) (n .head) (n .content) (n .children) pos
 
 module _ (img : List ℕ) where
-  abbrev read-first : (page pos : ℕ) (row : Row) → Here img page pos row → 0 < size row → (kindOf row ≡ 3 → ⊥) → nesting row ≤ mostPages → steps row ≤ mostBytes
+  abbrev read-first : (page pos : ℕ) (row : Row) → Here img page pos row → 0 < size row → (kindOf row ≡ 3 → ⊥) → nesting row ≤ mostPages
+      → steps row ≤ mostBytes
       → {n : ℕ} → n ≡ width (kidsOf row) → NodeRead img (kindOf row) (headOf row) (cond (isAgg row) [] (bodyOf row)) n pos
   read-first page pos row v h k d f e = record {
     page = page;
@@ -146,8 +147,11 @@ placed-all root [] [] (s ∷ ss) e f = absurd (nil≢cons (sym f))
 placed-all root [] (p ∷ ps) ss e f = absurd (nil≢cons e)
 placed-all root (n ∷ ns) [] ss e f = absurd (nil≢cons (sym e))
 placed-all root (n ∷ ns) (p ∷ ps) [] e f = absurd (nil≢cons f)
-placed-all root (n ∷ ns) (p ∷ ps) (s ∷ ss) e f =
-    (record { place = p; has = head-eq-of-cons-eq e; is = sym (head-eq-of-cons-eq f) }, placed-all root ns ps ss (tail-eq-of-cons-eq e) (tail-eq-of-cons-eq f))
+placed-all root (n ∷ ns) (p ∷ ps) (s ∷ ss) e f = (
+  record { place = p; has = head-eq-of-cons-eq e; is = sym (head-eq-of-cons-eq f) },
+  placed-all root ns ps ss (tail-eq-of-cons-eq e)
+      (tail-eq-of-cons-eq f),
+)
 
 mem-all : (R : Node → ℕ → Type 0) (ns : List Node) (ss : List ℕ) → All R ns ss → (n : Node) → Mem n ns → (s : ℕ) × List·Memᴰ s ss × R n s
 mem-all R (m ∷ ns) [] a n i = absurd a

@@ -341,7 +341,8 @@ named-items q pos (rec p s r rest) = omega (arith, named-items q (pos + 8) rest)
 
 -- ── the records of a store ──
 
-in-depth : {root : Row} {page holder : ℕ} {row : Row} {before after : List ℕ} {d : ℕ} → In root page holder row before after d → d + nesting row ≤ nesting root
+in-depth : {root : Row} {page holder : ℕ} {row : Row} {before after : List ℕ} {d : ℕ} → In root page holder row before after d
+    → d + nesting row ≤ nesting root
 in-depth top = omega arith
 in-depth (sub {page = page} {row = row} w xs ys pos p r e) =
     omega (arith, in-depth w, nesting-item pos p r (pageSize * page + base row) row (split-mem _ _ xs ys e))

@@ -79,11 +79,13 @@ same-width : (img : List ℕ) (page page₁ pos : ℕ) (a b : Row) → Here img 
 same-width img page page₁ pos nil b x y e = none-width b e
 same-width img page page₁ pos (agg h cs rest) b x y e =
     let k = one-kind x y e (omega arith) in
-    let later = same-width img page page₁ _ rest (restOf b) (view x (omega arith) .after) (after-both x y e (omega arith)) (sizes-after x y e (omega arith)) in
+    let later = same-width img page page₁ _ rest (restOf b) (view x (omega arith) .after) (after-both x y e (omega arith)) (sizes-after x y e (omega arith))
+    in
     omega (arith, width-first b, plain-width b (omega arith) (λ z. omega arith))
 same-width img page page₁ pos (lit h c rest) b x y e =
     let k = one-kind x y e (omega arith) in
-    let later = same-width img page page₁ _ rest (restOf b) (view x (omega arith) .after) (after-both x y e (omega arith)) (sizes-after x y e (omega arith)) in
+    let later = same-width img page page₁ _ rest (restOf b) (view x (omega arith) .after) (after-both x y e (omega arith)) (sizes-after x y e (omega arith))
+    in
     omega (arith, width-first b, plain-width b (omega arith) (λ z. omega arith))
 same-width img page page₁ pos (rec p s r rest) nil x y e = absurd (omega arith)
 same-width img page page₁ pos (rec p s r rest) (agg h cs rest₁) x y e = absurd (omega (arith, one-kind x y e (omega arith)))

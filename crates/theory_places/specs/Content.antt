@@ -81,7 +81,8 @@ module _ (img : List ℕ) where
       let beyond : ltb i (width r) ≡ false → At o (placeAt page (at + 8) (i - width r) path rest) =
       λ h. at-right i path (shown r) (shown rest) (placeAt page (at + 8) (i - width r) path rest) (rw (breadth-shown r) (ltb-false i (width r) h))
       (rw (breadth-shown r)
-      (row-at page (at + 8) (i - width r) path rest (pos + 8) (omega arith) (read (rec q b r rest) pos (omega arith) z s .rest) (omega arith) (f .2) (m .2))) in
+      (row-at page (at + 8) (i - width r) path rest (pos + 8) (omega arith) (read (rec q b r rest) pos (omega arith) z s .rest) (omega arith) (f .2) (m .2)))
+      in
       cond-case (At o) (ltb i (width r)) within beyond
 
 module _ (st : Config) (root : Row) (v : Valid st root) (path : List ℕ) (n : Node) (x : Place)

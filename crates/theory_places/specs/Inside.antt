@@ -32,7 +32,8 @@ named-page pages p n h = go (leb p 1) (leb pages p) refl refl h
 
 module _ (st : Config) (x : Place) where
   here : (page at : ℕ) → 1 ≤ page → page < st .pages → at + 6 ≤ capacity → some (record { page = page; offset = at }) ≡ some x → Inside st x
-  here page at low high f e = subst (Inside st) (Option·some-injective (record { page = page; offset = at }) x e) (record { low = low; high = high; fits = f })
+  here page at low high f e =
+      subst (Inside st) (Option·some-injective (record { page = page; offset = at }) x e) (record { low = low; high = high; fits = f })
 
   inside-at : (page at i : ℕ) (path : List ℕ) (row : Row) → 1 ≤ page → page < st .pages → at + size row ≤ capacity → Fits row → Placed (st .pages) row
       → placeAt page at i path row ≡ some x → Inside st x

@@ -23,7 +23,8 @@ abbrev pub mark : (img : List ℕ) → (q : ℕ) → ℕ
 mark img q = stateAt img (pageSize * q)
 
 -- It is 1 on a record's page, and a free page is zero.
-page-mark : (hs : List Held) → AllFit hs → (q : ℕ) → times q (map (λ (h : Held). h .page) hs) ≤ 1 → stateAt (pageAt hs q) 0 ≡ times q (map (λ (h : Held). h .page) hs)
+page-mark : (hs : List Held) → AllFit hs → (q : ℕ) → times q (map (λ (h : Held). h .page) hs) ≤ 1
+    → stateAt (pageAt hs q) 0 ≡ times q (map (λ (h : Held). h .page) hs)
 page-mark [] f q l = refl
 page-mark (h ∷ hs) f q l = go (eqb q (h .page)) l (page-mark hs (f .1) q)
   where

@@ -10,7 +10,8 @@ use borrow.Author.Tests.{ltb-true, ltb-false}
 use lib.ListN.{length}
 use lib.Dec.{ltb}
 use Rattle.model.specs.Row.{Row, nil, agg, lit, rec, size, base, Config}
-use Rattle.model.specs.Tree.{Tree, end, branch, leaf, _⊞_, shown, breadth, width, Node, branchNode, leafNode, below, further, nodes, nodeAt, named, placeAt, placeOf}
+use Rattle.model.specs.Tree.{Tree, end, branch, leaf, _⊞_, shown, breadth, width, Node, branchNode, leafNode, below, further, nodes, nodeAt, named, placeAt}
+use Rattle.model.specs.Tree.{placeOf}
 use Rattle.model.specs.declared.Place.{Place}
 use Rattle.theory_rows.specs.Fits.{Valid}
 use Rattle.theory_rows.specs.Laws.{cond-case, breadth-shown}
@@ -101,10 +102,12 @@ unfolding placeAt
 place-named page at i path nil = refl
 place-named page at zero [] (agg h cs rest) = refl
 place-named page at zero (j ∷ path) (agg h cs rest) = place-named page (at + 6) j path cs ∙ sym (is-some-map below (nodeAt j path (shown cs)))
-place-named page at (suc i) path (agg h cs rest) = place-named page (at + 6 + size cs) i path rest ∙ sym (is-some-map (further 1) (nodeAt i path (shown rest)))
+place-named page at (suc i) path (agg h cs rest) =
+    place-named page (at + 6 + size cs) i path rest ∙ sym (is-some-map (further 1) (nodeAt i path (shown rest)))
 place-named page at zero [] (lit h c rest) = refl
 place-named page at zero (j ∷ path) (lit h c rest) = refl
-place-named page at (suc i) path (lit h c rest) = place-named page (at + 6 + length c) i path rest ∙ sym (is-some-map (further 1) (nodeAt i path (shown rest)))
+place-named page at (suc i) path (lit h c rest) =
+    place-named page (at + 6 + length c) i path rest ∙ sym (is-some-map (further 1) (nodeAt i path (shown rest)))
 place-named page at i path (rec p s r rest) =
     cond-case (λ (o : Option Place). is-some o ≡ is-some (nodeAt i path (shown r ⊞ shown rest))) (ltb i (width r))
     (λ e. place-named p (base r) i path r ∙ ap is-some (sym (nodeAt-left i path (shown r) (shown rest) (rw (breadth-shown r) (ltb-true i (width r) e)))))

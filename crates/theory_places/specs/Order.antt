@@ -108,7 +108,8 @@ place-all page at (agg h cs rest) =
 place-all page at (lit h c rest) =
     let after = at + 6 + length c in
     ap (_∷_ (some (record { page = page; offset = at })))
-    (map-by (further 1) (found page at (lit h c rest)) (found page after rest) (nodes (shown rest)) (λ n. rw (one-add (n .number))) ∙ place-all page after rest)
+    (map-by (further 1) (found page at (lit h c rest)) (found page after rest) (nodes (shown rest)) (λ n. rw (one-add (n .number)))
+    ∙ place-all page after rest)
 place-all page at (rec p s r rest) =
     let F = found page at (rec p s r rest) in
     let w = breadth (shown r) in

@@ -8,7 +8,8 @@ use lib.IntN.{ℤ, pos, negsuc}
 use Rattle.model.specs.Limits.{pageSize, capacity, mostContent, mostNode, longestPath}
 use Rattle.model.specs.Row.{Row, nil, agg, lit, rec, _⊹_, recordSize, header, bytes, two, Config, image, inRange, valid, noHead}
 use Rattle.model.specs.Tree.{shown, placeAt, placeOf}
-use Rattle.model.specs.Growth.{Out, atRest, grow, inserted, after, kept, close, separator, separate, group, twoGroups, freeFrom, startOf, startOfD, splitPoint}
+use Rattle.model.specs.Growth.{Out, atRest, grow, inserted, after, kept, close, separator, separate, group, twoGroups, freeFrom, startOf, startOfD}
+use Rattle.model.specs.Growth.{splitPoint}
 use Rattle.model.specs.Reading.{lengthOk, twoAt, pageOf, nodesIn, sameBytes, reading, usedAt}
 use Rattle.model.specs.Answers.{usualSettings, findRefused, insertRefused}
 use Rattle.model.specs.Common.{accept, placeOr, onStore, opened}
@@ -156,7 +157,8 @@ pub record BenchSheet : Type 0 where
 
 -- Naming this unfolds every definition that the calls compute with.
 computed : Unit {0}
-unfolding image inRange valid placeAt twoAt grow inserted after kept close separator separate group twoGroups freeFrom startOf lengthOk nodesIn sameBytes reading insertNumber findIn formatNumber opened formatOf insertOf findOf
+unfolding image inRange valid placeAt twoAt grow inserted after kept close separator separate group twoGroups freeFrom startOf lengthOk nodesIn sameBytes
+    reading insertNumber findIn formatNumber opened formatOf insertOf findOf
 computed = tt
 
 abbrev rootOf : Row → Row
@@ -315,7 +317,12 @@ bench-sheet = record {
   last520d = aims mostContent 4214 2107 1584 aims520 .2;
   last520 = answer-of eight-all;
   last520Used = (on-image (λ i. used i 1) eight-all (sizes .2), on-image (λ i. used i 2) eight-all (sizes .3), on-image (λ i. used i 3) eight-all (sizes .4));
-  last520Pages = (on-image (λ i. held i 1) eight-all (pages .0), on-image (λ i. held i 2) eight-all (pages .1), on-image (λ i. held i 3) eight-all (pages .2));
+  last520Pages = (
+    on-image (λ i. held i 1) eight-all (pages .0),
+    on-image (λ i. held i 2) eight-all (pages .1),
+    on-image (λ i. held i 3) eight-all
+        (pages .2),
+  );
   full = ap (λ (img : List ℕ). put img 7 mostContent) seven-in-three ∙ full-is ∙ ap (λ (img : List ℕ). (insertRefused 12, img)) (sym seven-in-three);
   more = (answer-of nine-all, answer-of ten-all, answer-of eleven-all);
   moreUsed = (

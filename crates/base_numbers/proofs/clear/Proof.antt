@@ -41,14 +41,4 @@ returns c = rw (le-antisymm (c .before .loop .inv .1 .0) (c .loop-test .left)) a
 pub clear-spec : {M : Type 1} → statement M
 clear-spec =
     tie.close
-    (tie.spec
-    Inv-loop
-    μ-loop
-    loop-holds
-    add-s
-    slice-write-s
-    add-j
-    loop-less
-    loop-again
-    same-length
-    returns)
+    (tie.spec Inv-loop μ-loop loop-holds add-s slice-write-s add-j loop-less loop-again same-length returns)

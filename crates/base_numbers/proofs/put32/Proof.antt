@@ -48,17 +48,4 @@ returns c = four-sets _ _ _ _ _ _ (omega (arith, c .pre))
 pub put32-spec : {M : Type 1} → statement M
 put32-spec =
     tie.close
-    (tie.spec
-    cast-s
-    slice-write-s
-    cast-s-2
-    add-s
-    slice-write-s-2
-    cast-s-3
-    add-s-2
-    slice-write-s-3
-    cast-s-4
-    add-s-3
-    slice-write-s-4
-    same-length
-    returns)
+    (tie.spec cast-s slice-write-s cast-s-2 add-s slice-write-s-2 cast-s-3 add-s-2 slice-write-s-3 cast-s-4 add-s-3 slice-write-s-4 same-length returns)

@@ -32,12 +32,4 @@ returns c = (cc, omega arith)
 pub two-spec : {M : Type 1} → statement M
 two-spec =
     tie.close
-    (tie.spec
-    shared-slice-read-wide
-    wide-requires
-    add-wide
-    shared-slice-read-wide-2
-    wide-requires-2
-    mul-result
-    add-result
-    returns)
+    (tie.spec shared-slice-read-wide wide-requires add-wide shared-slice-read-wide-2 wide-requires-2 mul-result add-result returns)

@@ -50,13 +50,4 @@ returns c = done isEntry (now (c .before .before .args .matrix)) (c .before .loo
 pub matrix-ok-spec : {M : Type 1} → statement M
 matrix-ok-spec =
     tie.close
-    (tie.spec
-    Inv-loop
-    μ-loop
-    loop-holds
-    shared-slice-read-if1
-    shared-slice-read-if2
-    add-i
-    loop-less
-    loop-again
-    returns)
+    (tie.spec Inv-loop μ-loop loop-holds shared-slice-read-if1 shared-slice-read-if2 add-i loop-less loop-again returns)

@@ -39,11 +39,4 @@ returns-3 c =
 pub format-image-spec : {M : Type 1} → statement M
 format-image-spec =
     tie.close
-    (tie.spec
-    length-ok-requires
-    returns
-    settings-fit-requires
-    returns-2
-    write-first-requires
-    same-length
-    returns-3)
+    (tie.spec length-ok-requires returns settings-fit-requires returns-2 write-first-requires same-length returns-3)

@@ -43,11 +43,4 @@ returns c =
 pub put-root-spec : {M : Type 1} → statement M
 put-root-spec =
     tie.close
-    (tie.spec
-    put16-requires
-    put16-requires-2
-    put16-requires-3
-    put16-requires-4
-    put16-requires-5
-    same-length
-    returns)
+    (tie.spec put16-requires put16-requires-2 put16-requires-3 put16-requires-4 put16-requires-5 same-length returns)

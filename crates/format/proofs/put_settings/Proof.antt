@@ -63,13 +63,4 @@ returns c =
 pub put-settings-spec : {M : Type 1} → statement M
 put-settings-spec =
     tie.close
-    (tie.spec
-    put16-requires
-    put16-requires-2
-    put16-requires-3
-    put16-requires-4
-    copy-in-requires
-    put16-requires-5
-    put16-requires-6
-    same-length
-    returns)
+    (tie.spec put16-requires put16-requires-2 put16-requires-3 put16-requires-4 copy-in-requires put16-requires-5 put16-requires-6 same-length returns)

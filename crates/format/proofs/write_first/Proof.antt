@@ -13,7 +13,8 @@ use Rattle.format.proofs.write_first.Tie as tie
 
 -- After the call of clear the image is zero,
 zeroed : (c : tie.After-clear) → c .clear .last .0 ≡ zeros (pageSize * c .before .before .before .before .args .settings .pages)
-zeroed c = cleared (now (c .before .before .before .before .args .image)) (c .clear .last .0) _ (c .clear .ensures) (c .before .before .before .before .pre .0)
+zeroed c =
+    cleared (now (c .before .before .before .before .args .image)) (c .clear .last .0) _ (c .clear .ensures) (c .before .before .before .before .pre .0)
 
 -- and what put_settings leaves is a page.
 paged : (c : tie.After-put-settings) → length (c .put-settings .last .0) ≡ pageSize
@@ -69,15 +70,5 @@ returns c =
 pub write-first-spec : {M : Type 1} → statement M
 write-first-spec =
     tie.close
-    (tie.spec
-    clear-requires
-    sub-put-settings
-    part-put-settings-start
-    part-put-settings-end
-    put-settings-requires
-    sub-put-root
-    part-put-root-start
-    part-put-root-end
-    put-root-requires
-    same-length
-    returns)
+    (tie.spec clear-requires sub-put-settings part-put-settings-start part-put-settings-end put-settings-requires sub-put-root part-put-root-start
+    part-put-root-end put-root-requires same-length returns)

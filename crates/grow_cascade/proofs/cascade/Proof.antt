@@ -97,10 +97,7 @@ keep-requires c κs =
         omega (arith, long-image r),
         (
           i .1 .0,
-          (
-            settled-in b .0,
-            (settled-in b .1, content r (omega (arith, r .long, c .before .before .if1 .taken))),
-          ),
+          (settled-in b .0, (settled-in b .1, content r (omega (arith, r .long, c .before .before .if1 .taken)))),
         ),
       ),
     )
@@ -215,10 +212,7 @@ keep-requires-2 c κs =
     let y = stays-of x (c .before .before .if2 .taken) w in
     let v = cut-of x w .0 in (
       i .1 .1 .0,
-      (
-        omega (arith, long-image r, severed-long r (large x w) y v),
-        (i .1 .0, (settled-in b .0, (settled-in b .1, severed-content r (large x w) y v))),
-      ),
+      (omega (arith, long-image r, severed-long r (large x w) y v), (i .1 .0, (settled-in b .0, (settled-in b .1, severed-content r (large x w) y v)))),
     )
 
 same-length-3 : tie.Need-same-length-3 Inv-loop μ-loop

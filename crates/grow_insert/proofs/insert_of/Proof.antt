@@ -103,7 +103,8 @@ Given dry i y =
     let d = a .before .before .before .admit .result in
     Begin dry i (d .parent) (v .child) (d .left) (v .label) (take (y .put-node .result) (y .put-node .last .0))
 
-abbrev given : (dry : Bool) → {i : List ℕ} → (y : tie.After-put-node) → i ≡ start (y .before) .args .image .now → let a = y .before in let v = start a .args in
+abbrev given : (dry : Bool) → {i : List ℕ} → (y : tie.After-put-node) → i ≡ start (y .before) .args .image .now
+    → let a = y .before in let v = start a .args in
     (dry ≡ false → made (store-of a .1) (v .path .now) (v .child) (v .kind) (v .label) (v .content .now) .1 .full ≡ false) → Given dry i y
 given dry y e room =
     let a = y .before in

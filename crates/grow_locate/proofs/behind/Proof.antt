@@ -32,11 +32,4 @@ returns-2 c =
 pub behind-spec : {M : Type 1} → statement M
 behind-spec =
     tie.close
-    (tie.spec
-    size-at-requires
-    add-result
-    returns
-    back-at-requires
-    find-proxy-requires
-    add-result-2
-    returns-2)
+    (tie.spec size-at-requires add-result returns back-at-requires find-proxy-requires add-result-2 returns-2)

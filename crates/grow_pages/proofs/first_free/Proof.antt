@@ -53,15 +53,4 @@ returns-2 c = λ st e. free-spent st _ _ _ (c .loop-test .left) ∙ c .before .l
 pub first-free-spec : {M : Type 1} → statement M
 first-free-spec =
     tie.close
-    (tie.spec
-    Inv-loop
-    μ-loop
-    loop-holds
-    element-copy-out-if1
-    returns
-    add-if2
-    add-q
-    sub-left
-    loop-less
-    loop-again
-    returns-2)
+    (tie.spec Inv-loop μ-loop loop-holds element-copy-out-if1 returns add-if2 add-q sub-left loop-less loop-again returns-2)

@@ -66,21 +66,5 @@ returns c =
 pub put-record-spec : {M : Type 1} → statement M
 put-record-spec =
     tie.close
-    (tie.spec
-    mul-base
-    copy-in-requires
-    add-clear
-    sub-clear
-    clear-requires
-    add-trailer
-    mul-put16
-    add-put16
-    put16-requires
-    add-put16-2
-    put16-requires-2
-    add-put16-3
-    put16-requires-3
-    add-clear-2
-    clear-requires-2
-    same-length
-    returns)
+    (tie.spec mul-base copy-in-requires add-clear sub-clear clear-requires add-trailer mul-put16 add-put16 put16-requires add-put16-2 put16-requires-2
+    add-put16-3 put16-requires-3 add-clear-2 clear-requires-2 same-length returns)

@@ -38,8 +38,10 @@ loop-less c = let v = seen (c .before .before) in omega (arith, v .more, v .with
 
 loop-again : tie.Need-loop-again Inv-loop μ-loop
 loop-again c =
-    let i = c .before .before in
-    (λ g s. relink-step _ _ _ _ _ _ (i .before .before .before .before .pre .0) (i .before .loop .inv .0 g s) (i .loop-test .taken) .into (c .if1 .taken), i .before .loop .inv .1)
+    let i = c .before .before in (
+      λ g s. relink-step _ _ _ _ _ _ (i .before .before .before .before .pre .0) (i .before .loop .inv .0 g s) (i .loop-test .taken) .into (c .if1 .taken),
+      i .before .loop .inv .1,
+    )
 
 name-at-requires : tie.Need-name-at-requires Inv-loop μ-loop
 name-at-requires c κs = let v = seen (c .before .before .before) in omega (arith, v .more, v .within, v .proxy (c .if2 .taken) .0)
@@ -56,8 +58,11 @@ add-put16-2 c = let v = seen (c .before .before .before .before .before) in omeg
 put16-requires : tie.Need-put16-requires Inv-loop μ-loop
 put16-requires c κs =
     let i = c .before .before .before .before .before in
-    let p = seen i .proxy (c .before .before .if2 .taken) .1 .0 in
-    (omega (arith, p, c .before .name-at .ensures .0, i .before .loop .inv .1, i .before .before .before .before .pre .1 .0), omega (arith, i .before .before .before .before .pre .0, i .before .before .before .before .pre .1 .1 .0))
+    let p = seen i .proxy (c .before .before .if2 .taken) .1 .0 in (
+      omega (arith, p, c .before .name-at .ensures .0, i .before .loop .inv .1, i .before .before .before .before .pre .1 .0),
+      omega
+          (arith, i .before .before .before .before .pre .0, i .before .before .before .before .pre .1 .1 .0),
+    )
 
 add-pos-2 : tie.Need-add-pos-2 Inv-loop μ-loop
 add-pos-2 c = let v = seen (c .before .before .before .before .before .before .before .before) in omega (arith, v .more, v .within)
@@ -87,8 +92,11 @@ loop-less-3 c = let v = seen (c .before .before .before .before) in omega (arith
 
 loop-again-3 : tie.Need-loop-again-3 Inv-loop μ-loop
 loop-again-3 c =
-    let i = c .before .before .before .before in
-    (λ g s. let v = relink-step _ _ _ _ _ _ (i .before .before .before .before .pre .0) (i .before .loop .inv .0 g s) (i .loop-test .taken) in rw (c .size-at .ensures .0) (v .past (c .before .before .if1 .left) (c .before .if2 .left)), i .before .loop .inv .1)
+    let i = c .before .before .before .before in (
+      λ g s. let v = relink-step _ _ _ _ _ _ (i .before .before .before .before .pre .0) (i .before .loop .inv .0 g s) (i .loop-test .taken) in rw
+          (c .size-at .ensures .0) (v .past (c .before .before .if1 .left) (c .before .if2 .left)),
+      i .before .loop .inv .1,
+    )
 
 same-length : tie.Need-same-length Inv-loop μ-loop
 same-length c = c .before .loop .inv .1
@@ -99,25 +107,5 @@ returns c = λ w. relink-end _ _ _ _ _ _ (c .before .before .before .before .pre
 pub relink-spec : {M : Type 1} → statement M
 relink-spec =
     tie.close
-    (tie.spec
-    Inv-loop
-    μ-loop
-    loop-holds
-    shared-slice-read-kind
-    add-pos
-    loop-less
-    loop-again
-    name-at-requires
-    mul-put16
-    add-put16
-    add-put16-2
-    put16-requires
-    add-pos-2
-    loop-less-2
-    loop-again-2
-    size-at-requires
-    add-pos-3
-    loop-less-3
-    loop-again-3
-    same-length
-    returns)
+    (tie.spec Inv-loop μ-loop loop-holds shared-slice-read-kind add-pos loop-less loop-again name-at-requires mul-put16 add-put16 add-put16-2 put16-requires
+    add-pos-2 loop-less-2 loop-again-2 size-at-requires add-pos-3 loop-less-3 loop-again-3 same-length returns)

@@ -15,7 +15,8 @@ use Rattle.grow_refusals.proofs.admit.Tie as tie
 -- The arguments alone pass.
 formed : (c : tie.Else3) → let s = c .before .before .before .before .before .before .before in
     Formed (s .args .path .now) (s .args .kind) (s .args .content .now)
-formed c = record { short = c .before .before .before .if1 .left; good = sym (c .before .before .kind-bad .ensures) ∙ c .before .if2 .left; small = c .if3 .left }
+formed c =
+    record { short = c .before .before .before .if1 .left; good = sym (c .before .before .kind-bad .ensures) ∙ c .before .if2 .left; small = c .if3 .left }
 
 refused-requires : tie.Need-refused-requires
 refused-requires c κs = search needs
@@ -40,7 +41,8 @@ refused-requires-3 c κs = search needs
 returns-3 : tie.Need-returns-3
 returns-3 c =
     refuses _ _ _ _ _ _ _ (omega arith) (c .refused3 .ensures)
-    (long-content _ _ _ _ _ (c .before .before .before .before .if1 .left) (sym (c .before .before .before .kind-bad .ensures) ∙ c .before .before .if2 .left) (c .before .if3 .taken))
+    (long-content _ _ _ _ _ (c .before .before .before .before .if1 .left) (sym (c .before .before .before .kind-bad .ensures) ∙ c .before .before .if2 .left)
+    (c .before .if3 .taken))
 
 find-in-requires : tie.Need-find-in-requires
 find-in-requires c κs = search needs
@@ -57,7 +59,8 @@ returns-4 c =
 -- The parent's byte.
 parent-at : (f : tie.After-find-in) → (f .find-in .result .number ≡ 0) → let s = f .before .before .before .before .before .before .before .before in
     pageSize * f .find-in .result .place .page + f .find-in .result .place .offset ≡ foundAt (s .args .image .now) (s .args .path .now)
-parent-at f z = parent-is _ _ (f .before .before .before .before .before .before .before .before .args .child) _ _ (formed (f .before)) _ (f .find-in .ensures) z refl
+parent-at f z =
+    parent-is _ _ (f .before .before .before .before .before .before .before .before .args .child) _ _ (formed (f .before)) _ (f .find-in .ensures) z refl
 
 -- What is read there.
 parent-node : (f : tie.After-find-in) → (f .find-in .result .number ≡ 0) → let s = f .before .before .before .before .before .before .before .before in
@@ -81,24 +84,13 @@ try-parent-requires c κs =
 returns-5 : tie.Need-returns-5
 returns-5 c =
     let f = c .before .before .before .before .before .before in
-    let z = c .before .before .before .before .if4 .left in
-    (by-parent _ _ _ _ _ (formed (f .before)) _ (f .find-in .ensures) z _ (parent-at f z) (c .try-parent .ensures .0), (λ _. parent-at f z, c .try-parent .ensures .1))
+    let z = c .before .before .before .before .if4 .left in (
+      by-parent _ _ _ _ _ (formed (f .before)) _ (f .find-in .ensures) z _ (parent-at f z) (c .try-parent .ensures .0),
+      (λ _. parent-at f z, c .try-parent .ensures .1),
+    )
 
 pub admit-spec : {M : Type 1} → statement M
 admit-spec =
     tie.close
-    (tie.spec
-    refused-requires
-    returns
-    kind-bad-requires
-    refused-requires-2
-    returns-2
-    refused-requires-3
-    returns-3
-    find-in-requires
-    refused-requires-4
-    returns-4
-    mul-parent
-    add-parent
-    try-parent-requires
-    returns-5)
+    (tie.spec refused-requires returns kind-bad-requires refused-requires-2 returns-2 refused-requires-3 returns-3 find-in-requires refused-requires-4
+    returns-4 mul-parent add-parent try-parent-requires returns-5)

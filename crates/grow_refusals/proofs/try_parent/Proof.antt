@@ -53,14 +53,4 @@ returns-4 c =
 pub try-parent-spec : {M : Type 1} → statement M
 try-parent-spec =
     tie.close
-    (tie.spec
-    shared-slice-read-if1
-    returns
-    returns-2
-    size-at-requires
-    add-end
-    add-nth
-    sub-nth
-    nth-requires
-    returns-3
-    returns-4)
+    (tie.spec shared-slice-read-if1 returns returns-2 size-at-requires add-end add-nth sub-nth nth-requires returns-3 returns-4)

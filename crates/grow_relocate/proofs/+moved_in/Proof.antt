@@ -168,8 +168,10 @@ moved-in-requires t c κs =
     let xe = k .before .before .before .before .before .child .ensures (w .kids) in
     let ue = k .before .mark-group .ensures (L w xe) (left-bytes (w .kids) _ _ xe) (w .st) (w .setup) (s .args .image .now) in
     let e = sym (k .enters .ensures _ (at-x w xe) (w .st) (tolerance-of (w .setup))) ∙ turned _ _ (c .before .before .before .before .if2 .left) in
-    let z = c .before .before .before .size-at .ensures .0 in
-    (omega (arith, s .pre .0, x-fits w xe, inner-in t (c .before .before .before)), (d, (next-env w xe d ue v, (s .pre .1 .1 .1 .0, next-sep w xe d ue e _ z))))
+    let z = c .before .before .before .size-at .ensures .0 in (
+      omega (arith, s .pre .0, x-fits w xe, inner-in t (c .before .before .before)),
+      (d, (next-env w xe d ue v, (s .pre .1 .1 .1 .0, next-sep w xe d ue e _ z))),
+    )
 
 same-length : (t : ℕ) → moved-in-lts.Need-same-length (claims t) (moved-in-at t) moved-in.Post
 same-length t c = ap length (c .before .before .moved-in .ensures .0)
@@ -244,7 +246,8 @@ returns-4 t c =
           let e = sym (k .enters .ensures _ (at-x w xe) (w .st) (tolerance-of (w .setup))) ∙ turned _ _ (c₁ .before .before .before .if2 .left) in
           let z = c₁ .before .before .size-at .ensures .0 in
           let y = inner-marked w xe v work m ue (c .before .before .before .before .before .mark-level .ensures .1 (next-sep w xe d ue e _ z)) in
-          done-after w xe work _ _ (c₂ .before .if1 .left) e _ z (c₁ .before .if3 .left) (c .in-group3 .ensures (rest-span w xe e _ z) (w .st) (w .setup) _ y),
+          done-after w xe work _ _ (c₂ .before .if1 .left) e _ z (c₁ .before .if3 .left)
+          (c .in-group3 .ensures (rest-span w xe e _ z) (w .st) (w .setup) _ y),
     )
 
 pub +moved-in-spec : {M : Type 1} → statement M

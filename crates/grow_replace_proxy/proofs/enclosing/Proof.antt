@@ -16,7 +16,8 @@ loop-holds c = λ g s. s
 
 -- what stands at pos
 seen : (c : tie.In-loop Inv-loop μ-loop)
-    → let s = c .before .before .before in InnerStep (s .args .rec .now) (s .args .target) (c .before .loop .pos) (c .before .loop .par) (filledIn _ _ (s .pre))
+    → let s =
+    c .before .before .before in InnerStep (s .args .rec .now) (s .args .target) (c .before .loop .pos) (c .before .loop .par) (filledIn _ _ (s .pre))
 seen c = inner-step _ _ _ _ _ (c .before .loop .inv _ (inner-start _ _ (c .before .before .before .pre))) (c .loop-test .taken)
 
 size-at-requires : tie.Need-size-at-requires Inv-loop μ-loop
@@ -56,16 +57,4 @@ returns c = λ w. inner-end _ _ _ _ _ (c .before .loop .inv _ (inner-start _ _ w
 pub enclosing-spec : {M : Type 1} → statement M
 enclosing-spec =
     tie.close
-    (tie.spec
-    Inv-loop
-    μ-loop
-    loop-holds
-    size-at-requires
-    add-if1
-    add-pos
-    loop-less
-    loop-again
-    add-pos-2
-    loop-less-2
-    loop-again-2
-    returns)
+    (tie.spec Inv-loop μ-loop loop-holds size-at-requires add-if1 add-pos loop-less loop-again add-pos-2 loop-less-2 loop-again-2 returns)

@@ -30,7 +30,8 @@ part-rec-end c =
     omega (arith, used _ _ _ _ w, c .used-at .ensures .0, w .small, w .on .inside)
 
 proxy-in-requires : tie.Need-proxy-in-requires
-proxy-in-requires c κs = let w = c .before .before .before .before .before .pre .0 in names-once _ _ _ _ w _ (part _ _ _ _ w _ (c .before .used-at .ensures .0))
+proxy-in-requires c κs =
+    let w = c .before .before .before .before .before .pre .0 in names-once _ _ _ _ w _ (part _ _ _ _ w _ (c .before .used-at .ensures .0))
 
 -- where the proxy stands
 spot-is : (c : tie.After-proxy-in) → let s = c .before .before .before .before .before .before in
@@ -70,15 +71,4 @@ returns c = λ w.
 pub lift-spec : {M : Type 1} → statement M
 lift-spec =
     tie.close
-    (tie.spec
-    mul-a
-    used-at-requires
-    add-e
-    sub-rec
-    part-rec-start
-    part-rec-end
-    proxy-in-requires
-    enclosing-requires
-    splice-requires
-    same-length
-    returns)
+    (tie.spec mul-a used-at-requires add-e sub-rec part-rec-start part-rec-end proxy-in-requires enclosing-requires splice-requires same-length returns)

@@ -71,20 +71,5 @@ loop-again-3 c =
 pub proxy-in-spec : {M : Type 1} → statement M
 proxy-in-spec =
     tie.close
-    (tie.spec
-    Inv-loop
-    μ-loop
-    loop-holds
-    shared-slice-read-kind
-    add-pos
-    loop-less
-    loop-again
-    name-at-requires
-    returns
-    add-pos-2
-    loop-less-2
-    loop-again-2
-    size-at-requires
-    add-pos-3
-    loop-less-3
-    loop-again-3)
+    (tie.spec Inv-loop μ-loop loop-holds shared-slice-read-kind add-pos loop-less loop-again name-at-requires returns add-pos-2 loop-less-2 loop-again-2
+    size-at-requires add-pos-3 loop-less-3 loop-again-3)

@@ -39,7 +39,8 @@ moved-to-requires : tie.Need-moved-to-requires
 moved-to-requires c κs =
     let x = c .before .before .before .before .before in
     let w = x .before .before .before .before .before .before .before .before .before .before .before .before .pre in
-    let o = w .split (x .before .before .before .before .before .before .before .if1 .left) (x .before .before .before .before .before .before .if2 .left) .0 in
+    let o = w .split (x .before .before .before .before .before .before .before .if1 .left) (x .before .before .before .before .before .before .if2 .left) .0
+    in
     let z = x .leave .ensures (o .stays) (x .before .before .before .before .settled-at .ensures .0 ∙ o .bit) in
     let p = c .before .before .split-point .ensures (o .st) (target-of (o .setup)) in
     (refl, (off-env o (w .ready) (z .0) (z .1), (w .low, off-large o (w .ready) (z .0) (z .1) p)))

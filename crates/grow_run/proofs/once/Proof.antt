@@ -61,8 +61,10 @@ place-node-requires c κs =
     let f = setup-is w (u .before .before .before .before .setup-on .ensures) in
     let z : length (s .args .node .now) ≤ mostNode =
     omega (arith, ap length (w .is), length-bytes (asRow (st w) (w .x) nil), node-most (st w) (w .x) (w .fits)) in
-    let m = u .usage .ensures (st w) (root w) (w .aim .reads) in
-    (start-env w (c .before .before .before .find-receiver .ensures (w .aim)) f m, (omega (arith, matrix-of f, long w, few w), (omega arith, (z, omega arith))))
+    let m = u .usage .ensures (st w) (root w) (w .aim .reads) in (
+      start-env w (c .before .before .before .find-receiver .ensures (w .aim)) f m,
+      (omega (arith, matrix-of f, long w, few w), (omega arith, (z, omega arith))),
+    )
 
 abbrev start : tie.After-place-node → tie.Start
 start x = x .before .before .before .before .before .before .before .before .before .before .before .before .before .before

@@ -98,23 +98,5 @@ returns c = λ w. mid-end _ _ _ _ _ (c .before .loop .inv .0 _ (begun (c .before
 pub grow-spec : {M : Type 1} → statement M
 grow-spec =
     tie.close
-    (tie.spec
-    Inv-loop
-    μ-loop
-    size-at-requires
-    add-put16
-    put16-requires
-    loop-holds
-    size-at-requires-2
-    add-if1
-    add-put16-2
-    add-put16-3
-    put16-requires-2
-    add-pos
-    loop-less
-    loop-again
-    add-pos-2
-    loop-less-2
-    loop-again-2
-    same-length
-    returns)
+    (tie.spec Inv-loop μ-loop size-at-requires add-put16 put16-requires loop-holds size-at-requires-2 add-if1 add-put16-2 add-put16-3 put16-requires-2 add-pos
+    loop-less loop-again add-pos-2 loop-less-2 loop-again-2 same-length returns)

@@ -61,29 +61,42 @@ copy-in-requires-2 c κs =
     omega (arith, held c, ends s, s .pre .1 .0, s .pre .1 .1 .0)
 
 add-rest : tie.Need-add-rest
-add-rest c = omega (arith, ends (c .before .before .before .before .before .before .before .before .before .before .before .before .before .before .before .before))
+add-rest c =
+    omega (arith, ends (c .before .before .before .before .before .before .before .before .before .before .before .before .before .before .before .before))
 
 sub-copy-in : tie.Need-sub-copy-in
-sub-copy-in c = omega (arith, ends (c .before .before .before .before .before .before .before .before .before .before .before .before .before .before .before .before))
+sub-copy-in c =
+    omega (arith, ends (c .before .before .before .before .before .before .before .before .before .before .before .before .before .before .before .before))
 
 part-copy-in-start : tie.Need-part-copy-in-start
-part-copy-in-start c = omega (arith, ends (c .before .before .before .before .before .before .before .before .before .before .before .before .before .before .before .before))
+part-copy-in-start c =
+    omega (arith, ends (c .before .before .before .before .before .before .before .before .before .before .before .before .before .before .before .before))
 
 part-copy-in-end : tie.Need-part-copy-in-end
 part-copy-in-end c = search needs
 
 add-copy-in : tie.Need-add-copy-in
 add-copy-in c =
-    let s = c .before .before .before .before .before .before .before .before .before .before .before .before .before .before .before .before .before .before in
+    let s = c .before .before .before .before .before .before .before .before .before .before .before .before .before .before .before .before .before .before
+    in
     omega (arith, ends s, s .pre .1 .1 .1)
 
 copy-in-requires-3 : tie.Need-copy-in-requires-3
 copy-in-requires-3 c κs =
-    let s = c .before .before .before .before .before .before .before .before .before .before .before .before .before .before .before .before .before .before in
-    simp (length-take, length-drop) (omega (arith, held (c .before .before .before .before .before), c .before .before .before .before .copy-in2 .kept .1 .0, ends s, s .pre .1 .0, s .pre .1 .1 .0))
+    let s = c .before .before .before .before .before .before .before .before .before .before .before .before .before .before .before .before .before .before
+    in
+    simp (length-take, length-drop) (omega (
+      arith,
+      held (c .before .before .before .before .before),
+      c .before .before .before .before .copy-in2 .kept .1 .0,
+      ends s,
+      s .pre .1 .0,
+      s .pre .1 .1 .0,
+    ))
 
 sub-result : tie.Need-sub-result
-sub-result c = omega (arith, ends (c .before .before .before .before .before .before .before .before .before .before .before .before .before .before .before .before .before .before .before .before .before))
+sub-result c =
+    omega (arith, ends (c .before .before .before .before .before .before .before .before .before .before .before .before .before .before .before .before .before .before .before .before .before))
 
 add-result : tie.Need-add-result
 add-result c = search needs
@@ -100,28 +113,13 @@ returns c =
     let f = copied-front _ _ _ _ (starts s) (a .copy-in .ensures) in
     λ w. (
       sym (spliced-size _ _ _ _ _ w (s .pre .1 .0)),
-      steps _ _ _ _ _ w _ _ _ _ _ _ f (small s) refl (s .pre .1 .0) (s .pre .1 .1 .0) (a .copy-in .ensures) (g .grow .ensures (cut _ _ _ _ _ w _ _ f (small s)))
+      steps _ _ _ _ _ w _ _ _ _ _ _ f (small s) refl (s .pre .1 .0) (s .pre .1 .1 .0) (a .copy-in .ensures)
+          (g .grow .ensures (cut _ _ _ _ _ w _ _ f (small s)))
           (g .grow .kept .0 ∙ ap length f ∙ length-take-le _ _ (starts s)) (b .copy-in2 .ensures) (rw part-end at (c .before .before .copy-in3 .ensures)),
     )
 
 pub splice-spec : {M : Type 1} → statement M
 splice-spec =
     tie.close
-    (tie.spec
-    slice-aggregate-copy-in
-    copy-in-requires
-    slice-relend-prefix-grow
-    slice-aggregate-grow
-    sub-grow
-    grow-requires
-    copy-in-requires-2
-    add-rest
-    sub-copy-in
-    part-copy-in-start
-    part-copy-in-end
-    add-copy-in
-    copy-in-requires-3
-    sub-result
-    add-result
-    same-length
-    returns)
+    (tie.spec slice-aggregate-copy-in copy-in-requires slice-relend-prefix-grow slice-aggregate-grow sub-grow grow-requires copy-in-requires-2 add-rest
+    sub-copy-in part-copy-in-start part-copy-in-end add-copy-in copy-in-requires-3 sub-result add-result same-length returns)

@@ -121,7 +121,8 @@ copy-in-requires t c κs =
     let xe = g .before .before .before .before .before .child .ensures (w .kids) in
     let h : s .args .at + (length (s .args .out .now) - s .args .at) ≤ length (s .args .out .now) = omega (arith, s .pre .1 .1 .0) in
     let lf = g .put-group .ensures (left-group w xe) in
-    let e = sym (c .before .before .before .before .enters .ensures _ (at-x w xe) (w .st) (tolerance-of (w .setup))) ∙ c .before .before .before .if1 .taken in
+    let e = sym (c .before .before .before .before .enters .ensures _ (at-x w xe) (w .st) (tolerance-of (w .setup)))
+    ∙ c .before .before .before .if1 .taken in
     simp length-take (omega (arith, header-room w xe e lf h, g .put-group .kept .1 .1 .1 .1 .0))
 
 add-separate : (t : ℕ) → separate-lts.Need-add-separate (claims t) (separate-at t) separate.Post

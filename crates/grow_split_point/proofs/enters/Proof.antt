@@ -39,11 +39,4 @@ returns-3 c =
 pub enters-spec : {M : Type 1} → statement M
 enters-spec =
     tie.close
-    (tie.spec
-    size-at-requires
-    shared-slice-read-wide
-    wide-requires
-    may-stand-requires
-    returns
-    returns-2
-    returns-3)
+    (tie.spec size-at-requires shared-slice-read-wide wide-requires may-stand-requires returns returns-2 returns-3)

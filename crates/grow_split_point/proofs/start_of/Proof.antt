@@ -81,23 +81,11 @@ returns c = λ k st e.
     (not-next _ _ _ (⊎-elim (λ w. inl (w .0 .taken, w .1 .left)) (λ w. inr (w .left)) (j .if1 .came)))
     (not-into _ (m .may-stand .result) (g .size-at .result) (g .before .before .before .args .tolerance)
     (by-byte (m .before .wide .ensures .0) (m .may-stand .ensures))
-    (⊎-elim (λ w. inl (w .0 .taken, w .1 .taken, w .2 .left)) (λ v. ⊎-elim (λ w. inr (inl (w .0 .taken, w .1 .left))) (λ w. inr (inr (w .left))) v) (c .if3 .came)))
+    (⊎-elim (λ w. inl (w .0 .taken, w .1 .taken, w .2 .left)) (λ v. ⊎-elim (λ w. inr (inl (w .0 .taken, w .1 .left))) (λ w. inr (inr (w .left))) v)
+    (c .if3 .came)))
 
 pub start-of-spec : {M : Type 1} → statement M
 start-of-spec =
     tie.close
-    (tie.spec
-    Inv-loop
-    μ-loop
-    loop-holds
-    size-at-requires
-    add-next
-    loop-less
-    loop-again
-    shared-slice-read-wide
-    wide-requires
-    may-stand-requires
-    add-pos
-    loop-less-2
-    loop-again-2
-    returns)
+    (tie.spec Inv-loop μ-loop loop-holds size-at-requires add-next loop-less loop-again shared-slice-read-wide wide-requires may-stand-requires add-pos
+    loop-less-2 loop-again-2 returns)

@@ -33,11 +33,4 @@ returns-4 c = λ g e.
 pub stays-spec : {M : Type 1} → statement M
 stays-spec =
     tie.close
-    (tie.spec
-    returns
-    returns-2
-    shared-slice-read-wide
-    wide-requires
-    returns-3
-    may-stand-requires
-    returns-4)
+    (tie.spec returns returns-2 shared-slice-read-wide wide-requires returns-3 may-stand-requires returns-4)

@@ -50,18 +50,5 @@ returns-2 c = search needs
 pub main-spec : {M : Type 1} → statement M
 main-spec =
     tie.close
-    (tie.spec
-    large-buffer-requires
-    slice-aggregate-read-full
-    read-full-requires
-    room-requires
-    array-share-prefix-input
-    slice-aggregate-print
-    slice-aggregate-print-2
-    print-requires
-    array-share-prefix-out
-    slice-aggregate-write-all
-    write-all-requires
-    drain-requires
-    returns
-    returns-2)
+    (tie.spec large-buffer-requires slice-aggregate-read-full read-full-requires room-requires array-share-prefix-input slice-aggregate-print
+    slice-aggregate-print-2 print-requires array-share-prefix-out slice-aggregate-write-all write-all-requires drain-requires returns returns-2)

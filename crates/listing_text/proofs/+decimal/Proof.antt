@@ -46,7 +46,10 @@ decimal-returns t c =
     same-text (ap (λ (d : ℕ). d ∷ []) (c4 .glyph .ensures) ∙ sym (decimal-last _ (c5 .if1 .taken))) (c .before .before .put .ensures)
 
 decimal-decimal-requires : (t : ℕ) → decimal-lts.Need-decimal-requires (claims t) (decimal-at t) decimal.Post
-decimal-decimal-requires t c κs = (omega (arith, c .before .before .before .pre .0, c .before .if1 .left), record { fits = omega (arith, c .before .before .before .pre .1 .fits, decimal-long (c .before .before .before .args .n) (c .before .if1 .left)) })
+decimal-decimal-requires t c κs = (
+  omega (arith, c .before .before .before .pre .0, c .before .if1 .left),
+  record { fits = omega (arith, c .before .before .before .pre .1 .fits, decimal-long (c .before .before .before .args .n) (c .before .if1 .left)) },
+)
 
 decimal-glyph-requires-2 : (t : ℕ) → decimal-lts.Need-glyph-requires-2 (claims t) (decimal-at t) decimal.Post
 decimal-glyph-requires-2 t c κs = omega arith
@@ -69,7 +72,8 @@ decimal-returns-2 t c =
     let c7 = c4 .before .before .before in
     let c9 = c7 .before .before in
     let c11 = c9 .before .before in
-    same-text (ap (λ (d : ℕ). decimalOf (c11 .args .n / 10) ++ (d ∷ [])) (c4 .glyph2 .ensures) ∙ sym (decimal-more _ (c9 .if1 .left))) (then (c7 .decimal .ensures) (c .before .before .put2 .ensures))
+    same-text (ap (λ (d : ℕ). decimalOf (c11 .args .n / 10) ++ (d ∷ [])) (c4 .glyph2 .ensures) ∙ sym (decimal-more _ (c9 .if1 .left)))
+    (then (c7 .decimal .ensures) (c .before .before .put2 .ensures))
 
 pub +decimal-spec : {M : Type 1} → statement M
 +decimal-spec = close μ-decimal λ t. decimal-lts.spec (claims t)

@@ -30,10 +30,4 @@ returns-2 c = same-text (sym (content-hex _ (c .before .before .before .before .
 pub content-spec : {M : Type 1} → statement M
 content-spec =
     tie.close
-    (tie.spec
-    put-requires
-    same-length
-    returns
-    hexadecimal-requires
-    same-length-2
-    returns-2)
+    (tie.spec put-requires same-length returns hexadecimal-requires same-length-2 returns-2)

@@ -25,10 +25,4 @@ returns-2 c = rw (le-ltb _ _ (c .if1 .left))
 pub glyph-spec : {M : Type 1} → statement M
 glyph-spec =
     tie.close
-    (tie.spec
-    add-result
-    cast-result
-    returns
-    add-result-2
-    cast-result-2
-    returns-2)
+    (tie.spec add-result cast-result returns add-result-2 cast-result-2 returns-2)

@@ -11,7 +11,14 @@ slice-aggregate-words : tie.Need-slice-aggregate-words
 slice-aggregate-words c = search needs
 
 words-requires : tie.Need-words-requires
-words-requires c κs = record { fits = omega (arith, head-long (c .before .before .before .args .pages) (c .before .before .before .args .free) (c .before .before .before .args .records)) }
+words-requires c κs =
+    record {
+      fits = omega (
+        arith,
+        head-long (c .before .before .before .args .pages) (c .before .before .before .args .free)
+            (c .before .before .before .args .records),
+      );
+    }
 
 decimal-requires : tie.Need-decimal-requires
 decimal-requires c κs =
@@ -57,7 +64,16 @@ same-length c =
     let c19 = c15 .before .before .before .before in
     let c24 = c19 .before .before .before .before .before in
     let c28 = c24 .before .before .before .before in
-    omega (arith, c28 .words .ensures .same, c24 .decimal .ensures .same, c19 .words2 .ensures .same, c15 .decimal2 .ensures .same, c10 .words3 .ensures .same, c6 .decimal3 .ensures .same, c .before .before .put .ensures .same)
+    omega (
+      arith,
+      c28 .words .ensures .same,
+      c24 .decimal .ensures .same,
+      c19 .words2 .ensures .same,
+      c15 .decimal2 .ensures .same,
+      c10 .words3 .ensures .same,
+      c6 .decimal3 .ensures .same,
+      c .before .before .put .ensures .same,
+    )
 
 returns : tie.Need-returns
 unfolding headLine
@@ -68,21 +84,11 @@ returns c =
     let c19 = c15 .before .before .before .before in
     let c24 = c19 .before .before .before .before .before in
     let c28 = c24 .before .before .before .before in
-    then (then (then (then (then (then (c28 .words .ensures) (c24 .decimal .ensures)) (c19 .words2 .ensures)) (c15 .decimal2 .ensures)) (c10 .words3 .ensures)) (c6 .decimal3 .ensures)) (c .before .before .put .ensures)
+    then (then (then (then (then (then (c28 .words .ensures) (c24 .decimal .ensures)) (c19 .words2 .ensures)) (c15 .decimal2 .ensures))
+    (c10 .words3 .ensures)) (c6 .decimal3 .ensures)) (c .before .before .put .ensures)
 
 pub head-spec : {M : Type 1} → statement M
 head-spec =
     tie.close
-    (tie.spec
-    slice-aggregate-words
-    words-requires
-    decimal-requires
-    slice-aggregate-words-2
-    words-requires-2
-    decimal-requires-2
-    slice-aggregate-words-3
-    words-requires-3
-    decimal-requires-3
-    put-requires
-    same-length
-    returns)
+    (tie.spec slice-aggregate-words words-requires decimal-requires slice-aggregate-words-2 words-requires-2 decimal-requires-2 slice-aggregate-words-3
+    words-requires-3 decimal-requires-3 put-requires same-length returns)

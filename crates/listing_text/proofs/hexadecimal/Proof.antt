@@ -33,7 +33,17 @@ put-requires c κs =
     let c4 = c .before .before .before .before in
     let c5 = c4 .before in
     let c8 = c5 .before .before .before in
-    record { fits = omega (arith, c8 .pre .fits, length-hex (c8 .args .bytes .now), hex-long (c5 .loop .i) (c8 .args .bytes .now) (c5 .loop .inv .1), c5 .loop .inv .0 .ends, c5 .loop .inv .0 .same, c4 .loop-test .taken) }
+    record {
+      fits = omega (
+        arith,
+        c8 .pre .fits,
+        length-hex (c8 .args .bytes .now),
+        hex-long (c5 .loop .i) (c8 .args .bytes .now) (c5 .loop .inv .1),
+        c5 .loop .inv .0 .ends,
+        c5 .loop .inv .0 .same,
+        c4 .loop-test .taken,
+      );
+    }
 
 glyph-requires-2 : tie.Need-glyph-requires-2 Inv-loop μ-loop
 glyph-requires-2 c κs = omega arith
@@ -44,7 +54,19 @@ put-requires-2 c κs =
     let c9 = c4 .before .before .before .before .before in
     let c10 = c9 .before in
     let c13 = c10 .before .before .before in
-    record { fits = omega (arith, c13 .pre .fits, length-hex (c13 .args .bytes .now), hex-long (c10 .loop .i) (c13 .args .bytes .now) (c10 .loop .inv .1), c10 .loop .inv .0 .ends, c10 .loop .inv .0 .same, c9 .loop-test .taken, c4 .put .ensures .ends, c4 .put .ensures .same) }
+    record {
+      fits = omega (
+        arith,
+        c13 .pre .fits,
+        length-hex (c13 .args .bytes .now),
+        hex-long (c10 .loop .i) (c13 .args .bytes .now) (c10 .loop .inv .1),
+        c10 .loop .inv .0 .ends,
+        c10 .loop .inv .0 .same,
+        c9 .loop-test .taken,
+        c4 .put .ensures .ends,
+        c4 .put .ensures .same,
+      );
+    }
 
 add-i : tie.Need-add-i Inv-loop μ-loop
 add-i c =
@@ -65,8 +87,11 @@ loop-again c =
     let c12 = c10 .before .before in
     let c13 = c12 .before in
     let l = c13 .loop in
-    let h = c12 .loop-test .taken in
-    (same-text (hex-turn _ _ _ _ _ h (c10 .wide .ensures .0) (c9 .glyph .ensures) (c4 .glyph2 .ensures)) (then (then (l .inv .0) (c7 .put .ensures)) (c .before .before .put2 .ensures)), omega (arith, h))
+    let h = c12 .loop-test .taken in (
+      same-text (hex-turn _ _ _ _ _ h (c10 .wide .ensures .0) (c9 .glyph .ensures) (c4 .glyph2 .ensures))
+          (then (then (l .inv .0) (c7 .put .ensures)) (c .before .before .put2 .ensures)),
+      omega (arith, h),
+    )
 
 same-length : tie.Need-same-length Inv-loop μ-loop
 same-length c = c .before .loop .inv .0 .same
@@ -77,18 +102,5 @@ returns c = same-text (hex-all _ _ (c .loop-test .left)) (c .before .loop .inv .
 pub hexadecimal-spec : {M : Type 1} → statement M
 hexadecimal-spec =
     tie.close
-    (tie.spec
-    Inv-loop
-    μ-loop
-    loop-holds
-    shared-slice-read-wide
-    wide-requires
-    glyph-requires
-    put-requires
-    glyph-requires-2
-    put-requires-2
-    add-i
-    loop-less
-    loop-again
-    same-length
-    returns)
+    (tie.spec Inv-loop μ-loop loop-holds shared-slice-read-wide wide-requires glyph-requires put-requires glyph-requires-2 put-requires-2 add-i loop-less
+    loop-again same-length returns)

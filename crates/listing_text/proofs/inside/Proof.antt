@@ -49,14 +49,4 @@ returns-3 c =
 pub inside-spec : {M : Type 1} → statement M
 inside-spec =
     tie.close
-    (tie.spec
-    shared-slice-read-if1
-    add-t11
-    add-t12
-    returns
-    shared-slice-read-if2
-    name-at-requires
-    row-start-requires
-    row-end-requires
-    returns-2
-    returns-3)
+    (tie.spec shared-slice-read-if1 add-t11 add-t12 returns shared-slice-read-if2 name-at-requires row-start-requires row-end-requires returns-2 returns-3)

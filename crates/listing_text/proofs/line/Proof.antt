@@ -7,7 +7,14 @@ use Rattle.listing_text.proofs.line.Statement.{statement}
 use Rattle.listing_text.proofs.line.Tie as tie
 
 decimal-requires : tie.Need-decimal-requires
-decimal-requires c κs = record { fits = omega (arith, line-long (c .before .before .before .args .level) (c .before .before .before .args .letter) (c .before .before .before .args .label) (c .before .before .before .args .bytes .now)) }
+decimal-requires c κs =
+    record {
+      fits = omega (
+        arith,
+        line-long (c .before .before .before .args .level) (c .before .before .before .args .letter)
+            (c .before .before .before .args .label) (c .before .before .before .args .bytes .now),
+      );
+    }
 
 put-requires : tie.Need-put-requires
 put-requires c κs =
@@ -48,7 +55,27 @@ put-requires-5 c κs =
     let c23 = c19 .before .before .before .before in
     let c27 = c23 .before .before .before .before in
     let c31 = c27 .before .before .before .before in
-    record { fits = omega (arith, c31 .pre .fits, line-long (c31 .args .level) (c31 .args .letter) (c31 .args .label) (c31 .args .bytes .now), c27 .decimal .ensures .ends, c27 .decimal .ensures .same, c23 .put .ensures .ends, c23 .put .ensures .same, c19 .put2 .ensures .ends, c19 .put2 .ensures .same, c15 .put3 .ensures .ends, c15 .put3 .ensures .same, c11 .decimal2 .ensures .ends, c11 .decimal2 .ensures .same, c7 .put4 .ensures .ends, c7 .put4 .ensures .same, c .before .before .before .content .ensures .ends, c .before .before .before .content .ensures .same) }
+    record {
+      fits = omega (
+        arith,
+        c31 .pre .fits,
+        line-long (c31 .args .level) (c31 .args .letter) (c31 .args .label) (c31 .args .bytes .now),
+        c27 .decimal .ensures .ends,
+        c27 .decimal .ensures .same,
+        c23 .put .ensures .ends,
+        c23 .put .ensures .same,
+        c19 .put2 .ensures .ends,
+        c19 .put2 .ensures .same,
+        c15 .put3 .ensures .ends,
+        c15 .put3 .ensures .same,
+        c11 .decimal2 .ensures .ends,
+        c11 .decimal2 .ensures .same,
+        c7 .put4 .ensures .ends,
+        c7 .put4 .ensures .same,
+        c .before .before .before .content .ensures .ends,
+        c .before .before .before .content .ensures .same,
+      );
+    }
 
 same-length : tie.Need-same-length
 same-length c =
@@ -59,7 +86,17 @@ same-length c =
     let c22 = c18 .before .before .before .before in
     let c26 = c22 .before .before .before .before in
     let c30 = c26 .before .before .before .before in
-    omega (arith, c30 .decimal .ensures .same, c26 .put .ensures .same, c22 .put2 .ensures .same, c18 .put3 .ensures .same, c14 .decimal2 .ensures .same, c10 .put4 .ensures .same, c6 .content .ensures .same, c .before .before .put5 .ensures .same)
+    omega (
+      arith,
+      c30 .decimal .ensures .same,
+      c26 .put .ensures .same,
+      c22 .put2 .ensures .same,
+      c18 .put3 .ensures .same,
+      c14 .decimal2 .ensures .same,
+      c10 .put4 .ensures .same,
+      c6 .content .ensures .same,
+      c .before .before .put5 .ensures .same,
+    )
 
 returns : tie.Need-returns
 unfolding lineOf
@@ -71,19 +108,11 @@ returns c =
     let c22 = c18 .before .before .before .before in
     let c26 = c22 .before .before .before .before in
     let c30 = c26 .before .before .before .before in
-    then (then (then (then (then (then (then (c30 .decimal .ensures) (c26 .put .ensures)) (c22 .put2 .ensures)) (c18 .put3 .ensures)) (c14 .decimal2 .ensures)) (c10 .put4 .ensures)) (c6 .content .ensures)) (c .before .before .put5 .ensures)
+    then (then (then (then (then (then (then (c30 .decimal .ensures) (c26 .put .ensures)) (c22 .put2 .ensures)) (c18 .put3 .ensures))
+    (c14 .decimal2 .ensures)) (c10 .put4 .ensures)) (c6 .content .ensures)) (c .before .before .put5 .ensures)
 
 pub line-spec : {M : Type 1} → statement M
 line-spec =
     tie.close
-    (tie.spec
-    decimal-requires
-    put-requires
-    put-requires-2
-    put-requires-3
-    decimal-requires-2
-    put-requires-4
-    content-requires
-    put-requires-5
-    same-length
+    (tie.spec decimal-requires put-requires put-requires-2 put-requires-3 decimal-requires-2 put-requires-4 content-requires put-requires-5 same-length
     returns)

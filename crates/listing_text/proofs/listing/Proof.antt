@@ -35,7 +35,8 @@ walk-requires c κs =
     let c5 = c .before .before .before .before .before in
     let c7 = c5 .before .before in
     let c10 = c7 .before .before .before in
-    whole-fitting (plan _ _ (c10 .pre .0) (c10 .pre .1) (c7 .count-pages .ensures)) (c .before .before .row-start .ensures) (c .before .row-end .ensures) (c5 .head .ensures) (c10 .pre .2)
+    whole-fitting (plan _ _ (c10 .pre .0) (c10 .pre .1) (c7 .count-pages .ensures)) (c .before .before .row-start .ensures) (c .before .row-end .ensures)
+    (c5 .head .ensures) (c10 .pre .2)
 
 same-length : tie.Need-same-length
 same-length c =
@@ -62,13 +63,4 @@ returns c =
 pub listing-spec : {M : Type 1} → statement M
 listing-spec =
     tie.close
-    (tie.spec
-    count-pages-requires
-    sub-head
-    sub-head-2
-    head-requires
-    row-start-requires
-    row-end-requires
-    walk-requires
-    same-length
-    returns)
+    (tie.spec count-pages-requires sub-head sub-head-2 head-requires row-start-requires row-end-requires walk-requires same-length returns)

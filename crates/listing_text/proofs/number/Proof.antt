@@ -16,6 +16,4 @@ returns c = c .check .ensures ∙ exact (now (c .before .before .args .image)) (
 pub number-spec : {M : Type 1} → statement M
 number-spec =
     tie.close
-    (tie.spec
-    check-requires
-    returns)
+    (tie.spec check-requires returns)

@@ -90,21 +90,5 @@ returns-3 c =
 pub own-spec : {M : Type 1} → statement M
 own-spec =
     tie.close
-    (tie.spec
-    label-at-requires
-    shared-slice-read-if1
-    sub-line
-    part-line-start
-    part-line-end
-    line-requires
-    same-length
-    returns
-    shared-slice-read-if2
-    add-a
-    sub-line-2
-    part-line-start-2
-    part-line-end-2
-    line-requires-2
-    same-length-2
-    returns-2
-    returns-3)
+    (tie.spec label-at-requires shared-slice-read-if1 sub-line part-line-start part-line-end line-requires same-length returns shared-slice-read-if2 add-a
+    sub-line-2 part-line-start-2 part-line-end-2 line-requires-2 same-length-2 returns-2 returns-3)

@@ -60,16 +60,5 @@ returns-3 c =
 pub print-spec : {M : Type 1} → statement M
 print-spec =
     tie.close
-    (tie.spec
-    slice-aggregate-words
-    words-requires
-    same-length
-    returns
-    number-requires
-    cast-refused
-    refused-requires
-    same-length-2
-    returns-2
-    listing-requires
-    same-length-3
-    returns-3)
+    (tie.spec slice-aggregate-words words-requires same-length returns number-requires cast-refused refused-requires same-length-2 returns-2 listing-requires
+    same-length-3 returns-3)

@@ -19,8 +19,4 @@ returns c = one-byte (c .pre)
 pub put-spec : {M : Type 1} → statement M
 put-spec =
     tie.close
-    (tie.spec
-    slice-write-out
-    add-result
-    same-length
-    returns)
+    (tie.spec slice-write-out add-result same-length returns)

@@ -39,10 +39,4 @@ returns c =
 pub refused-spec : {M : Type 1} → statement M
 refused-spec =
     tie.close
-    (tie.spec
-    slice-aggregate-words
-    words-requires
-    decimal-requires
-    put-requires
-    same-length
-    returns)
+    (tie.spec slice-aggregate-words words-requires decimal-requires put-requires same-length returns)

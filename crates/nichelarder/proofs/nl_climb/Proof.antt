@@ -15,7 +15,14 @@ cast-written : tie.Need-cast-written
 cast-written c =
     let a = c .before .before .before .before .before .before .before .args in
     let e = c .before .before .before .climb .ensures .0 in
-    record { fits = omega (arith, ap (λ (r : WriteAnswer). r .written) e, climb-small (now (a .image)) (record { page = a .page; offset = a .offset }) (now (a .path))) }
+    record {
+      fits = omega (
+        arith,
+        ap (λ (r : WriteAnswer). r .written) e,
+        climb-small (now (a .image)) (record { page = a .page; offset = a .offset })
+            (now (a .path)),
+      );
+    }
 
 same-length : tie.Need-same-length
 same-length c = search needs

@@ -50,13 +50,4 @@ returns-2 c =
 pub nl-format-spec : {M : Type 1} → statement M
 nl-format-spec =
     tie.close
-    (tie.spec
-    format-requires
-    same-length
-    returns
-    slice-aggregate-copy-in
-    copy-in-requires
-    slice-aggregate-format
-    format-requires-2
-    same-length-2
-    returns-2)
+    (tie.spec format-requires same-length returns slice-aggregate-copy-in copy-in-requires slice-aggregate-format format-requires-2 same-length-2 returns-2)

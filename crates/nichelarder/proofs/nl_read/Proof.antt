@@ -15,12 +15,26 @@ read-at-requires c κs = search needs
 cast-t8 : tie.Need-cast-t8
 cast-t8 c =
     let a = c .before .before .before .args in
-    record { fits = omega (arith, ap (λ (r : ReadNode). r .start) (c .before .read-at .ensures), read-small (now (a .image)) (record { page = a .page; offset = a .offset })) }
+    record {
+      fits = omega (
+        arith,
+        ap (λ (r : ReadNode). r .start) (c .before .read-at .ensures),
+        read-small (now (a .image))
+            (record { page = a .page; offset = a .offset }),
+      );
+    }
 
 cast-t9 : tie.Need-cast-t9
 cast-t9 c =
     let a = c .before .before .before .before .args in
-    record { fits = omega (arith, ap (λ (r : ReadNode). r .len) (c .before .before .read-at .ensures), read-small (now (a .image)) (record { page = a .page; offset = a .offset })) }
+    record {
+      fits = omega (
+        arith,
+        ap (λ (r : ReadNode). r .len) (c .before .before .read-at .ensures),
+        read-small (now (a .image))
+            (record { page = a .page; offset = a .offset }),
+      );
+    }
 
 returns : tie.Need-returns
 returns c =

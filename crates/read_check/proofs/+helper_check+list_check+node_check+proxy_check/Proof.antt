@@ -140,7 +140,8 @@ helper-passed t c =
     _ (e .before .size-of .ensures) (e .if3 .left) (sym (c .before .literal .ensures) ∙ c .if4 .taken)
 
 -- After the turn with any other node.
-helper-gone : (t : ℕ) (c : helper-check-lts.After-node-check (helper-claims t) (helper-check-at t) helper-check.Post helper-check-Inv-loop helper-check-μ-loop)
+helper-gone : (t : ℕ) (c : helper-check-lts.After-node-check (helper-claims t) (helper-check-at t) helper-check.Post helper-check-Inv-loop
+    helper-check-μ-loop)
     → let e = c .before .before .before .before .before .before in
     let k = e .before .before .before .before .before .before .before in
     let a = k .before .before .before .args in
@@ -251,7 +252,8 @@ node-claims t = (
 )
 
 -- The aggregate that a node is, with those below it that are each the only node.
-chained : (t : ℕ) (c : node-check-lts.After-only (node-claims t) (node-check-at t) node-check.Post) → let a = c .before .before .before .before .before .args in
+chained : (t : ℕ) (c : node-check-lts.After-only (node-claims t) (node-check-at t) node-check.Post)
+    → let a = c .before .before .before .before .before .args in
     Chain (now (a .image)) (now (a .part)) (a .page) (a .holder) (a .level) (c .only .result) (state (a .left) (now (a .marks)))
 chained t c = chain _ _ _ _ _ _ _ (sym (c .before .before .aggregate .ensures) ∙ c .before .if1 .taken) (c .only .ensures)
 

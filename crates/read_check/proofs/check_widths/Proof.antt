@@ -56,11 +56,4 @@ returns-4 c =
 pub check-widths-spec : {M : Type 1} → statement M
 check-widths-spec =
     tie.close
-    (tie.spec
-    length-ok-requires
-    returns
-    trailers-requires
-    returns-2
-    walk-ok-requires
-    returns-3
-    returns-4)
+    (tie.spec length-ok-requires returns trailers-requires returns-2 walk-ok-requires returns-3 returns-4)

@@ -53,13 +53,4 @@ returns-2 c =
 pub walk-ok-spec : {M : Type 1} → statement M
 walk-ok-spec =
     tie.close
-    (tie.spec
-    shared-slice-read-if1
-    returns
-    used-at-requires
-    add-e
-    sub-node-check
-    part-node-check-start
-    part-node-check-end
-    node-check-requires
-    returns-2)
+    (tie.spec shared-slice-read-if1 returns used-at-requires add-e sub-node-check part-node-check-start part-node-check-end node-check-requires returns-2)

@@ -22,14 +22,7 @@ abbrev trace-less : ℕ → In 3 trace-kinds.ps
 trace-less t = and 3 trace-kinds.ps (falls 3 trace-kinds.ps _<_ μ-trace t) trace.Pre
 
 abbrev claims : ℕ → trace-lts.Claims
-claims t = (
-  child-at-reads.Asked,
-  child-at-reads.Learnt,
-  trace-less t,
-  trace.Post,
-  put32-reads.Asked,
-  put32-reads.Learnt,
-)
+claims t = (child-at-reads.Asked, child-at-reads.Learnt, trace-less t, trace.Post, put32-reads.Asked, put32-reads.Learnt)
 
 trace-child-at-requires : (t : ℕ) → trace-lts.Need-child-at-requires (claims t) (trace-at t) trace.Post
 trace-child-at-requires t c κs =

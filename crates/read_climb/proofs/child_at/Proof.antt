@@ -67,16 +67,4 @@ returns c w = go-end _ _ _ _ _ _ _ (c .before .before .loop .inv w) (c .before .
 pub child-at-spec : {M : Type 1} → statement M
 child-at-spec =
     tie.close
-    (tie.spec
-    Inv-loop
-    μ-loop
-    loop-holds
-    size-at-requires
-    add-if1
-    nodes-in-requires
-    add-n
-    size-at-requires-2
-    add-i
-    loop-less
-    loop-again
-    returns)
+    (tie.spec Inv-loop μ-loop loop-holds size-at-requires add-if1 nodes-in-requires add-n size-at-requires-2 add-i loop-less loop-again returns)

@@ -13,19 +13,37 @@ returns : tie.Need-returns
 returns c = climb-none _ _ _ _ (c .before .before .before .before .pre .0) (c .before .node-at .ensures) (c .if1 .taken)
 
 climb-path-requires : tie.Need-climb-path-requires
-climb-path-requires c κs = (some-node _ _ _ _ (c .before .before .node-at .ensures) (c .before .if1 .left) .node, c .before .before .before .before .before .pre .1, refl)
+climb-path-requires c κs =
+    (some-node _ _ _ _ (c .before .before .node-at .ensures) (c .before .if1 .left) .node, c .before .before .before .before .before .pre .1, refl)
 
 sub-n : tie.Need-sub-n
-sub-n c = omega (arith, room _ _ _ _ (some-node _ _ _ _ (c .before .before .before .node-at .ensures) (c .before .before .if1 .left) .node) (c .climb-path .ensures))
+sub-n c =
+    omega (
+      arith,
+      room _ _ _ _ (some-node _ _ _ _ (c .before .before .before .node-at .ensures) (c .before .before .if1 .left) .node)
+          (c .climb-path .ensures),
+    )
 
 returns-2 : tie.Need-returns-2
-returns-2 c = climb-short _ _ _ _ (some-node _ _ _ _ (c .before .before .before .before .node-at .ensures) (c .before .before .before .if1 .left)) _ _ (c .before .climb-path .ensures) (c .if2 .taken)
+returns-2 c =
+    climb-short _ _ _ _ (some-node _ _ _ _ (c .before .before .before .before .node-at .ensures) (c .before .before .before .if1 .left)) _ _
+    (c .before .climb-path .ensures) (c .if2 .taken)
 
 sub-copy-in : tie.Need-sub-copy-in
-sub-copy-in c = omega (arith, room _ _ _ _ (some-node _ _ _ _ (c .before .before .before .before .node-at .ensures) (c .before .before .before .if1 .left) .node) (c .before .climb-path .ensures))
+sub-copy-in c =
+    omega (
+      arith,
+      room _ _ _ _ (some-node _ _ _ _ (c .before .before .before .before .node-at .ensures) (c .before .before .before .if1 .left) .node)
+          (c .before .climb-path .ensures),
+    )
 
 part-copy-in-start : tie.Need-part-copy-in-start
-part-copy-in-start c = omega (arith, room _ _ _ _ (some-node _ _ _ _ (c .before .before .before .before .before .node-at .ensures) (c .before .before .before .before .if1 .left) .node) (c .before .before .climb-path .ensures))
+part-copy-in-start c =
+    omega (
+      arith,
+      room _ _ _ _ (some-node _ _ _ _ (c .before .before .before .before .before .node-at .ensures)
+          (c .before .before .before .before .if1 .left) .node) (c .before .before .climb-path .ensures),
+    )
 
 part-copy-in-end : tie.Need-part-copy-in-end
 part-copy-in-end c = search needs
@@ -39,21 +57,12 @@ same-length c = search needs
 returns-3 : tie.Need-returns-3
 returns-3 c =
     let l = c .before .before .before .before .before .before .before .before .before .before .node-at .ensures in
-    climb-done _ _ _ _ (some-node _ _ _ _ l (c .before .before .before .before .before .before .before .before .before .if1 .left)) _ _ (c .before .before .before .before .before .before .before .climb-path .ensures) _
+    climb-done _ _ _ _ (some-node _ _ _ _ l (c .before .before .before .before .before .before .before .before .before .if1 .left)) _ _
+    (c .before .before .before .before .before .before .before .climb-path .ensures) _
     (c .before .before .before .before .before .before .if2 .left) (c .before .before .copy-in .ensures)
 
 pub climb-of-spec : {M : Type 1} → statement M
 climb-of-spec =
     tie.close
-    (tie.spec
-    node-at-requires
-    returns
-    climb-path-requires
-    sub-n
-    returns-2
-    sub-copy-in
-    part-copy-in-start
-    part-copy-in-end
-    copy-in-requires
-    same-length
+    (tie.spec node-at-requires returns climb-path-requires sub-n returns-2 sub-copy-in part-copy-in-start part-copy-in-end copy-in-requires same-length
     returns-3)

@@ -75,7 +75,8 @@ loop-again c = (
       let l = c .before .before .before .before .before .before .loop .inv .0 w in
       let e = c .before .before .before .before .before .row-start .ensures in
       let p = parent-at _ _ _ (w .reads) _ _ _ _ _ _ _ l _ (c .before .back-at .ensures .0) (c .before .before .if1 .left) in
-      rise-on _ _ _ (w .reads) _ _ _ _ _ _ _ l _ e _ _ _ (c .before .before .before .trace .ensures (started _ _ _ (w .reads) _ _ _ _ _ _ _ l _ e .trace)) _ _ p
+      rise-on _ _ _ (w .reads) _ _ _ _ _ _ _ l _ e _ _ _ (c .before .before .before .trace .ensures (started _ _ _ (w .reads) _ _ _ _ _ _ _ l _ e .trace)) _ _
+      p
       (c .find-proxy .ensures (held _ _ _ (w .reads) _ _ _ _ p)),
   let w = c .before .before .before .before .before .before .before .before .pre .0 in
       let l = c .before .before .before .before .before .before .loop .inv .0 w in
@@ -86,16 +87,5 @@ loop-again c = (
 pub climb-path-spec : {M : Type 1} → statement M
 climb-path-spec =
     tie.close
-    (tie.spec
-    Inv-loop
-    μ-loop
-    loop-holds
-    row-start-requires
-    trace-requires
-    returns
-    mul-back-at
-    back-at-requires
-    find-proxy-requires
-    sub-left
-    loop-less
+    (tie.spec Inv-loop μ-loop loop-holds row-start-requires trace-requires returns mul-back-at back-at-requires find-proxy-requires sub-left loop-less
     loop-again)

@@ -31,16 +31,10 @@ cast-result c =
     omega (arith, p .few, p .told _ (c .before .before .before .before .before .pre .1))
 
 returns-2 : tie.Need-returns-2
-returns-2 c w = record-told _ _ _ w (c .before .name-at .ensures .0) (c .before .before .if1 .left) .told _ (c .before .before .before .before .before .pre .1)
+returns-2 c w =
+    record-told _ _ _ w (c .before .name-at .ensures .0) (c .before .before .if1 .left) .told _ (c .before .before .before .before .before .pre .1)
 
 pub nodes-in-spec : {M : Type 1} → statement M
 nodes-in-spec =
     tie.close
-    (tie.spec
-    shared-slice-read-if1
-    returns
-    name-at-requires
-    mul-result
-    element-copy-out-result
-    cast-result
-    returns-2)
+    (tie.spec shared-slice-read-if1 returns name-at-requires mul-result element-copy-out-result cast-result returns-2)

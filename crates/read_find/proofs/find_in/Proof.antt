@@ -114,26 +114,5 @@ returns-5 c =
 pub find-in-spec : {M : Type 1} → statement M
 find-in-spec =
     tie.close
-    (tie.spec
-    Inv-loop
-    μ-loop
-    refused-requires
-    returns
-    refused-requires-2
-    returns-2
-    loop-holds
-    shared-slice-read-if3
-    refused-requires-3
-    returns-3
-    four-requires
-    size-at-requires
-    add-end
-    add-nth
-    nth-requires
-    refused-requires-4
-    returns-4
-    add-i
-    loop-less
-    loop-again
-    found-requires
-    returns-5)
+    (tie.spec Inv-loop μ-loop refused-requires returns refused-requires-2 returns-2 loop-holds shared-slice-read-if3 refused-requires-3 returns-3
+    four-requires size-at-requires add-end add-nth nth-requires refused-requires-4 returns-4 add-i loop-less loop-again found-requires returns-5)

@@ -31,7 +31,8 @@ passed : (c : tie.After-size-at Inv-loop μ-loop) → let l = c .before .before 
 passed c w = pass _ _ _ _ _ (c .before .before .before .before .loop-test .taken) (c .size-at .ensures .0) (c .before .before .if1 .left) w
 
 entered : (c : tie.After-name-at Inv-loop μ-loop) → let l = c .before .before .before .before in let s = l .before .before in
-    (w : Rowed (s .args .image .now) (l .loop .i) (l .loop .stop) (l .loop .deep)) → Entered (s .args .image .now) (l .loop .i) (l .loop .stop) (l .loop .deep)
+    (w : Rowed (s .args .image .now) (l .loop .i) (l .loop .stop) (l .loop .deep))
+    → Entered (s .args .image .now) (l .loop .i) (l .loop .stop) (l .loop .deep)
     (c .name-at .result) (w .row)
 entered c w = enter _ _ _ _ _ (c .before .before .before .loop-test .taken) (c .before .if1 .taken) (c .name-at .ensures .0) w
 
@@ -130,27 +131,5 @@ returns-2 c = λ w. sought _ _ _ _ _ _ (c .before .loop .inv _ (seeking _ _ _ _ 
 pub nth-spec : {M : Type 1} → statement M
 nth-spec =
     tie.close
-    (tie.spec
-    Inv-loop
-    μ-loop
-    loop-holds
-    shared-slice-read-if1
-    name-at-requires
-    mul-n
-    element-copy-out-n
-    cast-n
-    add-i
-    loop-less
-    loop-again
-    row-start-requires
-    row-end-requires
-    sub-deep
-    loop-less-2
-    loop-again-2
-    returns
-    sub-left
-    size-at-requires
-    add-i-2
-    loop-less-3
-    loop-again-3
-    returns-2)
+    (tie.spec Inv-loop μ-loop loop-holds shared-slice-read-if1 name-at-requires mul-n element-copy-out-n cast-n add-i loop-less loop-again row-start-requires
+    row-end-requires sub-deep loop-less-2 loop-again-2 returns sub-left size-at-requires add-i-2 loop-less-3 loop-again-3 returns-2)

@@ -80,7 +80,12 @@ add-n-2 c = omega (arith, within (c .before .before .before .before))
 
 loop-less : tie.Need-loop-less Inv-loop μ-loop
 loop-less c =
-    omega (arith, proxy (c .before) .long, c .before .before .before .before .size-at .ensures .0, c .before .before .before .before .before .loop-test .taken)
+    omega (
+      arith,
+      proxy (c .before) .long,
+      c .before .before .before .before .size-at .ensures .0,
+      c .before .before .before .before .before .loop-test .taken,
+    )
 
 loop-again : tie.Need-loop-again Inv-loop μ-loop
 loop-again c =
@@ -107,21 +112,5 @@ returns c = λ w. counted _ _ _ _ _ _ (c .before .loop .inv _ (counting _ _ _ _ 
 pub width-spec : {M : Type 1} → statement M
 width-spec =
     tie.close
-    (tie.spec
-    Inv-loop
-    μ-loop
-    loop-holds
-    size-at-requires
-    add-next
-    shared-slice-read-if1
-    name-at-requires
-    mul-n
-    element-copy-out-n
-    cast-n
-    add-n
-    add-n-2
-    loop-less
-    loop-again
-    loop-less-2
-    loop-again-2
-    returns)
+    (tie.spec Inv-loop μ-loop loop-holds size-at-requires add-next shared-slice-read-if1 name-at-requires mul-n element-copy-out-n cast-n add-n add-n-2
+    loop-less loop-again loop-less-2 loop-again-2 returns)

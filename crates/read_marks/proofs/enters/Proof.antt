@@ -58,11 +58,4 @@ returns-4 c =
 pub enters-spec : {M : Type 1} → statement M
 enters-spec =
     tie.close
-    (tie.spec
-    names-requires
-    returns
-    root-fits-requires
-    returns-2
-    returns-3
-    is-marked-requires
-    returns-4)
+    (tie.spec names-requires returns root-fits-requires returns-2 returns-3 is-marked-requires returns-4)

@@ -61,16 +61,4 @@ returns-6 c =
 pub names-spec : {M : Type 1} → statement M
 names-spec =
     tie.close
-    (tie.spec
-    returns
-    returns-2
-    mul-a
-    add-if3
-    returns-3
-    add-if4
-    shared-slice-read-if4
-    returns-4
-    used-at-requires
-    returns-5
-    back-at-requires
-    returns-6)
+    (tie.spec returns returns-2 mul-a add-if3 returns-3 add-if4 shared-slice-read-if4 returns-4 used-at-requires returns-5 back-at-requires returns-6)

@@ -27,10 +27,4 @@ returns-2 c = rw (← c .before .before .settled-at .ensures .0, eq-eqb _ _ (c .
 pub root-fits-spec : {M : Type 1} → statement M
 root-fits-spec =
     tie.close
-    (tie.spec
-    mul-settled-at
-    settled-at-requires
-    returns
-    mul-result
-    shared-slice-read-result
-    returns-2)
+    (tie.spec mul-settled-at settled-at-requires returns mul-result shared-slice-read-result returns-2)

@@ -48,14 +48,4 @@ returns c = λ pos a. let b = c .before .before .loop .inv pos a .ahead in (ahea
 pub enter-spec : {M : Type 1} → statement M
 enter-spec =
     tie.close
-    (tie.spec
-    Inv-loop
-    μ-loop
-    loop-holds
-    shared-slice-read-if1
-    name-at-requires
-    row-start-requires
-    sub-left
-    loop-less
-    loop-again
-    returns)
+    (tie.spec Inv-loop μ-loop loop-holds shared-slice-read-if1 name-at-requires row-start-requires sub-left loop-less loop-again returns)

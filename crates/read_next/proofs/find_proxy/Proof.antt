@@ -23,7 +23,8 @@ names-requires : tie.Need-names-requires Inv-loop μ-loop
 names-requires c κs = let h = sought-head (c .loop .inv (c .before .before .before .pre)) in (omega (arith, h .inside), h .small)
 
 flat-requires : tie.Need-flat-requires Inv-loop μ-loop
-flat-requires c κs = let h = sought-head (c .before .before .loop .inv (c .before .before .before .before .before .pre)) in (omega (arith, h .inside), h .small)
+flat-requires c κs =
+    let h = sought-head (c .before .before .loop .inv (c .before .before .before .before .before .pre)) in (omega (arith, h .inside), h .small)
 
 loop-less : tie.Need-loop-less Inv-loop μ-loop
 loop-less c =
@@ -41,13 +42,4 @@ returns c = λ w. sought-hit (c .before .before .loop .inv w) (sym (c .before .n
 pub find-proxy-spec : {M : Type 1} → statement M
 find-proxy-spec =
     tie.close
-    (tie.spec
-    Inv-loop
-    μ-loop
-    row-start-requires
-    loop-holds
-    names-requires
-    flat-requires
-    loop-less
-    loop-again
-    returns)
+    (tie.spec Inv-loop μ-loop row-start-requires loop-holds names-requires flat-requires loop-less loop-again returns)

@@ -71,18 +71,5 @@ returns-2 c =
 pub item-after-spec : {M : Type 1} → statement M
 item-after-spec =
     tie.close
-    (tie.spec
-    Inv-loop
-    μ-loop
-    flat-requires
-    loop-holds
-    row-end-requires
-    returns
-    mul-back-at
-    back-at-requires
-    find-proxy-requires
-    add-at
-    sub-left
-    loop-less
-    loop-again
-    returns-2)
+    (tie.spec Inv-loop μ-loop flat-requires loop-holds row-end-requires returns mul-back-at back-at-requires find-proxy-requires add-at sub-left loop-less
+    loop-again returns-2)

@@ -9,7 +9,8 @@ node-at-requires : tie.Need-node-at-requires
 node-at-requires c κs = search needs
 
 returns : tie.Need-returns
-returns c = sym (answer-stray (c .before .before .before .args .image .now) _ _ (c .before .before .before .pre) (c .before .node-at .ensures) (c .if1 .taken))
+returns c =
+    sym (answer-stray (c .before .before .before .args .image .now) _ _ (c .before .before .before .pre) (c .before .node-at .ensures) (c .if1 .taken))
 
 next-in-requires : tie.Need-next-in-requires
 next-in-requires c κs = c .before .node-at .ensures .found (omega arith) .node

@@ -20,7 +20,8 @@ shared-slice-read-if3 : tie.Need-shared-slice-read-if3
 shared-slice-read-if3 c = search needs
 
 returns-3 : tie.Need-returns-3
-returns-3 c = no-record (c .before .before .before .before .before .args .image .now) (c .before .before .before .before .before .args .page) _ (c .if3 .taken)
+returns-3 c =
+    no-record (c .before .before .before .before .before .args .image .now) (c .before .before .before .before .before .args .page) _ (c .if3 .taken)
 
 used-at-requires : tie.Need-used-at-requires
 used-at-requires c κs = search needs
@@ -48,15 +49,4 @@ returns-5 c =
 pub node-at-spec : {M : Type 1} → statement M
 node-at-spec =
     tie.close
-    (tie.spec
-    returns
-    returns-2
-    mul-a
-    add-if3
-    shared-slice-read-if3
-    returns-3
-    used-at-requires
-    returns-4
-    add-standing
-    standing-requires
-    returns-5)
+    (tie.spec returns returns-2 mul-a add-if3 shared-slice-read-if3 returns-3 used-at-requires returns-4 add-standing standing-requires returns-5)

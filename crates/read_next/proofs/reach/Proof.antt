@@ -35,12 +35,4 @@ returns c = record { past = c .loop-test .left; scan = c .before .loop .inv }
 pub reach-spec : {M : Type 1} → statement M
 reach-spec =
     tie.close
-    (tie.spec
-    Inv-loop
-    μ-loop
-    row-start-requires
-    loop-holds
-    flat-requires
-    loop-less
-    loop-again
-    returns)
+    (tie.spec Inv-loop μ-loop row-start-requires loop-holds flat-requires loop-less loop-again returns)

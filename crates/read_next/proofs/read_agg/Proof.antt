@@ -45,12 +45,4 @@ returns c =
 pub read-agg-spec : {M : Type 1} → statement M
 read-agg-spec =
     tie.close
-    (tie.spec
-    label-at-requires
-    size-at-requires
-    add-end
-    add-width
-    width-requires
-    cast-t8
-    cast-t9
-    returns)
+    (tie.spec label-at-requires size-at-requires add-end add-width width-requires cast-t8 cast-t9 returns)

@@ -20,16 +20,11 @@ cast-t7 c = search needs
 
 returns : tie.Need-returns
 returns c =
-    lit-is (c .before .before .before .before .args .image .now) (c .before .before .before .before .args .pos) _ _ _ (c .before .before .label-at .ensures .0)
+    lit-is (c .before .before .before .before .args .image .now) (c .before .before .before .before .args .pos) _ _ _
+    (c .before .before .label-at .ensures .0)
     (c .before .size-at .ensures .0) (c .content-at .ensures)
 
 pub read-lit-spec : {M : Type 1} → statement M
 read-lit-spec =
     tie.close
-    (tie.spec
-    label-at-requires
-    size-at-requires
-    sub-len
-    content-at-requires
-    cast-t7
-    returns)
+    (tie.spec label-at-requires size-at-requires sub-len content-at-requires cast-t7 returns)

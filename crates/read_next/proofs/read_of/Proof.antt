@@ -10,7 +10,8 @@ node-at-requires : tie.Need-node-at-requires
 node-at-requires c κs = c .before .pre .0
 
 returns : tie.Need-returns
-returns c = sym (told-stray (c .before .before .before .args .image .now) _ _ (c .before .before .before .pre .0) (c .before .node-at .ensures) (c .if1 .taken))
+returns c =
+    sym (told-stray (c .before .before .before .args .image .now) _ _ (c .before .before .before .pre .0) (c .before .node-at .ensures) (c .if1 .taken))
 
 shared-slice-read-if2 : tie.Need-shared-slice-read-if2
 shared-slice-read-if2 c = let h = node-head (c .before .before .node-at .ensures .found (omega arith) .node) in omega (arith, h .inside)
@@ -38,11 +39,4 @@ returns-3 c =
 pub read-of-spec : {M : Type 1} → statement M
 read-of-spec =
     tie.close
-    (tie.spec
-    node-at-requires
-    returns
-    shared-slice-read-if2
-    read-agg-requires
-    returns-2
-    read-lit-requires
-    returns-3)
+    (tie.spec node-at-requires returns shared-slice-read-if2 read-agg-requires returns-2 read-lit-requires returns-3)

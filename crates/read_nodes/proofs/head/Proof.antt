@@ -71,17 +71,5 @@ returns-7 c =
 pub head-spec : {M : Type 1} → statement M
 head-spec =
     tie.close
-    (tie.spec
-    returns
-    shared-slice-read-wide
-    wide-requires
-    returns-2
-    may-stand-requires
-    returns-3
-    shared-slice-read-if4
-    returns-4
-    size-at-requires
-    returns-5
-    shaped-requires
-    returns-6
-    returns-7)
+    (tie.spec returns shared-slice-read-wide wide-requires returns-2 may-stand-requires returns-3 shared-slice-read-if4 returns-4 size-at-requires returns-5
+    shaped-requires returns-6 returns-7)

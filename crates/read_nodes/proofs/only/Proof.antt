@@ -79,19 +79,5 @@ returns-2 c =
 pub only-spec : {M : Type 1} → statement M
 only-spec =
     tie.close
-    (tie.spec
-    Inv-loop
-    μ-loop
-    loop-holds
-    sub-aggregate
-    part-aggregate-start
-    part-aggregate-end
-    sub-aggregate-2
-    add-aggregate
-    aggregate-requires
-    returns
-    add-at
-    add-d
-    loop-less
-    loop-again
-    returns-2)
+    (tie.spec Inv-loop μ-loop loop-holds sub-aggregate part-aggregate-start part-aggregate-end sub-aggregate-2 add-aggregate aggregate-requires returns add-at
+    add-d loop-less loop-again returns-2)

@@ -55,15 +55,5 @@ returns-5 c = simp (ne-eqb _ _ (c .before .before .if1 .left), ne-eqb _ _ (c .be
 pub shaped-spec : {M : Type 1} → statement M
 shaped-spec =
     tie.close
-    (tie.spec
-    label-at-requires
-    returns
-    label-at-requires-2
-    returns-2
-    sub-two-children
-    part-two-children-start
-    part-two-children-end
-    two-children-requires
-    returns-3
-    returns-4
-    returns-5)
+    (tie.spec label-at-requires returns label-at-requires-2 returns-2 sub-two-children part-two-children-start part-two-children-end two-children-requires
+    returns-3 returns-4 returns-5)

@@ -39,12 +39,4 @@ returns-4 c =
 pub stands-spec : {M : Type 1} → statement M
 stands-spec =
     tie.close
-    (tie.spec
-    shared-slice-read-wide
-    wide-requires
-    returns
-    shared-slice-read-if2
-    returns-2
-    returns-3
-    may-stand-requires
-    returns-4)
+    (tie.spec shared-slice-read-wide wide-requires returns shared-slice-read-if2 returns-2 returns-3 may-stand-requires returns-4)

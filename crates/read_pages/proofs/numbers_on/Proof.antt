@@ -28,10 +28,4 @@ returns c = λ i. record {
 pub numbers-on-spec : {M : Type 1} → statement M
 numbers-on-spec =
     tie.close
-    (tie.spec
-    two-requires
-    shared-slice-read-wide
-    wide-requires
-    two-requires-2
-    two-requires-3
-    returns)
+    (tie.spec two-requires shared-slice-read-wide wide-requires two-requires-2 two-requires-3 returns)

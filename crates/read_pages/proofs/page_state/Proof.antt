@@ -97,24 +97,5 @@ returns-8 c =
 pub page-state-spec : {M : Type 1} → statement M
 page-state-spec =
     tie.close
-    (tie.spec
-    shared-slice-read-if1
-    zeros-requires
-    returns
-    returns-2
-    shared-slice-read-if3
-    returns-3
-    settled-at-requires
-    returns-4
-    used-at-requires
-    returns-5
-    part-zeros-start
-    part-zeros-end
-    zeros-requires-2
-    returns-6
-    sub-zeros
-    part-zeros-start-2
-    part-zeros-end-2
-    zeros-requires-3
-    returns-7
-    returns-8)
+    (tie.spec shared-slice-read-if1 zeros-requires returns returns-2 shared-slice-read-if3 returns-3 settled-at-requires returns-4 used-at-requires returns-5
+    part-zeros-start part-zeros-end zeros-requires-2 returns-6 sub-zeros part-zeros-start-2 part-zeros-end-2 zeros-requires-3 returns-7 returns-8)

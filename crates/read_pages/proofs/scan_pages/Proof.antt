@@ -47,7 +47,8 @@ returns c =
     let a = s .args in
     let l = c .before .before .before .before .loop in
     let k = c .before .page-state in
-    sym (l .inv .2 ∙ scan-bad (now (a .image)) (a .pages) (l .p) (l .n) (k .result) (k .ensures) (c .before .before .before .loop-test .taken) (c .if1 .taken))
+    sym (l .inv .2 ∙ scan-bad (now (a .image)) (a .pages) (l .p) (l .n) (k .result) (k .ensures) (c .before .before .before .loop-test .taken)
+    (c .if1 .taken))
 
 add-n : tie.Need-add-n Inv-loop μ-loop
 add-n c = search needs
@@ -84,20 +85,5 @@ returns-2 c =
 pub scan-pages-spec : {M : Type 1} → statement M
 scan-pages-spec =
     tie.close
-    (tie.spec
-    Inv-loop
-    μ-loop
-    loop-holds
-    mul-a
-    add-e
-    sub-page-state
-    part-page-state-start
-    part-page-state-end
-    page-state-requires
-    returns
-    add-n
-    add-p
-    loop-less
-    loop-again
-    add-result
-    returns-2)
+    (tie.spec Inv-loop μ-loop loop-holds mul-a add-e sub-page-state part-page-state-start part-page-state-end page-state-requires returns add-n add-p
+    loop-less loop-again add-result returns-2)

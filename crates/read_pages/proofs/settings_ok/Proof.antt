@@ -125,32 +125,6 @@ returns-8 c =
 pub settings-ok-spec : {M : Type 1} → statement M
 settings-ok-spec =
     tie.close
-    (tie.spec
-    numbers-on-requires
-    returns
-    sub-in-range
-    part-in-range-start
-    part-in-range-end
-    in-range-requires
-    returns-2
-    shared-slice-read-if3
-    returns-3
-    sub-zeros
-    part-zeros-start
-    part-zeros-end
-    zeros-requires
-    returns-4
-    sub-zeros-2
-    part-zeros-start-2
-    part-zeros-end-2
-    zeros-requires-2
-    returns-5
-    two-requires
-    returns-6
-    used-at-requires
-    returns-7
-    sub-zeros-3
-    part-zeros-start-3
-    part-zeros-end-3
-    zeros-requires-3
-    returns-8)
+    (tie.spec numbers-on-requires returns sub-in-range part-in-range-start part-in-range-end in-range-requires returns-2 shared-slice-read-if3 returns-3
+    sub-zeros part-zeros-start part-zeros-end zeros-requires returns-4 sub-zeros-2 part-zeros-start-2 part-zeros-end-2 zeros-requires-2 returns-5 two-requires
+    returns-6 used-at-requires returns-7 sub-zeros-3 part-zeros-start-3 part-zeros-end-3 zeros-requires-3 returns-8)

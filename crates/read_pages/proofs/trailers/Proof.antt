@@ -58,16 +58,5 @@ returns-3 c =
 pub trailers-spec : {M : Type 1} → statement M
 trailers-spec =
     tie.close
-    (tie.spec
-    sub-settings-ok
-    part-settings-ok-start
-    part-settings-ok-end
-    settings-ok-requires
-    returns
-    sub-first-ok
-    part-first-ok-start
-    part-first-ok-end
-    first-ok-requires
-    returns-2
-    scan-pages-requires
-    returns-3)
+    (tie.spec sub-settings-ok part-settings-ok-start part-settings-ok-end settings-ok-requires returns sub-first-ok part-first-ok-start part-first-ok-end
+    first-ok-requires returns-2 scan-pages-requires returns-3)

@@ -46,15 +46,4 @@ returns c = count-end _ _ _ _ (c .before .loop .inv) (c .loop-test .left)
 pub count-pages-spec : {M : Type 1} → statement M
 count-pages-spec =
     tie.close
-    (tie.spec
-    Inv-loop
-    μ-loop
-    loop-holds
-    mul-if1
-    add-if1
-    shared-slice-read-if1
-    add-n
-    add-p
-    loop-less
-    loop-again
-    returns)
+    (tie.spec Inv-loop μ-loop loop-holds mul-if1 add-if1 shared-slice-read-if1 add-n add-p loop-less loop-again returns)

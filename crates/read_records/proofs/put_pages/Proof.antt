@@ -29,7 +29,12 @@ put16-requires c κs =
     (put-room _ _ _ _ _ _ (c .before .before .before .before .loop .inv) (c .before .before .before .loop-test .taken) (c .before .if1 .taken), omega arith)
 
 add-at : tie.Need-add-at Inv-loop μ-loop
-add-at c = omega (arith, put-room _ _ _ _ _ _ (c .before .before .before .before .before .before .before .loop .inv) (c .before .before .before .before .before .before .loop-test .taken) (c .before .before .before .before .if1 .taken))
+add-at c =
+    omega (
+      arith,
+      put-room _ _ _ _ _ _ (c .before .before .before .before .before .before .before .loop .inv)
+          (c .before .before .before .before .before .before .loop-test .taken) (c .before .before .before .before .if1 .taken),
+    )
 
 add-p : tie.Need-add-p Inv-loop μ-loop
 add-p c = omega arith
@@ -55,17 +60,4 @@ returns c = put-end _ _ _ _ _ _ (c .before .loop .inv) (c .loop-test .left)
 pub put-pages-spec : {M : Type 1} → statement M
 put-pages-spec =
     tie.close
-    (tie.spec
-    Inv-loop
-    μ-loop
-    loop-holds
-    mul-if1
-    add-if1
-    shared-slice-read-if1
-    put16-requires
-    add-at
-    add-p
-    loop-less
-    loop-again
-    same-length
-    returns)
+    (tie.spec Inv-loop μ-loop loop-holds mul-if1 add-if1 shared-slice-read-if1 put16-requires add-at add-p loop-less loop-again same-length returns)

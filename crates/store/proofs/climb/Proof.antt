@@ -17,7 +17,8 @@ check-widths-requires c κs = length-replicate {A = ℕ} mostPages 0
 returns : tie.Need-returns
 returns c =
     let a = c .before .before .before .before .before .args in
-    let e = climb-refused (now (a .image)) (c .before .check-widths .result) (c .before .check-widths .ensures .0) (c .if1 .taken) (a .place) (now (a .buffer)) in
+    let e = climb-refused (now (a .image)) (c .before .check-widths .result) (c .before .check-widths .ensures .0) (c .if1 .taken) (a .place)
+    (now (a .buffer)) in
     (sym (ap (λ (o : WriteAnswer × List ℕ). o .0) e), sym (ap (λ (o : WriteAnswer × List ℕ). o .1) e))
 
 climb-of-requires : tie.Need-climb-of-requires

@@ -57,18 +57,5 @@ returns-3 c = rw (lt-leb _ _ (c .before .if1 .left)) (refl, refl)
 pub part-of-spec : {M : Type 1} → statement M
 part-of-spec =
     tie.close
-    (tie.spec
-    sub-if2
-    add-e
-    sub-result
-    part-result-start
-    part-result-end
-    returns
-    sub-result-2
-    part-result-start-2
-    part-result-end-2
-    returns-2
-    sub-result-3
-    part-result-start-3
-    part-result-end-3
-    returns-3)
+    (tie.spec sub-if2 add-e sub-result part-result-start part-result-end returns sub-result-2 part-result-start-2 part-result-end-2 returns-2 sub-result-3
+    part-result-start-3 part-result-end-3 returns-3)

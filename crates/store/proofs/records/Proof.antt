@@ -16,7 +16,8 @@ check-requires c κs = search needs
 returns : tie.Need-returns
 returns c =
     let a = c .before .before .before .before .args in
-    let e = records-refused (now (a .image)) (c .before .check .result) (c .before .check .ensures) (c .if1 .taken) (upPages (now (a .image))) (now (a .buffer)) in
+    let e = records-refused (now (a .image)) (c .before .check .result) (c .before .check .ensures) (c .if1 .taken) (upPages (now (a .image)))
+    (now (a .buffer)) in
     (sym (ap (λ (o : WriteAnswer × List ℕ). o .0) e), sym (ap (λ (o : WriteAnswer × List ℕ). o .1) e))
 
 records-of-requires : tie.Need-records-of-requires
