@@ -18,6 +18,7 @@ use Rattle.theory_decoding.specs.Decode.{two-bytes, in-trailer, used-page, stor
 use Rattle.theory_decoding.specs.Reading.{reads-valid, reads-length}
 use Rattle.theory_places.specs.Order.{lone-root}
 use Rattle.theory_row_bytes.specs.RowAt.{RowAt, first-node, kindOf, headOf, sizeOf, bodyOf, nameOf, kidsOf, restOf, record-row, record-first, page-record}
+use Rattle.theory_row_bytes.specs.RowAt.{no-head}
 use Rattle.theory_row_bytes.specs.RowAt.{byte-on, number-on}
 
 -- How far records are nested below a row.
@@ -135,7 +136,7 @@ parts img page pos (rec p s r rest) h v =
     let f = v .fits in
     let own = v .names p (names-own p s r rest) in
     record {
-      head = record { label = omega arith };
+      head = no-head;
       name = omega (arith, own .high);
       within = omega arith;
       kids = (tt, tt);

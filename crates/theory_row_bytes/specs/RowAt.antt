@@ -55,6 +55,9 @@ module _ {l : List ℕ} {pos k : ℕ} {h : Head} {n : ℕ} (v : HeaderAt l pos k
   pub header-inside : pos + 6 ≤ length l
   header-inside = omega (arith, sym (length-drop pos l) ∙ ap length (v .is))
 
+pub no-head : HeadFits noHead
+no-head = record { label = omega arith }
+
 -- A header in the middle of some bytes,
 pub header-after : (l pre post : List ℕ) (pos k : ℕ) (h : Head) (n : ℕ) → l ≡ pre ++ (header k h n ++ post) → length pre ≡ pos → HeaderAt l pos k h n
 header-after l pre post pos k h n e len = record { post = post; is = ap (drop pos) e ∙ drop-at pre (header k h n ++ post) pos len }
