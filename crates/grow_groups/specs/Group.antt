@@ -21,7 +21,7 @@ use Rattle.base_layout.specs.Growing.{pages-of}
 use Rattle.grow_pages.specs.Write.{usedBy, setPage, pageBytesOf}
 use Rattle.grow_pages.specs.Links.{Below, Linked}
 use Rattle.grow_pages.specs.Relinked.{written}
-use Rattle.grow_split_point.specs.Stands.{Node, node, sizeOf}
+use Rattle.grow_split_point.specs.Kids.{Node, node, sizeOf}
 use Rattle.grow_groups.specs.declared.Output.{Output}
 use Rattle.grow_groups.specs.Used.{Past, free-within, set-past}
 

@@ -101,10 +101,7 @@ after-behind parent c s i (rec q b r rest) t e =
         → BehindChild c s i (rec q b r rest) t
     go true true l e f g = record { wide = omega (arith, ltb-true i (width r) l); level = at-once parent c s (rec q b r nil) rest t e }
     go true false l e f g = record { wide = omega (arith, ltb-true i (width r) l); level = enter c s q b r rest t (f e .level) }
-    go false v l e f g = record {
-      wide = omega (arith, ltb-false i (width r) l, g e .wide);
-      level = pass c s (rec q b r nil) rest t (g e .level);
-    }
+    go false v l e f g = record { wide = omega (arith, ltb-false i (width r) l, g e .wide); level = pass c s (rec q b r nil) rest t (g e .level) }
 
 -- ── the parent ──
 

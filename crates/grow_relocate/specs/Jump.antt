@@ -10,7 +10,7 @@ use Rattle.model.specs.Growth.{Work, stops, group, separate}
 use Rattle.model.specs.declared.Place.{Place}
 use Rattle.theory_rows.specs.Laws.{⊹-nil, ⊹-assoc}
 use Rattle.theory_moves.specs.Moved.{groupPlace, moved}
-use Rattle.grow_split_point.specs.Stands.{kidsOf, restOf}
+use Rattle.grow_split_point.specs.Kids.{kidsOf, restOf}
 use Rattle.grow_split_point.specs.Chosen.{goes, passed, remains, goesInto, cond-flip, size-some, goes-some}
 
 module _ (st : Config) (near p : ℕ) where

@@ -11,7 +11,7 @@ use Rattle.model.specs.Reading.{twoAt}
 use Rattle.model.specs.Growth.{Work, freeFrom}
 use Rattle.theory_rows.specs.Laws.{length-bytes}
 use Rattle.grow_pages.specs.Write.{usedBy, free-same, free-below}
-use Rattle.grow_split_point.specs.Stands.{Node, node, sizeOf}
+use Rattle.grow_split_point.specs.Kids.{Node, node, sizeOf}
 use Rattle.base_layout.specs.declared.Growing.{Growing}
 use Rattle.base_layout.specs.Setup.{setupOf}
 use Rattle.base_layout.specs.Growing.{pages-of}

@@ -14,7 +14,7 @@ use Rattle.model.specs.Growth.{Work, group, separate}
 use Rattle.model.specs.declared.Place.{Place}
 use Rattle.theory_rows.specs.Laws.{cond-case}
 use Rattle.base_numbers.specs.Over.{over}
-use Rattle.grow_split_point.specs.Stands.{first, kidsOf, restOf}
+use Rattle.grow_split_point.specs.Kids.{first, kidsOf, restOf}
 use Rattle.grow_split_point.specs.Chosen.{passed, goesInto}
 use Rattle.grow_split_point.specs.Level.{kids-bytes, left-bytes, level-sizes, inner, inner-size, after-bytes}
 use Rattle.base_layout.specs.declared.Growing.{Growing}

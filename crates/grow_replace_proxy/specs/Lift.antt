@@ -93,16 +93,7 @@ module _ (img : List ℕ) (holder page : ℕ) (sep : List ℕ) (w : Lift img hol
     }
 
     abbrev pub filled : (pos : ℕ) → pos ≡ at (base before) (w .spot) → Filled l pos
-    filled pos k = record {
-      spot = w .spot;
-      page = page;
-      settled = w .settled;
-      old = w .old;
-      rest = w .rest;
-      is = e;
-      small = w .small;
-      stands = k;
-    }
+    filled pos k = record { spot = w .spot; page = page; settled = w .settled; old = w .old; rest = w .rest; is = e; small = w .small; stands = k }
 
     abbrev pub place : (pos par : ℕ) → pos ≡ at (base before) (w .spot) → par ≡ parent 0 (base before) (w .spot) → Place l pos par 8 sep
     place pos par p q = put-for (w .spot) page (w .settled) (w .old) (w .put) (w .rest) l pos par sep e p q (w .comes) (w .root)

@@ -377,16 +377,7 @@ module _ {dry : Bool} {img : List ℕ} {above k left label : ℕ} {node : List �
         module _ {img₂ : List ℕ} (e : img₂ ≡ img₁) where
           -- What growth from this record requires.
           abbrev pub cascade-ready : Cascade g len (f .full) 0 (pos 0) l u img₂
-          cascade-ready = record {
-            st = st;
-            was = img;
-            root = root;
-            chain = c;
-            old = fill s rest;
-            row = row;
-            work = O .1;
-            rising = begun-as e;
-          }
+          cascade-ready = record { st = st; was = img; root = root; chain = c; old = fill s rest; row = row; work = O .1; rising = begun-as e }
 
           pub once-done : {r : Grown} {x₁ : Place} {img₃ : List ℕ} → Risen (goalOf cascade-ready) (memOf cascade-ready) dry r img₂ img₃
               → x₁ ≡ newPlace st (w .x) (w .aim .t) W → Inserted w (record { full = r .full; splits = r .splits; lean = r .lean; place = x₁ }) img₃

@@ -11,7 +11,7 @@ use Rattle.model.specs.Growth.{goOn, stops}
 use Rattle.theory_rows.specs.Laws.{⊹-nil, ⊹-assoc, cond-case}
 use Rattle.base_layout.specs.declared.Growing.{Growing}
 use Rattle.base_layout.specs.Setup.{setupOf}
-use Rattle.grow_split_point.specs.Stands.{headOf, kidsOf, restOf}
+use Rattle.grow_split_point.specs.Kids.{headOf, kidsOf, restOf}
 use Rattle.grow_split_point.specs.Chosen.{goes, passed, remains, goesInto, cond-flip}
 use Rattle.grow_groups.specs.Used.{Past}
 use Rattle.grow_groups.specs.Group.{Cutting, groupI, group-past}

@@ -12,7 +12,7 @@ use Rattle.theory_rows.specs.Laws.{length-bytes, size-⊹, bytes-⊹}
 use Rattle.theory_rows.specs.Fits.{Fits}
 use Rattle.base_numbers.specs.Over.{over, over-then, over-inside}
 use Rattle.grow_pages.specs.Links.{Below}
-use Rattle.grow_split_point.specs.Stands.{Kids, headOf, kidsOf, restOf}
+use Rattle.grow_split_point.specs.Kids.{Kids, headOf, kidsOf, restOf}
 use Rattle.grow_split_point.specs.Chosen.{passed, remains, goesInto, row-parts}
 use Rattle.grow_split_point.specs.Level.{kids-bytes, chosen, left-bytes, chosen-fits, inner, head-bytes, after-bytes}
 use Rattle.base_layout.specs.declared.Growing.{Growing}

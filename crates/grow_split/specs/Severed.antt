@@ -18,7 +18,7 @@ use Rattle.base_layout.specs.Setup.{setupOf}
 use Rattle.base_layout.specs.Growing.{separatorSize, pages-of}
 use Rattle.theory_page_memory.specs.Memory.{separateMem, separatorMem}
 use Rattle.grow_pages.specs.Links.{Below}
-use Rattle.grow_split_point.specs.Stands.{Kids}
+use Rattle.grow_split_point.specs.Kids.{Kids}
 use Rattle.grow_split_point.specs.Level.{root-kids, root-some}
 use Rattle.grow_groups.specs.declared.Output.{Output}
 use Rattle.grow_groups.specs.Used.{InUse, Env}

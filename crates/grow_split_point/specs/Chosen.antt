@@ -8,7 +8,7 @@ use lib.Dec.{leb}
 use Rattle.model.specs.Row.{Row, nil, agg, lit, rec, _⊹_, size, isNil, isAgg, Config}
 use Rattle.model.specs.Growth.{stops}
 use Rattle.theory_rows.specs.Laws.{⊹-assoc}
-use Rattle.grow_split_point.specs.Stands.{kidsOf}
+use Rattle.grow_split_point.specs.Kids.{kidsOf}
 
 -- ── the chosen child ──
 

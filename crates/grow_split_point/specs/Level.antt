@@ -12,7 +12,7 @@ use Rattle.model.specs.Growth.{rootRow}
 use Rattle.theory_rows.specs.Laws.{size-⊹, isNil-nil}
 use Rattle.theory_rows.specs.Fits.{Fits}
 use Rattle.theory_row_bytes.specs.RowAt.{RowAt, row-bytes, row-split, agg-first, record-row}
-use Rattle.grow_split_point.specs.Stands.{Kids, node, first, first-fits, n-is, within, kindOf, sizeOf, headOf, kidsOf, restOf}
+use Rattle.grow_split_point.specs.Kids.{Kids, node, first, first-fits, n-is, within, kindOf, sizeOf, headOf, kidsOf, restOf}
 use Rattle.grow_split_point.specs.Chosen.{passed, remains, goesInto, row-parts, remains-some}
 
 pub kids-bytes : {l : List ℕ} {pos end : ℕ} (w : Kids l pos end) → take (end - pos) (drop pos l) ≡ bytes (w .row)

@@ -1,4 +1,4 @@
-pub mod Stands
+pub mod Kids
 pub mod Chosen
 pub mod Search
 pub mod Level

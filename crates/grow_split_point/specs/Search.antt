@@ -14,7 +14,7 @@ use Rattle.model.specs.Reading.{sizeAt, kindAt}
 use Rattle.model.specs.Growth.{stops, startOf}
 use Rattle.theory_rows.specs.Laws.{length-bytes}
 use Rattle.theory_rows.specs.Bound.{not-nil}
-use Rattle.grow_split_point.specs.Stands.{Kids, first, n-is, behind, within, kindOf, sizeOf, kidsOf, restOf}
+use Rattle.grow_split_point.specs.Kids.{Kids, first, n-is, behind, within, kindOf, sizeOf, kidsOf, restOf}
 use Rattle.grow_split_point.specs.Chosen.{goes, passed, goesInto, cond-flip}
 
 -- ── tests as the code makes them ──

@@ -11,7 +11,7 @@ ghost use Rattle.model.specs.Row.{Row, size, bytes, isNil, loneRec, Config};
 ghost use Rattle.model.specs.Reading.{kindAt};
 ghost use Rattle.model.specs.Growth.{splitPoint, startOf};
 ghost use Rattle.model.specs.Claims.{InLean};
-ghost use Rattle.grow_split_point.specs.Stands.{Kids};
+ghost use Rattle.grow_split_point.specs.Kids.{Kids};
 ghost use Rattle.grow_split_point.specs.Chosen.{passed, goesInto};
 
 // p: target × size / 256, rounded down.

@@ -75,12 +75,7 @@ module _ {l : List ℕ} {n : ℕ} (w : Content l n) where
 
   -- Its row, without a helper's header.
   abbrev pub content-linked : {from : ℕ} → from ≡ base (w .row) → Linked (take (length l - from) (drop from l)) n
-  content-linked e = record {
-    row = w .row;
-    is = content-row e;
-    below = w .below;
-    small = omega (arith, w .small);
-  }
+  content-linked e = record { row = w .row; is = content-row e; below = w .below; small = omega (arith, w .small) }
 
   -- The record's page, then the links.
   pub kept-is : (q holder : ℕ) (img : List ℕ) {settled : ℕ} {a b : List ℕ} (s : Bool) → settled ≡ cond s 1 0

@@ -15,7 +15,7 @@ use Rattle.theory_rows.specs.Bound.{depth, split-good}
 use Rattle.base_layout.specs.declared.Setup.{Setup}
 use Rattle.base_layout.specs.Setup.{setupOf}
 use Rattle.base_layout.specs.Growing.{bufferSize, target-of}
-use Rattle.grow_split_point.specs.Stands.{Kids}
+use Rattle.grow_split_point.specs.Kids.{Kids}
 use Rattle.grow_split_point.specs.Lean.{lean-bounds}
 use Rattle.grow_split_point.specs.Level.{root-kids, root-some}
 

@@ -157,15 +157,7 @@ module _ (img : List ℕ) (st : Config) (root : Row) (reads : Reads img st root)
       let l = place-levels page (base (c .row)) (number carry (c .has)) (way carry (c .has) ++ c .tail) (c .row) x (found .place) in
       let n = length-append (way carry (c .has)) (c .tail) in
       let t : Tracing img (pageSize * page + base (c .row)) target carry at = record {
-        search = record {
-          page = page;
-          row = c .row;
-          here = on-page .here;
-          item = c .item;
-          starts = c .starts;
-          has = c .has;
-          few = few;
-        };
+        search = record { page = page; row = c .row; here = on-page .here; item = c .item; starts = c .starts; has = c .has; few = few };
         room = omega (arith, l, n, w .high, v .levels, c .ends);
         high = omega (arith, c .ends);
         small = c .small;

@@ -85,13 +85,7 @@ has-some pos (lit l c rest) h = omega arith
 has-some pos (rec p s r rest) h = omega arith
 
 abbrev pub standing : (img : List ℕ) (pos target : ℕ) → Search img pos target → SomeRowAt img pos
-standing img pos target w = record {
-  page = w .page;
-  row = w .row;
-  here = w .here;
-  some = has-some pos (w .row) (w .has);
-  few = w .few;
-}
+standing img pos target w = record { page = w .page; row = w .row; here = w .here; some = has-some pos (w .row) (w .has); few = w .few }
 
 -- The search goes on past the first node, to byte i + n,
 pub record Turned (img : List ℕ) (i n target : ℕ) (at passed fst : ℕ) : Type 0 where
@@ -241,12 +235,7 @@ module _ (img : List ℕ) (pos target carry at : ℕ) (w : Tracing img pos targe
   wrote-here passed path e k n =
       let s = w .search in
       let r = at-row img target carry (s .item) (s .starts) pos (s .row) (s .has) (sym found ∙ k) in
-      record {
-        is = omega (arith, r .0);
-        ends = omega (arith, ap length (r .1));
-        bytes = rw (r .1);
-        long = n;
-      }
+      record { is = omega (arith, r .0); ends = omega (arith, ap length (r .1)); bytes = rw (r .1); long = n }
 
   -- or below it.
   pub below : (c ≡ target → ⊥) → FurtherDown img target carry c (numberOf w) (before (w .search .has)) (wayOf w)

@@ -49,11 +49,7 @@ module _ {img : List ℕ} {page : ℕ} (w : OnRecord img page) where
     pub end : endOn img page ≡ pageSize * page + base (w .row) + size (w .row)
 
   pub known : Known
-  known = record {
-    on = view .here .on;
-    start = ap (λ (n : ℕ). pageSize * page + n) (view .first);
-    end = omega (arith, view .used);
-  }
+  known = record { on = view .here .on; start = ap (λ (n : ℕ). pageSize * page + n) (view .first); end = omega (arith, view .used) }
 
   -- The record's items, and where they end.
   abbrev pub all : List Item

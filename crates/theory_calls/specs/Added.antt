@@ -55,20 +55,10 @@ record More (x : New) (a b : List New) : Type 0 where
   new : b ≡ before ++ x ∷ after
 
 more-left : (x : New) (l a b : List New) → More x a b → More x (l ++ a) (l ++ b)
-more-left x l a b m = record {
-  before = l ++ m .before;
-  after = m .after;
-  old = rw (m .old, append-assoc);
-  new = rw (m .new, append-assoc);
-}
+more-left x l a b m = record { before = l ++ m .before; after = m .after; old = rw (m .old, append-assoc); new = rw (m .new, append-assoc) }
 
 more-right : (x : New) (r a b : List New) → More x a b → More x (a ++ r) (b ++ r)
-more-right x r a b m = record {
-  before = m .before;
-  after = m .after ++ r;
-  old = rw (m .old, append-assoc);
-  new = rw (m .new, append-assoc);
-}
+more-right x r a b m = record { before = m .before; after = m .after ++ r; old = rw (m .old, append-assoc); new = rw (m .new, append-assoc) }
 
 -- ── the new node ──
 

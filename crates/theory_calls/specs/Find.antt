@@ -7,13 +7,12 @@ use mathlib.Core.List.{List, [], _∷_}
 use Prim.Native.Nat.{ℕ}
 use native.Mathlib.Omega.{arith}
 use Rattle.model.specs.Row.{Row, Config}
-use Rattle.model.specs.Tree.{shown}
+use Rattle.model.specs.Tree.{shown, placeOf}
 use Rattle.model.specs.Reading.{Reads}
 use Rattle.model.specs.Claims.{CallHolds}
 use Rattle.theory_calls.specs.Open.{opens}
 use Rattle.theory_calls.specs.Asking.{asked}
 use Rattle.model.specs.Limits.{longestPath}
-use Rattle.model.specs.Tree.{placeOf}
 use Rattle.model.specs.Answers.{findRefused}
 use Rattle.model.specs.Common.{namedBy, isNone, placeOr, pathOf}
 use Rattle.model.specs.Calls.Find.{findIn, findOf, findCall}

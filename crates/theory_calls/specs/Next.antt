@@ -4,12 +4,11 @@ use mathlib.Core.List.{List, [], _∷_}
 use Prim.Native.Nat.{ℕ}
 use native.Mathlib.Omega.{arith}
 use Rattle.model.specs.Row.{Row, Config}
-use Rattle.model.specs.Tree.{shown}
+use Rattle.model.specs.Tree.{shown, Node, nodes, placeOf, fromPlace}
 use Rattle.model.specs.Reading.{Reads}
 use Rattle.model.specs.Claims.{CallHolds}
 use Rattle.theory_calls.specs.Open.{opens}
 use Rattle.theory_calls.specs.Asking.{asked}
-use Rattle.model.specs.Tree.{Node, nodes, placeOf, fromPlace}
 use Rattle.model.specs.Calls.Next.{nextFrom, nextIn, nextOf, nextCall}
 use Rattle.model.specs.declared.Place.{Place}
 use Rattle.model.specs.declared.NextAnswer.{NextAnswer}

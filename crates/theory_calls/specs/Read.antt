@@ -2,21 +2,19 @@
 use mathlib.Core.Path.{_≡_, refl, sym, ap, _∙_}
 use mathlib.Core.Bool.{Bool, true, false, cond}
 use mathlib.Core.Option.{some}
-use Prim.Native.Nat.{_+_, _*_}
+use Prim.Native.Nat.{_+_, _*_, ℕ}
 use borrow.Author.Tests.{eqb-true, eqb-false}
 use lib.ListN.{length, take, drop}
 use lib.Dec.{eqb}
 use mathlib.Core.List.{List, [], _∷_}
-use Prim.Native.Nat.{ℕ}
 use native.Mathlib.Omega.{arith}
 use Rattle.model.specs.Row.{Row, Config}
-use Rattle.model.specs.Tree.{shown}
+use Rattle.model.specs.Tree.{shown, Node, nodes, placeOf, fromPlace}
 use Rattle.model.specs.Reading.{Reads}
 use Rattle.model.specs.Claims.{CallHolds}
 use Rattle.theory_calls.specs.Open.{opens}
 use Rattle.theory_calls.specs.Asking.{asked}
 use Rattle.model.specs.Limits.{pageSize}
-use Rattle.model.specs.Tree.{Node, nodes, placeOf, fromPlace}
 use Rattle.model.specs.Calls.Read.{ReadValue, readFrom, readIn, asRead, readOf, valueOf, readCall}
 use Rattle.model.specs.declared.Place.{Place}
 use Rattle.theory_decoding.specs.Reading.{reads-valid}

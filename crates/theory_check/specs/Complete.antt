@@ -53,12 +53,7 @@ module _ (st : Config) (root : Row) (v : Valid st root) where
       rw (n, zero-page, settings-ok st in-range, stored-image st root v .0, first-ok first (v .rows .0 .fits) refl refl) (scan-image st root v)
 
   fresh-image : Fresh (st .pages) (replicate markBytes 0) root
-  fresh-image = record {
-    marks = marks-none;
-    range = named-range st root v;
-    once = λ q. omega (arith, once st root v q);
-    new = λ q h. none-marked q;
-  }
+  fresh-image = record { marks = marks-none; range = named-range st root v; once = λ q. omega (arith, once st root v q); new = λ q h. none-marked q }
 
   root-stands : cond (lone root) (byTable 0 root) (mayStand 0 4 && byTable 4 root) ≡ true
   unfolding mayStand standing

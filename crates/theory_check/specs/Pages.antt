@@ -9,8 +9,7 @@ use lib.Seq.{take-at, drop-at, take-take, drop-append-add, getD-take, getD-drop}
 use lib.Dec.{eqb, leb}
 use borrow.Author.Tests.{eq-eqb, le-leb, lt-ltb}
 use Rattle.model.specs.Limits.{mostPages, pageSize, capacity, settingsSize, matrixEntries}
-use Rattle.model.specs.Row.{Row, nil, agg, lit, rec, lone, recordSize, recordBytes, two, trailer, Held, recordPage, Config, settingsPage}
-use Rattle.model.specs.Row.{isAgg, inRange}
+use Rattle.model.specs.Row.{Row, nil, agg, lit, rec, lone, recordSize, recordBytes, two, trailer, Held, recordPage, Config, settingsPage, isAgg, inRange}
 use Rattle.model.specs.Reading.{twoAt, pageOf, backAt, settledAt, configOn}
 use Rattle.theory_rows.specs.Fits.{Shape, RecordFits, Ranges}
 use Rattle.theory_rows.specs.Store.{settled-lone}

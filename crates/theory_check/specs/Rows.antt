@@ -149,13 +149,7 @@ module _ {img : List ℕ} where
   }
   is (aggregate {s = s} {holder = holder} {r = r} h l p) =
       let same = is-agg s holder h r (is p .plain refl) in
-      record {
-        long = h .node .long;
-        plain = λ _. same;
-        root = λ _. same;
-        shape = λ _ _ _. one refl;
-        top = λ _. refl;
-      }
+      record { long = h .node .long; plain = λ _. same; root = λ _. same; shape = λ _ _ _. one refl; top = λ _. refl }
   is (empty {s = s} e) = record { plain = λ _. none-left s e; pair = λ _ t. absurd (omega (arith, pair-long s t)) }
   is (next {s = s} {a = a} {r = r} l h p q) =
       let i = is p in

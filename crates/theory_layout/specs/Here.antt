@@ -7,8 +7,7 @@ use native.Mathlib.Omega.{arith}
 use lib.ListN.{length, getD, take, drop}
 use lib.Dec.{eqb}
 use Rattle.model.specs.Limits.{mostPages, pageSize, capacity}
-use Rattle.model.specs.Row.{Row, nil, agg, lit, rec, store, size, base, recordSize, Held, recordPage}
-use Rattle.model.specs.Row.{count, Config, recordOn}
+use Rattle.model.specs.Row.{Row, nil, agg, lit, rec, store, size, base, recordSize, Held, recordPage, count, Config, recordOn}
 use Rattle.model.specs.Reading.{Reads, twoAt, pageOf, sizeAt, nameAt, usedAt, backAt, stateAt, kindAt, headAt}
 use Rattle.theory_rows.specs.Fits.{Fits, HeadFits}
 use Rattle.theory_rows.specs.Image.{Stored}
@@ -18,8 +17,7 @@ use Rattle.theory_decoding.specs.Decode.{two-bytes, in-trailer, used-page, stor
 use Rattle.theory_decoding.specs.Reading.{reads-valid, reads-length}
 use Rattle.theory_places.specs.Order.{lone-root}
 use Rattle.theory_row_bytes.specs.RowAt.{RowAt, first-node, kindOf, headOf, sizeOf, bodyOf, nameOf, kidsOf, restOf, record-row, record-first, page-record}
-use Rattle.theory_row_bytes.specs.RowAt.{no-head}
-use Rattle.theory_row_bytes.specs.RowAt.{byte-on, number-on}
+use Rattle.theory_row_bytes.specs.RowAt.{no-head, byte-on, number-on}
 
 -- How far records are nested below a row.
 abbrev pub nesting : Row → ℕ

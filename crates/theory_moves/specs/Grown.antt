@@ -16,7 +16,7 @@ use Rattle.model.specs.declared.Place.{Place}
 use Rattle.theory_rows.specs.Fits.{Fits}
 use Rattle.theory_rows.specs.Laws.{cond-case}
 use Rattle.theory_insert_point.specs.Chain.{Spot, fill, Chain, top, below, lastPage, lastSettled, rise}
-use Rattle.theory_moves.specs.Stands.{Bare, bare-width, bare-place, Inner, inner-place, inner-rec, inner-left}
+use Rattle.theory_moves.specs.Bare.{Bare, bare-width, bare-place, Inner, inner-place, inner-rec, inner-left}
 use Rattle.theory_moves.specs.Moved.{both-case, movedRecord, separator-bare, separator-inner}
 use Rattle.theory_moves.specs.Way.{up, upward, inner-spot}
 

@@ -1,4 +1,4 @@
-pub mod Stands
+pub mod Bare
 pub mod Moved
 pub mod Way
 pub mod Grown

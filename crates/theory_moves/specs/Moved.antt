@@ -17,8 +17,8 @@ use Rattle.model.specs.declared.Place.{Place}
 use Rattle.theory_rows.specs.Fits.{Fits}
 use Rattle.theory_rows.specs.Laws.{size-⊹, ⊹-nil, ⊹-assoc, cond-case, isNil-nil}
 use Rattle.theory_rows.specs.Bound.{stops-false}
-use Rattle.theory_moves.specs.Stands.{Bare, bare-width, bare-place, BarePart, inFirst, inSecond, bare-split, Inner, inner-width, inner-place}
-use Rattle.theory_moves.specs.Stands.{inner-left, inner-right, inner-split}
+use Rattle.theory_moves.specs.Bare.{Bare, bare-width, bare-place, BarePart, inFirst, inSecond, bare-split, Inner, inner-width, inner-place}
+use Rattle.theory_moves.specs.Bare.{inner-left, inner-right, inner-split}
 
 -- Two choices by one test.
 pub both-case {ℓ κ} : {A : Type ℓ} {B : Type κ} (P : A → B → Type 0) (b : Bool) {x y : A} {u v : B} → (b ≡ true → P x u) → (b ≡ false → P y v)

@@ -19,7 +19,7 @@ use Rattle.theory_insert_point.specs.Chain.{Spot, here, inside, fill, before, C
 use Rattle.theory_insert_point.specs.Taking.{Taking, taking, wholeOf, taking-whole, risen, grow-rises}
 use Rattle.theory_insert_point.specs.Steady.{taking-lone}
 use Rattle.theory_insert_point.specs.Fit.{chain-fits}
-use Rattle.theory_moves.specs.Stands.{Bare, bare-width, bare-place, Inner, inner-place}
+use Rattle.theory_moves.specs.Bare.{Bare, bare-width, bare-place, Inner, inner-place}
 use Rattle.theory_moves.specs.Moved.{both-case}
 use Rattle.theory_moves.specs.Way.{up, wayOf, bare-spot, inner-spot, taking-up}
 use Rattle.theory_moves.specs.Grown.{rise-inner, grownPlace, Rooted, rise-grown}

@@ -13,7 +13,7 @@ use Rattle.model.specs.declared.Place.{Place}
 use Rattle.theory_rows.specs.Laws.{width-⊹, isNil-nil}
 use Rattle.theory_insert_point.specs.Chain.{Spot, here, inside, fill, before, past, into, Chain, top, below}
 use Rattle.theory_insert_point.specs.Taking.{Taking, takingAt, takingAfter, takingChild, takingIn, taking}
-use Rattle.theory_moves.specs.Stands.{Bare, bare-right, Inner, inner-right}
+use Rattle.theory_moves.specs.Bare.{Bare, bare-right, Inner, inner-right}
 
 -- An index in a row, and the path down from there.
 abbrev pub Way : Type 0

@@ -9,8 +9,7 @@ use borrow.Author.Tests.{ltb-true, ltb-false}
 use lib.ListN.{length, take, drop}
 use lib.Dec.{ltb}
 use Rattle.model.specs.Limits.{pageSize, capacity}
-use Rattle.model.specs.Row.{Row, nil, agg, lit, rec, size, base, image, Config}
-use Rattle.model.specs.Row.{recordOn}
+use Rattle.model.specs.Row.{Row, nil, agg, lit, rec, size, base, image, Config, recordOn}
 use Rattle.model.specs.Tree.{Tree, _⊞_, shown, breadth, width, Node, below, further, nodeAt, named, placeAt, placeOf}
 use Rattle.model.specs.declared.Place.{Place}
 use Rattle.model.specs.Reading.{pageOf}

@@ -151,11 +151,7 @@ module _ (st : Config) (k : Ranges st) where
       let w = counted st (o .0) (o .1) in
       let b = split-good st k q (o .0) w f (leb-false (recordSize (o .0)) capacity t) m h in
       let z = separator-lone st q (o .0) w e in
-      record {
-        fits = (record { fits = rw z (omega (arith, b .small)); shape = one z }, b .fits, g);
-        grown = omega arith;
-        keeps = omega arith;
-      })
+      record { fits = (record { fits = rw z (omega (arith, b .small)); shape = one z }, b .fits, g); grown = omega arith; keeps = omega arith })
   close-good q false rest o g f a h m =
       cond-case (Closed rest) (leb (recordSize (o .0)) capacity)
       (λ t. record { fits = (record { fits = leb-true (recordSize (o .0)) capacity t; shape = a }, f, g); grown = omega arith; keeps = omega arith })

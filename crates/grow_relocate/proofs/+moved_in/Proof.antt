@@ -8,7 +8,7 @@ use Prim.Native.Nat.{ℕ, _+_, _-_, _<_, _≤_}
 use borrow.Fn.Kinds.{In}
 use borrow.Fn.PlainCycle.{Measures, is, falls, and}
 use Rattle.base_layout.specs.Growing.{tolerance-of}
-use Rattle.grow_split_point.specs.Stands.{first-low}
+use Rattle.grow_split_point.specs.Kids.{first-low}
 use Rattle.grow_split_point.specs.Level.{left-bytes, inner-fits}
 use Rattle.grow_split.specs.Separate.{L, at-x, x-fits}
 use Rattle.grow_relocate.specs.Went.{turned, left-span, right-span, rest-span, next-env, next-sep, left-marked, inner-marked}

@@ -8,7 +8,7 @@ use Prim.Native.Nat.{ℕ, _+_, _-_, _<_, _≤_}
 use borrow.Fn.Kinds.{In}
 use borrow.Fn.PlainCycle.{Measures, is, falls, and}
 use Rattle.base_layout.specs.Growing.{tolerance-of}
-use Rattle.grow_split_point.specs.Stands.{first-low}
+use Rattle.grow_split_point.specs.Kids.{first-low}
 use Rattle.grow_split_point.specs.Level.{inner-fits}
 use Rattle.grow_split.specs.Separate.{at-x, x-fits, left-group, left-end, env-left, right-group, done-apart}
 use Rattle.grow_split.specs.Separate.{header-room, inner-sep, inner-room, env-inner, rest-group, done-inside}

@@ -5,8 +5,7 @@ use lib.ListN.{length, length-take}
 use lib.Seq.{length-take-le}
 use mathlib.Core.Path.{sym}
 use Prim.Native.Nat.{_-_}
-use Rattle.grow_split.specs.Severed.{large-long, stays-lone, drops-helper, lone-room, helper-room, large-sep}
-use Rattle.grow_split.specs.Severed.{end-small, done-lone, done-helper}
+use Rattle.grow_split.specs.Severed.{large-long, stays-lone, drops-helper, lone-room, helper-room, large-sep, end-small, done-lone, done-helper}
 use borrow.Author.Needs.{needs}
 use Rattle.grow_split.proofs.separator.Statement.{statement}
 use Rattle.grow_split.proofs.separator.Tie as tie

@@ -4,7 +4,7 @@ use mathlib.Core.Logic.{inl, inr, ⊎-elim}
 use Prim.Native.Nat.{ℕ, _+_, _-_}
 use native.Mathlib.Omega.{arith}
 use borrow.Author.Tests.{lt-ltb}
-use Rattle.grow_split_point.specs.Stands.{first-fits}
+use Rattle.grow_split_point.specs.Kids.{first-fits}
 use Rattle.model.specs.Row.{size}
 use Rattle.grow_split_point.specs.Chosen.{passed}
 use Rattle.grow_split_point.specs.Search.{not-next, SeeksChild, child-on, child-here}

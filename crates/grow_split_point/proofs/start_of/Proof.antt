@@ -7,7 +7,7 @@ use borrow.Author.Needs.{needs}
 use borrow.Author.Tests.{lt-ltb}
 use Rattle.model.specs.Row.{Config}
 use Rattle.model.specs.Growth.{startOf}
-use Rattle.grow_split_point.specs.Stands.{first-low, first-fits}
+use Rattle.grow_split_point.specs.Kids.{first-low, first-fits}
 use Rattle.grow_split_point.specs.Search.{SeeksD, withTolerance, next-step, into-step, here-step, not-next, not-into, by-byte}
 use Rattle.grow_split_point.proofs.start_of.Statement.{statement}
 use Rattle.grow_split_point.proofs.start_of.Tie as tie

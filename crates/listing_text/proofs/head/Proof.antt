@@ -7,9 +7,6 @@ use Rattle.listing_text.specs.Digits.{head-long}
 use Rattle.listing_text.proofs.head.Statement.{statement}
 use Rattle.listing_text.proofs.head.Tie as tie
 
-slice-aggregate-words : tie.Need-slice-aggregate-words
-slice-aggregate-words c = search needs
-
 words-requires : tie.Need-words-requires
 words-requires c κs =
     record {
@@ -25,9 +22,6 @@ decimal-requires c κs =
     let c7 = c .before .before .before .before .before .before .before in
     record { fits = omega (arith, head-long (c7 .args .pages) (c7 .args .free) (c7 .args .records)) }
 
-slice-aggregate-words-2 : tie.Need-slice-aggregate-words-2
-slice-aggregate-words-2 c = search needs
-
 words-requires-2 : tie.Need-words-requires-2
 words-requires-2 c κs =
     let c12 = c .before .before .before .before .before .before .before .before .before .before .before .before in
@@ -37,9 +31,6 @@ decimal-requires-2 : tie.Need-decimal-requires-2
 decimal-requires-2 c κs =
     let c16 = c .before .before .before .before .before .before .before .before .before .before .before .before .before .before .before .before in
     record { fits = omega (arith, head-long (c16 .args .pages) (c16 .args .free) (c16 .args .records)) }
-
-slice-aggregate-words-3 : tie.Need-slice-aggregate-words-3
-slice-aggregate-words-3 c = search needs
 
 words-requires-3 : tie.Need-words-requires-3
 words-requires-3 c κs =
@@ -90,5 +81,5 @@ returns c =
 pub head-spec : {M : Type 1} → statement M
 head-spec =
     tie.close
-    (tie.spec slice-aggregate-words words-requires decimal-requires slice-aggregate-words-2 words-requires-2 decimal-requires-2 slice-aggregate-words-3
+    (tie.spec (λ c. search needs) words-requires decimal-requires (λ c. search needs) words-requires-2 decimal-requires-2 (λ c. search needs)
     words-requires-3 decimal-requires-3 put-requires same-length returns)

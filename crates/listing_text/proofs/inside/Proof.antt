@@ -4,25 +4,10 @@ use Rattle.listing_text.specs.Lined.{inside-aggregate, inside-proxy, ins
 use Rattle.listing_text.proofs.inside.Statement.{statement}
 use Rattle.listing_text.proofs.inside.Tie as tie
 
-shared-slice-read-if1 : tie.Need-shared-slice-read-if1
-shared-slice-read-if1 c = search needs
-
-add-t11 : tie.Need-add-t11
-add-t11 c = search needs
-
-add-t12 : tie.Need-add-t12
-add-t12 c = search needs
-
 returns : tie.Need-returns
 returns c =
     inside-aggregate (c .before .before .before .args .image .now) (c .before .before .before .args .i) (c .before .before .before .args .next)
     (c .before .before .before .args .level) (c .if1 .taken)
-
-shared-slice-read-if2 : tie.Need-shared-slice-read-if2
-shared-slice-read-if2 c = search needs
-
-name-at-requires : tie.Need-name-at-requires
-name-at-requires c κs = search needs
 
 row-start-requires : tie.Need-row-start-requires
 row-start-requires c κs =
@@ -49,4 +34,5 @@ returns-3 c =
 pub inside-spec : {M : Type 1} → statement M
 inside-spec =
     tie.close
-    (tie.spec shared-slice-read-if1 add-t11 add-t12 returns shared-slice-read-if2 name-at-requires row-start-requires row-end-requires returns-2 returns-3)
+    (tie.spec (λ c. search needs) (λ c. search needs) (λ c. search needs) returns (λ c. search needs) (λ c κs. search needs) row-start-requires
+    row-end-requires returns-2 returns-3)

@@ -7,13 +7,10 @@ use Rattle.theory_check.specs.Exact.{exact}
 use Rattle.listing_text.proofs.number.Statement.{statement}
 use Rattle.listing_text.proofs.number.Tie as tie
 
-check-requires : tie.Need-check-requires
-check-requires c κs = search needs
-
 returns : tie.Need-returns
 returns c = c .check .ensures ∙ exact (now (c .before .before .args .image)) (λ i. omega (arith, c .before .shared-slice-known .given i))
 
 pub number-spec : {M : Type 1} → statement M
 number-spec =
     tie.close
-    (tie.spec check-requires returns)
+    (tie.spec (λ c κs. search needs) returns)

@@ -15,15 +15,6 @@ shared-slice-read-if1 c =
     let c4 = c .before .before .before .before in
     omega (arith, node-fits (c4 .pre .0))
 
-sub-line : tie.Need-sub-line
-sub-line c = search needs
-
-part-line-start : tie.Need-part-line-start
-part-line-start c = search needs
-
-part-line-end : tie.Need-part-line-end
-part-line-end c = search needs
-
 line-requires : tie.Need-line-requires
 line-requires c κs =
     let c4 = c .before .before .before .before in
@@ -90,5 +81,6 @@ returns-3 c =
 pub own-spec : {M : Type 1} → statement M
 own-spec =
     tie.close
-    (tie.spec label-at-requires shared-slice-read-if1 sub-line part-line-start part-line-end line-requires same-length returns shared-slice-read-if2 add-a
+    (tie.spec label-at-requires shared-slice-read-if1 (λ c. search needs) (λ c. search needs) (λ c. search needs) line-requires same-length returns
+    shared-slice-read-if2 add-a
     sub-line-2 part-line-start-2 part-line-end-2 line-requires-2 same-length-2 returns-2 returns-3)

@@ -7,9 +7,6 @@ use Rattle.listing_text.specs.Whole.{over-printed, listing-printed, refu
 use Rattle.listing_text.proofs.print.Statement.{statement}
 use Rattle.listing_text.proofs.print.Tie as tie
 
-slice-aggregate-words : tie.Need-slice-aggregate-words
-slice-aggregate-words c = search needs
-
 words-requires : tie.Need-words-requires
 words-requires c κs =
     let c5 = c .before .before .before .before .before in
@@ -22,12 +19,6 @@ returns : tie.Need-returns
 returns c =
     let c5 = c .before .before .before .before .before in
     same-text (over-printed _ (c5 .if1 .taken)) (c .before .before .words .ensures)
-
-number-requires : tie.Need-number-requires
-number-requires c κs = search needs
-
-cast-refused : tie.Need-cast-refused
-cast-refused c = search needs
 
 refused-requires : tie.Need-refused-requires
 refused-requires c κs =
@@ -60,5 +51,6 @@ returns-3 c =
 pub print-spec : {M : Type 1} → statement M
 print-spec =
     tie.close
-    (tie.spec slice-aggregate-words words-requires same-length returns number-requires cast-refused refused-requires same-length-2 returns-2 listing-requires
+    (tie.spec (λ c. search needs) words-requires same-length returns (λ c κs. search needs) (λ c. search needs) refused-requires same-length-2 returns-2
+    listing-requires
     same-length-3 returns-3)

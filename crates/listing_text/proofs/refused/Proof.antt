@@ -7,9 +7,6 @@ use Rattle.listing_text.specs.Digits.{refused-long}
 use Rattle.listing_text.proofs.refused.Statement.{statement}
 use Rattle.listing_text.proofs.refused.Tie as tie
 
-slice-aggregate-words : tie.Need-slice-aggregate-words
-slice-aggregate-words c = search needs
-
 words-requires : tie.Need-words-requires
 words-requires c κs = record { fits = omega (arith, refused-long (c .before .before .before .args .number)) }
 
@@ -39,4 +36,4 @@ returns c =
 pub refused-spec : {M : Type 1} → statement M
 refused-spec =
     tie.close
-    (tie.spec slice-aggregate-words words-requires decimal-requires put-requires same-length returns)
+    (tie.spec (λ c. search needs) words-requires decimal-requires put-requires same-length returns)
