@@ -70,7 +70,8 @@ static inline void make_full(uint8_t *image, unsigned pages) {
     }
 }
 
-/* A chain of helper records, each with a proxy to the next, filled by fill(at, bytes left, page), which gives how many bytes it wrote: records nested as deep as can be. */
+/* A chain of helper records, each with a proxy to the next, filled by fill(at, bytes left, page), which gives how many
+ * bytes it wrote: records nested as deep as can be. */
 static inline void make_chain(uint8_t *image, unsigned pages, unsigned (*fill)(uint8_t *, unsigned, unsigned)) {
     memset(image, 0, (size_t)pages * 4096);
     put_settings(image, pages);

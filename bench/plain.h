@@ -64,7 +64,8 @@ static unsigned plain_check(const uint8_t *image, size_t len) {
     if (get16(image) != c.pages || image[2] < 64 || image[2] > 192 || image[3] || get16(image + 4) > 512 || get16(image + 6) != 1) return 3;
     for (int i = 16; i < 272; i++)
         if (image[i] != 0 && image[i] != 2) return 3;
-    if (!plain_zero(image + 8, 8) || !plain_zero(image + 272, 3808) || get16(image + 4080) != 2 || get16(image + 4082) != 272 || !plain_zero(image + 4084, 12)) return 3;
+    if (!plain_zero(image + 8, 8) || !plain_zero(image + 272, 3808) || get16(image + 4080) != 2 ||
+        get16(image + 4082) != 272 || !plain_zero(image + 4084, 12)) return 3;
     for (unsigned q = 1; q < c.pages; q++) {
         const uint8_t *p = image + 4096u * q;
         if (p[4080] == 0) {

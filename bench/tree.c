@@ -144,7 +144,8 @@ static void tree(uint8_t *image, size_t pages, uint8_t *copy) {
     if (nl_format(image, len, (uint32_t)pages, 128, 409, 1, matrix, 256, 7)) fail("format");
     for (uint32_t i = 0; i < NODES; i++) {
         path_of(parents[i], path);
-        if (nl_insert(image, len, path, parents[i] ? 4 : 0, places[i], parents[i] ? NL_LITERAL : NL_AGGREGATE, 9, content, parents[i] ? 60 : 0, answer, &lean)) fail("insert");
+        if (nl_insert(image, len, path, parents[i] ? 4 : 0, places[i], parents[i] ? NL_LITERAL : NL_AGGREGATE, 9, content, parents[i] ? 60 : 0, answer,
+                      &lean)) fail("insert");
     }
     t[0][0] = now() - a;
     a = now();
@@ -166,7 +167,8 @@ static void tree(uint8_t *image, size_t pages, uint8_t *copy) {
         sqlite3_int64 parent = 1 + (sqlite3_int64)parents[i];
         sqlite3_bind_int64(move, 1, parent), sqlite3_bind_int64(move, 2, places[i]), run(move);
         sqlite3_bind_int64(put, 1, 2 + (sqlite3_int64)i), sqlite3_bind_int64(put, 2, parent), sqlite3_bind_int64(put, 3, places[i]);
-        sqlite3_bind_int(put, 4, parents[i] ? 2 : 1), sqlite3_bind_int(put, 5, 9), sqlite3_bind_blob(put, 6, content, parents[i] ? 60 : 0, SQLITE_STATIC), run(put);
+        sqlite3_bind_int(put, 4, parents[i] ? 2 : 1), sqlite3_bind_int(put, 5, 9),
+            sqlite3_bind_blob(put, 6, content, parents[i] ? 60 : 0, SQLITE_STATIC), run(put);
     }
     sqlite3_exec(db, "commit", NULL, NULL, NULL);
     t[0][2] = now() - a;
@@ -182,7 +184,8 @@ static void tree(uint8_t *image, size_t pages, uint8_t *copy) {
     for (count = 0, at = 4096; at; count++) at = plain_next(image, len, at);
     t[1][1] = now() - a;
     if (count != NODES + 1) fail("the plain walk is short");
-    sqlite3_stmt *walk = stmt("with recursive t(id, path) as (select 1, '' union all select n.id, t.path || printf('%08x', n.pos) from node n join t on n.parent = t.id) "
+    sqlite3_stmt *walk = stmt("with recursive t(id, path) as (select 1, '' union all select n.id, "
+                             "t.path || printf('%08x', n.pos) from node n join t on n.parent = t.id) "
                               "select n.id, n.content from t join node n on n.id = t.id order by t.path");
     a = now();
     for (count = 0; sqlite3_step(walk) == SQLITE_ROW; count++) sink += (uint64_t)sqlite3_column_int64(walk, 0);
@@ -212,7 +215,8 @@ static void tree(uint8_t *image, size_t pages, uint8_t *copy) {
     }
     const char *names[] = {"build 10,000 nodes", "walk them in order", "look up 1,000 paths"};
     puts("\nmilliseconds             library   plain C    SQLite  library/plain  library/SQLite");
-    for (int i = 0; i < 3; i++) printf("%-20s %11.1f %9.1f %9.1f %14.2f %15.2f\n", names[i], 1e3 * t[i][0], 1e3 * t[i][1], 1e3 * t[i][2], t[i][0] / t[i][1], t[i][0] / t[i][2]);
+    for (int i = 0; i < 3; i++)
+        printf("%-20s %11.1f %9.1f %9.1f %14.2f %15.2f\n", names[i], 1e3 * t[i][0], 1e3 * t[i][1], 1e3 * t[i][2], t[i][0] / t[i][1], t[i][0] / t[i][2]);
 }
 
 int main(void) {

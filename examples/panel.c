@@ -43,7 +43,8 @@ static int find_and_climb(void) {
         return 1;
     if (refused("climb", nl_climb(image, sizeof image, place[0], place[1], path, sizeof path, &written)))
         return 1;
-    printf("child 1 stands on page %u at byte %u; its path has %u bytes and begins with %u\n", (unsigned)place[0], (unsigned)place[1], (unsigned)written, path[0]);
+    printf("child 1 stands on page %u at byte %u; its path has %u bytes and begins with %u\n", (unsigned)place[0], (unsigned)place[1],
+           (unsigned)written, path[0]);
     return 0;
 }
 

@@ -44,7 +44,8 @@ def some_call(rng, entries):
     if kind < 5:
         content = bytes([rng.randrange(256)]) * rng.choice((0, 0, 1, 6, 100, 519, 520, 521, 600))
         child = rng.choice((0, 0, 1, rng.randrange(8), some_number(rng)))
-        return "insert %s %d %d 0 %d %s" % (ref.to_hex(made.some_path(rng, entries)), child, rng.choice((1, 1, 2, 2, 2, 0, 3, 258)), rng.choice((0, 7, 15, 65535)), ref.to_hex(content))
+        return "insert %s %d %d 0 %d %s" % (ref.to_hex(made.some_path(rng, entries)), child, rng.choice((1, 1, 2, 2, 2, 0, 3, 258)),
+                                                rng.choice((0, 7, 15, 65535)), ref.to_hex(content))
     if kind < 8:
         return "find " + ref.to_hex(made.some_path(rng, entries))
     if kind < 11:
@@ -58,7 +59,8 @@ def some_call(rng, entries):
     if kind < 19:
         return "check"
     matrix = bytearray(b"\x02" * rng.choice((256, 256, 255, 0)))
-    return "format %d %d %d %d %s %d" % (rng.choice((2, 3, 4, some_number(rng))), rng.choice((64, 128, 192, some_number(rng))), rng.choice((0, 409, some_number(rng))),
+    return "format %d %d %d %d %s %d" % (rng.choice((2, 3, 4, some_number(rng))), rng.choice((64, 128, 192, some_number(rng))),
+                                             rng.choice((0, 409, some_number(rng))),
                                          rng.choice((1, 1, 0, 65537)), ref.to_hex(matrix), rng.choice((7, 65535)))
 
 

@@ -51,7 +51,8 @@ def chain():
 
 def empties():
     image = formatted(3, 0)
-    for child, (kind, label, content) in enumerate([(LITERAL, 256, b""), (AGGREGATE, 65535, b""), (LITERAL, 9, b"\0"), (LITERAL, 10, b""), (LITERAL, 0, b"\xff")]):
+    for child, (kind, label, content) in enumerate([(LITERAL, 256, b""), (AGGREGATE, 65535, b""), (LITERAL, 9, b"\0"), (LITERAL, 10, b""),
+                                                   (LITERAL, 0, b"\xff")]):
         put(image, (), child, kind, label, content)
     return image
 
@@ -66,7 +67,8 @@ def grown(pages, seed, **settings):
         parent = chance.choice(parents)
         kind = chance.choice([AGGREGATE, LITERAL, LITERAL])
         content = chance.randbytes(chance.choice([0, 3, 40, 520])) if kind == LITERAL else b""
-        answer = reference.insert(image, path(*parent.path), chance.randint(0, parent.children), kind, chance.randrange(1 << chance.choice([3, 8, 16])), content)
+        answer = reference.insert(image, path(*parent.path), chance.randint(0, parent.children), kind, chance.randrange(1 << chance.choice([3, 8, 16])),
+                                  content)
         if answer[0] == reference.FULL:
             return image
 
@@ -76,7 +78,8 @@ def full():
     def aggregates(room):
         return [reference.Node(AGGREGATE, 65535) for _ in range(room // reference.HEADER)]
 
-    records = {page: reference.Record(page, False, reference.Node(reference.HELPER, children=aggregates(reference.CAPACITY - reference.HEADER))) for page in range(2, 15)}
+    records = {page: reference.Record(page, False, reference.Node(reference.HELPER, children=aggregates(reference.CAPACITY - reference.HEADER)))
+               for page in range(2, 15)}
     proxies = [reference.Node(reference.PROXY, record=record) for record in records.values()]
     root = reference.Node(AGGREGATE, 65535, children=proxies + aggregates(reference.CAPACITY - reference.HEADER - 8 * len(proxies)))
     records[1] = reference.Record(1, True, root)

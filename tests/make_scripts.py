@@ -116,7 +116,8 @@ def formats(rng, out):
     matrix = bytearray(b"\x02" * rng.choice((256, 256, 256, 255, 257, 0)))
     if matrix and rng.random() < 0.5:
         matrix[rng.randrange(len(matrix))] = rng.choice((0, 1, 2, 3, 255))
-    numbers = (rng.choice((pages, pages, pages, pages + 1, 65536 + pages)), rng.choice((63, 64, 128, 192, 193, 128 + 256)), rng.choice((0, 409, 512, 513, 65536)),
+    numbers = (rng.choice((pages, pages, pages, pages + 1, 65536 + pages)), rng.choice((63, 64, 128, 192, 193, 128 + 256)),
+               rng.choice((0, 409, 512, 513, 65536)),
                rng.choice((1, 1, 1, 0, 2, 257)))
     ask("format %d %d %d %d %s %d" % (numbers + (ref.to_hex(matrix), rng.choice((0, 7, 65535)))), image, out)
 

@@ -24,4 +24,5 @@ if [ -n "${MEMCHECK:-}" ]; then under=(valgrind --quiet --error-exitcode=3); fi
 for seed in 1 2 3 4; do
     python3 -B "tests/make_$kind.py" "$seed" $((count / 4)) | "${under[@]}" "$replay" /dev/stdin | tee -a "target/$kind.log"
 done
-awk -v kind="$kind" '/ calls, / { calls += $2; differences += $4 } END { print kind ": " calls " calls compared, " differences " differences" }' "target/$kind.log"
+awk -v kind="$kind" '/ calls, / { calls += $2; differences += $4 } 
+    END { print kind ": " calls " calls compared, " differences " differences" }' "target/$kind.log"

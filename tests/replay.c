@@ -25,7 +25,8 @@ static void make_crc(void) {
 static uint32_t crc(const uint8_t *p, size_t n) {
     uint32_t c = 0xFFFFFFFFu;
     for (; n >= 8; n -= 8, p += 8)
-        c = crc_table[7][(c ^ p[0]) & 255] ^ crc_table[6][(c >> 8 ^ p[1]) & 255] ^ crc_table[5][(c >> 16 ^ p[2]) & 255] ^ crc_table[4][(c >> 24 ^ p[3]) & 255] ^
+        c = crc_table[7][(c ^ p[0]) & 255] ^ crc_table[6][(c >> 8 ^ p[1]) & 255] ^ crc_table[5][(c >> 16 ^ p[2]) & 255] ^
+            crc_table[4][(c >> 24 ^ p[3]) & 255] ^
             crc_table[3][p[4]] ^ crc_table[2][p[5]] ^ crc_table[1][p[6]] ^ crc_table[0][p[7]];
     for (; n; n--, p++) c = crc_table[0][(c ^ *p) & 255] ^ (c >> 8);
     return c ^ 0xFFFFFFFFu;

@@ -33,7 +33,8 @@ pub fn first_free(used: &[u8; Settings::PAGES], pages: usize, from: usize) -> us
 
 // Writes a record with its trailer to a page.
 pub fn put_record(image: &mut [u8], page: usize, content: &[u8], settled: usize, holder: usize)
-    requires { ⌜ (page < mostPages) × ((pageSize * page + pageSize ≤ length (now image)) × ((length (now content) ≤ capacity) × ((settled ≤ 1) × (holder < mostPages)))) ⌝ }
+    requires { ⌜ (page < mostPages) × ((pageSize * page + pageSize ≤ length (now image)) × ((length (now content) ≤ capacity) × ((settled ≤ 1)
+        × (holder < mostPages)))) ⌝ }
     ensures { λ _. ⌜ now (image .exit) ≡ setPage page (pageBytesOf (now (content .entry)) settled holder) (now (image .entry)) ⌝ }
 {
     let base = Settings::PAGE * page;

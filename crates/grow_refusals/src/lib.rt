@@ -88,7 +88,8 @@ pub fn admit(
     requires { ⌜ (checkOf (now image) ≡ 0) × Widths (now image) (now widths) ⌝ }
     ensures { λ r. ⌜ ((st : Config) (root : Row) → Reads (now (image .entry)) st root → (label : ℕ)
         → r .number ≡ insertNumber (shown root) (now (path .entry)) child (newOf kind label (now (content .entry))) false) ⌝ }
-    ensures { λ r. ⌜ (r .number ≡ 0 → r .parent ≡ pageSize * findOf (now (image .entry)) (now (path .entry)) .place .page + findOf (now (image .entry)) (now (path .entry)) .place .offset) ⌝ }
+    ensures { λ r. ⌜ (r .number ≡ 0 → r .parent ≡ pageSize * findOf (now (image .entry)) (now (path .entry)) .place .page
+        + findOf (now (image .entry)) (now (path .entry)) .place .offset) ⌝ }
     ensures { λ r. ⌜ (r .number ≡ 0 → LeftAt (now (image .entry)) (r .parent) child (r .left)) ⌝ }
 {
     if Settings::PARENT_PATH < path.len() {

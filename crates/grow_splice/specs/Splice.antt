@@ -82,7 +82,8 @@ whole (inside (rec p t r left) h rest s) a b k = whole-apart (inside (rec p t r 
 
 -- ── the place ──
 
--- A record l; the row `old`, of `gone` bytes, stands in it at the byte pos, in the node at par, and `tail` after it; the row `put`, whose bytes are new, is to take its place.
+-- A record l; the row `old`, of `gone` bytes, stands in it at the byte pos, in the node at par, and `tail` after it; the row `put`, whose bytes are new,
+-- is to take its place.
 pub record Place (l : List ℕ) (pos par gone : ℕ) (new : List ℕ) : Type 0 where
   pub spot : Spot
   pub old : Row

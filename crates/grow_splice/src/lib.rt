@@ -31,7 +31,8 @@ pub fn grow(s: &mut [u8], par: usize, n: usize)
 
 // Writes to the front of out the record rec with new in the place of the `gone` bytes from `at`, in the node at par, and gives its length.
 pub fn splice(rec: &[u8], at: usize, par: usize, gone: usize, new: &[u8], out: &mut [u8]) -> usize
-    requires { ⌜ Place (now rec) at par gone (now new) × ((gone ≤ length (now new)) × ((length (now rec) + length (now new) ≤ length (now out) + gone) × (length (now rec) + length (now new) < 65536 + gone))) ⌝ }
+    requires { ⌜ Place (now rec) at par gone (now new) × ((gone ≤ length (now new)) × ((length (now rec) + length (now new) ≤ length (now out) + gone)
+        × (length (now rec) + length (now new) < 65536 + gone))) ⌝ }
     ensures { λ r. ⌜ ((w : Place (now (rec .entry)) at par gone (now (new .entry)))
         → (r ≡ recordSize (spliced (now (rec .entry)) at par gone (now (new .entry)) w))
         × (now (out .exit) ≡ over 0 (recordBytes (spliced (now (rec .entry)) at par gone (now (new .entry)) w)) (now (out .entry)))) ⌝ }

@@ -15,7 +15,8 @@ fn more() -> bool {
     io::read_full(0, &mut rest) == 65536
 }
 
-// Reads the rest of a long input, so that whoever writes it to a pipe is not stopped. A proved loop has to end: it counts down from a number that no input uses up.
+// Reads the rest of a long input, so that whoever writes it to a pipe is not stopped. A proved loop has to end: it counts down from a number that no
+// input uses up.
 fn drain() {
     let mut turns = u64::MAX;
     while turns > 0 && more() {

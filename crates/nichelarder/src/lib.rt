@@ -64,7 +64,8 @@ pub extern "C" fn nl_insert(
     lean: &mut i32,
 ) -> u32
     ensures number { λ r. ⌜ r ≡ insertOf (now (image .entry)) (now (parent .entry)) child kind label (now (content .entry)) .0 .number ⌝ }
-    ensures answer { λ _. ⌜ now (answer .exit) ≡ insertNumbers (insertOf (now (image .entry)) (now (parent .entry)) child kind label (now (content .entry)) .0) ⌝ }
+    ensures answer { λ _. ⌜ now (answer .exit)
+        ≡ insertNumbers (insertOf (now (image .entry)) (now (parent .entry)) child kind label (now (content .entry)) .0) ⌝ }
     ensures lean { λ _. ⌜ now (lean .exit) ≡ insertOf (now (image .entry)) (now (parent .entry)) child kind label (now (content .entry)) .0 .lean ⌝ }
     ensures image { λ _. ⌜ now (image .exit) ≡ insertOf (now (image .entry)) (now (parent .entry)) child kind label (now (content .entry)) .1 ⌝ }
 {

@@ -98,7 +98,8 @@ fn climb_path(
     path: &mut [u8; Settings::PATH],
 ) -> usize
     requires { ⌜ NodeAt (now image) pos × Widths (now image) (now widths) × (length (now path) ≡ longestPath) ⌝ }
-    ensures { λ r. ⌜ ((w : NodeAt (now (image .entry)) pos) → Rose (w .root) (placeAtByte pos) r (now (path .exit))) × (length (now (path .exit)) ≡ longestPath) ⌝ }
+    ensures { λ r. ⌜ ((w : NodeAt (now (image .entry)) pos) → Rose (w .root) (placeAtByte pos) r (now (path .exit))) × (length (now (path .exit))
+        ≡ longestPath) ⌝ }
 {
     let mut page = pos / Settings::PAGE;
     let mut target = pos;
@@ -135,7 +136,8 @@ pub fn climb_of(
     buffer: &mut [u8],
 ) -> WriteAnswer
     requires { ⌜ (checkOf (now image) ≡ 0) × Widths (now image) (now widths) ⌝ }
-    ensures { λ r. ⌜ (r ≡ climbOf (now (image .entry)) x (now (buffer .entry)) .0) × (now (buffer .exit) ≡ climbOf (now (image .entry)) x (now (buffer .entry)) .1) ⌝ }
+    ensures { λ r. ⌜ (r ≡ climbOf (now (image .entry)) x (now (buffer .entry)) .0) × (now (buffer .exit)
+        ≡ climbOf (now (image .entry)) x (now (buffer .entry)) .1) ⌝ }
 {
     let pos = node_at(image, x.page, x.offset);
     if pos == 0 {

@@ -1,4 +1,5 @@
--- Inserts on images: the pages of a valid store's image are a memory that growth works on, and bytes whose pages are what growth leaves are the new store's image.
+-- Inserts on images: the pages of a valid store's image are a memory that growth works on, and bytes whose pages are what growth leaves are the new
+-- store's image.
 use mathlib.Core.Path.{_≡_, refl, sym, ap, subst, _∙_}
 use mathlib.Core.Bool.{false}
 use mathlib.Core.List.{List, [], _++_, append-assoc}

@@ -47,7 +47,8 @@ grow-requires c κs =
     cut _ _ _ _ _ (s .pre .0) _ _ (copied-front _ _ _ _ (starts s) (c .before .before .before .copy-in .ensures)) (small s)
 
 -- the buffer keeps its length
-held : (c : tie.After-copy-in-arg3) → let g = c .before .before .before in let a = g .before .before .before .before in let s = a .before .before .before .before .before .before in
+held : (c : tie.After-copy-in-arg3) → let g = c .before .before .before in let a = g .before .before .before .before in let s = a .before .before .before
+    .before .before .before in
     length (g .grow .last .0 ++ drop (s .args .at) (a .copy-in .last .1 .0)) ≡ length (s .args .out .now)
 held c =
     let g = c .before .before .before in
@@ -96,7 +97,11 @@ copy-in-requires-3 c κs =
 
 sub-result : tie.Need-sub-result
 sub-result c =
-    omega (arith, ends (c .before .before .before .before .before .before .before .before .before .before .before .before .before .before .before .before .before .before .before .before .before))
+    omega (
+      arith,
+      ends (c .before .before .before .before .before .before .before .before .before .before .before .before .before .before .before .before
+          .before .before .before .before .before),
+    )
 
 add-result : tie.Need-add-result
 add-result c = search needs

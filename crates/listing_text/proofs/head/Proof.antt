@@ -34,17 +34,20 @@ decimal-requires-2 c κs =
 
 words-requires-3 : tie.Need-words-requires-3
 words-requires-3 c κs =
-    let c21 = c .before .before .before .before .before .before .before .before .before .before .before .before .before .before .before .before .before .before .before .before .before in
+    let c21 = c .before .before .before .before .before .before .before .before .before .before .before .before .before .before .before .before .before
+    .before .before .before .before in
     record { fits = omega (arith, head-long (c21 .args .pages) (c21 .args .free) (c21 .args .records)) }
 
 decimal-requires-3 : tie.Need-decimal-requires-3
 decimal-requires-3 c κs =
-    let c25 = c .before .before .before .before .before .before .before .before .before .before .before .before .before .before .before .before .before .before .before .before .before .before .before .before .before in
+    let c25 = c .before .before .before .before .before .before .before .before .before .before .before .before .before .before .before .before .before
+    .before .before .before .before .before .before .before .before in
     record { fits = omega (arith, head-long (c25 .args .pages) (c25 .args .free) (c25 .args .records)) }
 
 put-requires : tie.Need-put-requires
 put-requires c κs =
-    let c29 = c .before .before .before .before .before .before .before .before .before .before .before .before .before .before .before .before .before .before .before .before .before .before .before .before .before .before .before .before .before in
+    let c29 = c .before .before .before .before .before .before .before .before .before .before .before .before .before .before .before .before .before
+    .before .before .before .before .before .before .before .before .before .before .before .before in
     record { fits = omega (arith, head-long (c29 .args .pages) (c29 .args .free) (c29 .args .records)) }
 
 same-length : tie.Need-same-length

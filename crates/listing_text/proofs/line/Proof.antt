@@ -33,17 +33,20 @@ put-requires-3 c κs =
 
 decimal-requires-2 : tie.Need-decimal-requires-2
 decimal-requires-2 c κs =
-    let c19 = c .before .before .before .before .before .before .before .before .before .before .before .before .before .before .before .before .before .before .before in
+    let c19 = c .before .before .before .before .before .before .before .before .before .before .before .before .before .before .before .before .before
+    .before .before in
     record { fits = omega (arith, line-long (c19 .args .level) (c19 .args .letter) (c19 .args .label) (c19 .args .bytes .now)) }
 
 put-requires-4 : tie.Need-put-requires-4
 put-requires-4 c κs =
-    let c23 = c .before .before .before .before .before .before .before .before .before .before .before .before .before .before .before .before .before .before .before .before .before .before .before in
+    let c23 = c .before .before .before .before .before .before .before .before .before .before .before .before .before .before .before .before .before
+    .before .before .before .before .before .before in
     record { fits = omega (arith, line-long (c23 .args .level) (c23 .args .letter) (c23 .args .label) (c23 .args .bytes .now)) }
 
 content-requires : tie.Need-content-requires
 content-requires c κs =
-    let c27 = c .before .before .before .before .before .before .before .before .before .before .before .before .before .before .before .before .before .before .before .before .before .before .before .before .before .before .before in
+    let c27 = c .before .before .before .before .before .before .before .before .before .before .before .before .before .before .before .before .before
+    .before .before .before .before .before .before .before .before .before .before in
     record { fits = omega (arith, line-long (c27 .args .level) (c27 .args .letter) (c27 .args .label) (c27 .args .bytes .now)) }
 
 put-requires-5 : tie.Need-put-requires-5

@@ -1,4 +1,5 @@
--- `read_find::nth`: the loop goes along the row, past records that the table lets it pass, and into the one that holds the node; in what is left the node sought stays
+-- `read_find::nth`: the loop goes along the row, past records that the table lets it pass, and into the one that holds the node; in what is left the
+-- node sought stays
 -- the same. Into a record the depth falls.
 use mathlib.Core.Path.{refl}
 use Prim.Native.Nat.{_+_, _*_, _-_, _≤_, _<_}
