@@ -15,7 +15,7 @@ use Rattle.theory_decoding.specs.Decode.{used-page}
 use Rattle.theory_layout.specs.Here.{PageIn}
 use Rattle.theory_insert_point.specs.Chain.{Spot, fill}
 use Rattle.grow_splice.specs.Spot.{at, parent}
-use Rattle.grow_splice.specs.Splice.{KeepsRoot, Place, put-for}
+use Rattle.grow_splice.specs.Splice.{KeepsRoot, Splicing, put-for}
 use Rattle.grow_replace_proxy.specs.Seek.{NamesOnce}
 use Rattle.grow_replace_proxy.specs.Inner.{Filled}
 
@@ -95,5 +95,5 @@ module _ (img : List ℕ) (holder page : ℕ) (sep : List ℕ) (w : Lift img hol
     abbrev pub filled : (pos : ℕ) → pos ≡ at (base before) (w .spot) → Filled l pos
     filled pos k = record { spot = w .spot; page = page; settled = w .settled; old = w .old; rest = w .rest; is = e; small = w .small; stands = k }
 
-    abbrev pub place : (pos par : ℕ) → pos ≡ at (base before) (w .spot) → par ≡ parent 0 (base before) (w .spot) → Place l pos par 8 sep
+    abbrev pub place : (pos par : ℕ) → pos ≡ at (base before) (w .spot) → par ≡ parent 0 (base before) (w .spot) → Splicing l pos par 8 sep
     place pos par p q = put-for (w .spot) page (w .settled) (w .old) (w .put) (w .rest) l pos par sep e p q (w .comes) (w .root)

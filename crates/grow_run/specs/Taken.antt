@@ -14,7 +14,7 @@ use Rattle.theory_rows.specs.Image.{length-record}
 use Rattle.theory_layout.specs.Here.{PageIn}
 use Rattle.theory_insert_point.specs.Chain.{Spot, fill}
 use Rattle.grow_splice.specs.Spot.{at, parent}
-use Rattle.grow_splice.specs.Splice.{KeepsRoot, Place, put-in}
+use Rattle.grow_splice.specs.Splice.{KeepsRoot, Splicing, put-in}
 use Rattle.grow_replace_proxy.specs.Lift.{page-used, page-part}
 
 -- A record stands on `page`; the bytes `new` of the row `put` go into it at `pos`, in the node at par, in front of `tail`.
@@ -49,7 +49,7 @@ module _ {img : List ℕ} {page pos par : ℕ} {new : List ℕ} (w : Taken img p
   taken-part n e = page-part img held (w .is) (w .small) n e
 
   -- Where `splice` puts it.
-  abbrev pub taken-place : (l : List ℕ) → l ≡ recordBytes (fill (w .spot) (w .tail)) → Place l pos par 0 new
+  abbrev pub taken-place : (l : List ℕ) → l ≡ recordBytes (fill (w .spot) (w .tail)) → Splicing l pos par 0 new
   taken-place l e = put-in (w .spot) (w .put) (w .tail) l pos par new e (w .offset) (w .holder) (w .comes) (w .root)
 
   pub taken-fits : (l : List ℕ) → l ≡ recordBytes (fill (w .spot) (w .tail)) → length l + length new ≤ bufferSize

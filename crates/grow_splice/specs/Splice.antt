@@ -84,7 +84,7 @@ whole (inside (rec p t r left) h rest s) a b k = whole-apart (inside (rec p t r 
 
 -- A record l; the row `old`, of `gone` bytes, stands in it at the byte pos, in the node at par, and `tail` after it; the row `put`, whose bytes are new,
 -- is to take its place.
-pub record Place (l : List ℕ) (pos par gone : ℕ) (new : List ℕ) : Type 0 where
+pub record Splicing (l : List ℕ) (pos par gone : ℕ) (new : List ℕ) : Type 0 where
   pub spot : Spot
   pub old : Row
   pub tail : Row
@@ -97,7 +97,7 @@ pub record Place (l : List ℕ) (pos par gone : ℕ) (new : List ℕ) : Type 0 w
   pub root : KeepsRoot spot (old ⊹ tail) (put ⊹ tail)
 
 -- The record's row once `put` has taken the place of `old`.
-abbrev pub spliced : (l : List ℕ) (pos par gone : ℕ) (new : List ℕ) → Place l pos par gone new → Row
+abbrev pub spliced : (l : List ℕ) (pos par gone : ℕ) (new : List ℕ) → Splicing l pos par gone new → Row
 spliced l pos par gone new w = fill (w .spot) (w .put ⊹ w .tail)
 
 -- the bytes of a record up to a filling of m bytes
@@ -111,7 +111,7 @@ apart k n s x y =
     ∙ ap (λ (z : List ℕ). header k n (6 + (around s + size (x ⊹ y))) ++ (before s (size (x ⊹ y)) ++ z))
     (ap (λ (z : List ℕ). z ++ beyond s) (bytes-⊹ x y) ∙ append-assoc (bytes x) (bytes y) (beyond s))
 
-module _ (l : List ℕ) (pos par gone : ℕ) (new : List ℕ) (w : Place l pos par gone new) where
+module _ (l : List ℕ) (pos par gone : ℕ) (new : List ℕ) (w : Splicing l pos par gone new) where
   seen : Whole (w .spot) (w .old ⊹ w .tail) (w .put ⊹ w .tail)
   seen = whole (w .spot) (w .old ⊹ w .tail) (w .put ⊹ w .tail) (w .root)
 
@@ -201,14 +201,14 @@ part-end l pos = take-all (length l - pos) (drop pos l) (simp length-drop (omega
 
 -- A row put in, in front of `tail`.
 abbrev pub put-in : (s : Spot) (put tail : Row) (l : List ℕ) (pos par : ℕ) (new : List ℕ) → RecordIs l (fill s tail) → pos ≡ at (base (fill s tail)) s
-    → par ≡ parent 0 (base (fill s tail)) s → new ≡ bytes put → KeepsRoot s tail (put ⊹ tail) → Place l pos par 0 new
+    → par ≡ parent 0 (base (fill s tail)) s → new ≡ bytes put → KeepsRoot s tail (put ⊹ tail) → Splicing l pos par 0 new
 put-in s put tail l pos par new e a p n k =
     record { spot = s; old = nil; tail = tail; put = put; is = e; goes = refl; comes = n; offset = a; holder = p; root = k }
 
 -- A row in the place of a proxy.
 abbrev pub put-for : (s : Spot) (page : ℕ) (settled : Bool) (row put tail : Row) (l : List ℕ) (pos par : ℕ) (new : List ℕ)
     → let r = fill s (rec page settled row tail) in RecordIs l r → pos ≡ at (base r) s → par ≡ parent 0 (base r) s → new ≡ bytes put
-    → KeepsRoot s (rec page settled row tail) (put ⊹ tail) → Place l pos par 8 new
+    → KeepsRoot s (rec page settled row tail) (put ⊹ tail) → Splicing l pos par 8 new
 put-for s q t r put tail l pos par new e a p n k = record {
   spot = s;
   old = rec q t r nil;

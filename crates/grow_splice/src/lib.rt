@@ -8,10 +8,10 @@ ghost use lib.ListN.{length};
 ghost use Rattle.model.specs.Row.{recordSize, recordBytes};
 ghost use Rattle.base_numbers.specs.Over.{over};
 ghost use Rattle.grow_splice.specs.Bump.{Cut, grown};
-ghost use Rattle.grow_splice.specs.Splice.{Place, spliced};
+ghost use Rattle.grow_splice.specs.Splice.{Splicing, spliced};
 
 // Adds n to the size of each node of a record that contains the node at par, and of that node. s is the record up to the place where n bytes go in.
-pub fn grow(s: &mut [u8], par: usize, n: usize)
+pub fn enlarge(s: &mut [u8], par: usize, n: usize)
     requires { ⌜ Cut (now s) par n ⌝ }
     ensures { λ _. ⌜ ((w : Cut (now (s .entry)) par n) → now (s .exit) ≡ grown (now (s .entry)) par n w) ⌝ }
 {
@@ -31,15 +31,15 @@ pub fn grow(s: &mut [u8], par: usize, n: usize)
 
 // Writes to the front of out the record rec with new in the place of the `gone` bytes from `at`, in the node at par, and gives its length.
 pub fn splice(rec: &[u8], at: usize, par: usize, gone: usize, new: &[u8], out: &mut [u8]) -> usize
-    requires { ⌜ Place (now rec) at par gone (now new) × ((gone ≤ length (now new)) × ((length (now rec) + length (now new) ≤ length (now out) + gone)
+    requires { ⌜ Splicing (now rec) at par gone (now new) × ((gone ≤ length (now new)) × ((length (now rec) + length (now new) ≤ length (now out) + gone)
         × (length (now rec) + length (now new) < 65536 + gone))) ⌝ }
-    ensures { λ r. ⌜ ((w : Place (now (rec .entry)) at par gone (now (new .entry)))
+    ensures { λ r. ⌜ ((w : Splicing (now (rec .entry)) at par gone (now (new .entry)))
         → (r ≡ recordSize (spliced (now (rec .entry)) at par gone (now (new .entry)) w))
         × (now (out .exit) ≡ over 0 (recordBytes (spliced (now (rec .entry)) at par gone (now (new .entry)) w)) (now (out .entry)))) ⌝ }
 {
     let n = new.len();
     copy_in(&rec[..at], out, 0);
-    grow(&mut out[..at], par, n - gone);
+    enlarge(&mut out[..at], par, n - gone);
     copy_in(new, out, at);
     let rest = at + gone;
     copy_in(&rec[rest..], out, at + n);

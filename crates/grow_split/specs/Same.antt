@@ -16,20 +16,20 @@ use Rattle.grow_groups.specs.Group.{Cutting, groupI}
 use Rattle.grow_split.specs.Cutting.{twoGroupsI, separateI}
 
 -- What a step gives is what the model's gives from w.
-pub record Matches (c : Cutting) (w : Work) (o : Out) : Type 0 where
+pub record MarksAgree (c : Cutting) (w : Work) (o : Out) : Type 0 where
   pub row : c .row ≡ o .0
   pub used : InUse (c .used) (o .1)
   pub full : (w .full || c .full) ≡ o .1 .full
   pub splits : o .1 .splits ≡ w .splits
   pub lean : o .1 .lean ≡ w .lean
 
-matches-cond : (b : Bool) (x y : Cutting) (w : Work) (o o′ : Out) → Matches x w o → Matches y w o′ → Matches (cond b x y) w (cond b o o′)
+matches-cond : (b : Bool) (x y : Cutting) (w : Work) (o o′ : Out) → MarksAgree x w o → MarksAgree y w o′ → MarksAgree (cond b x y) w (cond b o o′)
 matches-cond true x y w o o′ a a′ = a
 matches-cond false x y w o o′ a a′ = a′
 
 -- One step after another.
-matches-then : (c d : Cutting) (w : Work) (o v : Out) (r r′ : Row) (img : List ℕ) → r ≡ r′ → Matches c w o → Matches d (o .1) v
-    → Matches (record { row = r; used = d .used; full = c .full || d .full; img = img }) w (r′, v .1)
+matches-then : (c d : Cutting) (w : Work) (o v : Out) (r r′ : Row) (img : List ℕ) → r ≡ r′ → MarksAgree c w o → MarksAgree d (o .1) v
+    → MarksAgree (record { row = r; used = d .used; full = c .full || d .full; img = img }) w (r′, v .1)
 matches-then c d w o v r r′ img e a b = record {
   row = e;
   used = b .used;
@@ -42,7 +42,7 @@ module _ (st : Config) (many : st .pages ≤ mostPages) (g : Growing) (inside : 
   own-same : (r : Row) (u img : List ℕ) (w : Work) → InUse u w
       → let q = freeFrom st (st .pages) (usedBy u) (g .near) in
       let q′ = freeFrom st (st .pages) (w .used) (g .near) in
-      Matches (record { row = rec q false r nil; used = set u q 1; full = eqb q 0; img = img }) w (rec q′ false r nil, taken st q′ w)
+      MarksAgree (record { row = rec q false r nil; used = set u q 1; full = eqb q 0; img = img }) w (rec q′ false r nil, taken st q′ w)
   own-same r u img w m =
       let q = freeFrom st (st .pages) (usedBy u) (g .near) in
       let e : q ≡ freeFrom st (st .pages) (w .used) (g .near) = free-same st many (usedBy u) (w .used) (m .same) (st .pages) (g .near) inside in
@@ -55,7 +55,7 @@ module _ (st : Config) (many : st .pages ≤ mostPages) (g : Growing) (inside : 
         lean = refl;
       }
 
-  pub group-same : (r : Row) (u img : List ℕ) (w : Work) → InUse u w → Matches (groupI st g r u img) w (group st (g .near) r w)
+  pub group-same : (r : Row) (u img : List ℕ) (w : Work) → InUse u w → MarksAgree (groupI st g r u img) w (group st (g .near) r w)
   unfolding groupI group
   group-same r u img w m =
       matches-cond (isNil r || loneRec r) _ _ w _ _ (record { row = refl; used = m; full = or-false (w .full); splits = refl; lean = refl })
@@ -63,19 +63,19 @@ module _ (st : Config) (many : st .pages ≤ mostPages) (g : Growing) (inside : 
 
   module _ (p : ℕ) where
     pub two-same : (left right : Row) (u img : List ℕ) (w : Work) → InUse u w
-        → Matches (twoGroupsI st g left right u img) w (twoGroups st (g .near) p left right w)
+        → MarksAgree (twoGroupsI st g left right u img) w (twoGroups st (g .near) p left right w)
     unfolding twoGroupsI twoGroups
     two-same left right u img w m =
         let c = groupI st g left u img in
         let d = groupI st g right (c .used) (c .img) in
         let o = group st (g .near) left w in
         let v = group st (g .near) right (o .1) in
-        let a : Matches c w o = group-same left u img w m in
-        let b : Matches d (o .1) v = group-same right (c .used) (c .img) (o .1) (a .used) in
+        let a : MarksAgree c w o = group-same left u img w m in
+        let b : MarksAgree d (o .1) v = group-same right (c .used) (c .img) (o .1) (a .used) in
         matches-then c d w o v (c .row ⊹ d .row) (o .0 ⊹ v .0) (d .img) (λ i. a .row i ⊹ b .row i) a b
 
     pub separate-same : (at : ℕ) (left row : Row) (u img : List ℕ) (w : Work) → InUse u w
-        → Matches (separateI st g p at left row u img) w (separate st (g .near) p at left row w)
+        → MarksAgree (separateI st g p at left row u img) w (separate st (g .near) p at left row w)
     unfolding separateI separate
     separate-same at left nil u img w m = group-same left u img w m
     separate-same at left (agg h cs rest) u img w m =
@@ -85,9 +85,9 @@ module _ (st : Config) (many : st .pages ≤ mostPages) (g : Growing) (inside : 
         let o = group st (g .near) left w in
         let v = separate st (g .near) p (at + 6) nil cs (o .1) in
         let z = group st (g .near) rest (v .1) in
-        let a : Matches c w o = group-same left u img w m in
-        let b : Matches d (o .1) v = separate-same (at + 6) nil cs (c .used) (c .img) (o .1) (a .used) in
-        let k : Matches f (v .1) z = group-same rest (d .used) (d .img) (v .1) (b .used) in
+        let a : MarksAgree c w o = group-same left u img w m in
+        let b : MarksAgree d (o .1) v = separate-same (at + 6) nil cs (c .used) (c .img) (o .1) (a .used) in
+        let k : MarksAgree f (v .1) z = group-same rest (d .used) (d .img) (v .1) (b .used) in
         let ab = matches-then c d w o v (d .row) (v .0) (d .img) (b .row) a b in
         matches-cond (goOn st p at (6 + size cs) rest) _ _ w _ _ (separate-same (at + (6 + size cs)) (left ⊹ agg h cs nil) rest u img w m)
         (matches-cond (stops st cs) _ _ w _ _ (two-same left (agg h cs rest) u img w m)

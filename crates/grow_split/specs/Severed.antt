@@ -25,7 +25,7 @@ use Rattle.grow_groups.specs.Used.{InUse, Env}
 use Rattle.grow_groups.specs.Group.{Cutting, Outcome}
 use Rattle.grow_split.specs.Cutting.{separateI}
 use Rattle.grow_split.specs.Separate.{Sep, resized}
-use Rattle.grow_split.specs.Same.{Matches, separate-same}
+use Rattle.grow_split.specs.Same.{MarksAgree, separate-same}
 use Rattle.grow_split.specs.Mem.{After, separate-mem}
 
 -- The bytes l are a record that is too large, and its separator has room.
@@ -167,7 +167,7 @@ module _ {g : Growing} {p : ℕ} {l u : List ℕ} (w : Large g p l u) where
           let e : new ≡ O .0 = λ i. o (sym (w .point) i) (sym (level .1) i) in
           (subst Fits e (good .0), omega (arith, ap size e))
 
-      matches : Matches C (w .work) O
+      matches : MarksAgree C (w .work) O
       matches = separate-same (w .st) many g inside p 6 nil level-row u img (w .work) (w .marked)
 
       pub good-row : Fits (C .row)

@@ -69,7 +69,7 @@ pub record Ahead (img : List ℕ) (pos n : ℕ) : Type 0 where
 -- ── up ──
 
 -- The state of the climb: `left` bounds the record's depth.
-pub record Upward (img : List ℕ) (pos page n left : ℕ) : Type 0 where
+pub record ItemUpward (img : List ℕ) (pos page n left : ℕ) : Type 0 where
   pub from : ItemsFrom img pos page n
   pub deep : from .on .depth ≤ left
 
@@ -86,7 +86,7 @@ node-head {img} {pos} a =
     (s .right)
     (node pos) (s .split) .0)
 
-pub upward-start : {img : List ℕ} {pos : ℕ} (a : NodeAt img pos) (page n : ℕ) → page ≡ pos / pageSize → n ≡ step img pos → Upward img pos page n mostPages
+pub upward-start : {img : List ℕ} {pos : ℕ} (a : NodeAt img pos) (page n : ℕ) → page ≡ pos / pageSize → n ≡ step img pos → ItemUpward img pos page n mostPages
 upward-start {img} {pos} a page n p e =
     let s = a .spot in
     let st = a .settings in
@@ -107,9 +107,9 @@ upward-start {img} {pos} a page n p e =
       seen = s .before ++ expand (s .left);
       order = node-split s;
     } in
-    subst (λ (q : ℕ). Upward img pos q n mostPages) same (record { from = g; deep = in-deep img st root r (s .within) })
+    subst (λ (q : ℕ). ItemUpward img pos q n mostPages) same (record { from = g; deep = in-deep img st root r (s .within) })
 
-module _ {img : List ℕ} {pos page n left : ℕ} (c : Upward img pos page n left) where
+module _ {img : List ℕ} {pos page n left : ℕ} (c : ItemUpward img pos page n left) where
   -- Where the record's end is not reached, an item comes next,
   pub upward-ahead : (n ≡ endOn img page → ⊥) → Ahead img pos n
   upward-ahead f = go (c .from .right) (c .from .split) (c .from .flat) (c .from .order)
@@ -142,9 +142,9 @@ pub record Above (img : List ℕ) (pos page n left : ℕ) : Type 0 where
   pub held : HeldBy img holder page
   pub small : held .pos < mostBytes
   pub some : 1 ≤ left
-  pub up : (m : ℕ) → m ≡ held .pos + 8 → (l : ℕ) → l ≡ left - 1 → Upward img pos holder m l
+  pub up : (m : ℕ) → m ≡ held .pos + 8 → (l : ℕ) → l ≡ left - 1 → ItemUpward img pos holder m l
 
-pub upward-above : {img : List ℕ} {pos page n left : ℕ} (c : Upward img pos page n left) → n ≡ endOn img page → (page ≡ 1 → ⊥) → Above img pos page n left
+pub upward-above : {img : List ℕ} {pos page n left : ℕ} (c : ItemUpward img pos page n left) → n ≡ endOn img page → (page ≡ 1 → ⊥) → Above img pos page n left
 upward-above {img} {pos} {page} {n} {left} c e f =
     let on = c .from .on in
     go (on .settings) (on .root) (on .reads) (on .within) (view on .back) (c .deep) (c .from .seen)
@@ -181,7 +181,7 @@ upward-above {img} {pos} {page} {n} {left} c e f =
         }
 
 -- The same, as the code finds it: h is the page in the back link, and p where the proxy is found.
-module _ {img : List ℕ} {pos page n left : ℕ} (c : Upward img pos page n left) (e : n ≡ endOn img page) (f : page ≡ 1 → ⊥) (h : ℕ)
+module _ {img : List ℕ} {pos page n left : ℕ} (c : ItemUpward img pos page n left) (e : n ≡ endOn img page) (f : page ≡ 1 → ⊥) (h : ℕ)
     (b : h ≡ backAt img (pageSize * page)) where
   above : Above img pos page n left
   above = upward-above c e f
@@ -202,8 +202,8 @@ module _ {img : List ℕ} {pos page n left : ℕ} (c : Upward img pos page n lef
     pub upward-small : p < mostBytes
     upward-small = rw its-proxy (above .small)
 
-    pub upward-on : (m l : ℕ) → m ≡ p + 8 → l ≡ left - 1 → Upward img pos h m l
-    upward-on m l u v = subst (λ (q : ℕ). Upward img pos q m l) its-holder (above .up m (u ∙ ap (λ (k : ℕ). k + 8) its-proxy) l v)
+    pub upward-on : (m l : ℕ) → m ≡ p + 8 → l ≡ left - 1 → ItemUpward img pos h m l
+    upward-on m l u v = subst (λ (q : ℕ). ItemUpward img pos q m l) its-holder (above .up m (u ∙ ap (λ (k : ℕ). k + 8) its-proxy) l v)
 
 -- ── down ──
 

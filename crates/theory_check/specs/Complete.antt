@@ -24,7 +24,7 @@ use Rattle.theory_check.specs.Marks.{marks-none, none-marked}
 use Rattle.theory_check.specs.Nodes.{record-node}
 use Rattle.theory_check.specs.Pages.{settings-ok, first-ok, root-kind, record-of, on-page}
 use Rattle.theory_check.specs.Scan.{named-range, scan-image}
-use Rattle.theory_check.specs.Fresh.{Fresh}
+use Rattle.theory_check.specs.Fresh.{Unreached}
 use Rattle.theory_check.specs.Walked.{done, walked}
 
 module _ (st : Config) (root : Row) (v : Valid st root) where
@@ -52,14 +52,14 @@ module _ (st : Config) (root : Row) (v : Valid st root) where
       let n : length img / pageSize ≡ st .pages = omega (arith, length-image st root v) in
       rw (n, zero-page, settings-ok st in-range, stored-image st root v .0, first-ok first (v .rows .0 .fits) refl refl) (scan-image st root v)
 
-  fresh-image : Fresh (st .pages) (replicate markBytes 0) root
+  fresh-image : Unreached (st .pages) (replicate markBytes 0) root
   fresh-image = record { marks = marks-none; range = named-range st root v; once = λ q. omega (arith, once st root v q); new = λ q h. none-marked q }
 
   root-stands : cond (lone root) (byTable 0 root) (mayStand 0 4 && byTable 4 root) ≡ true
   unfolding mayStand standing
   root-stands = both (cond (lone root) (byTable 0 root) (byTable 4 root)) true (by-table (store root) (v .rows)) .0
 
-  walk-image : (m : List ℕ) → Fresh (st .pages) m root → nodeOf img (recordOf img 1) 1 0 1 (state (suc (recordCount root)) m) ≡ done root 1 m
+  walk-image : (m : List ℕ) → Unreached (st .pages) m root → nodeOf img (recordOf img 1) 1 0 1 (state (suc (recordCount root)) m) ≡ done root 1 m
   walk-image m u =
       let stored = stored-image st root v in
       let fit = v .rows .0 in

@@ -44,15 +44,15 @@ kept (rec p s x rest) m i r =
     }
 
 -- With these marks a walk over the row may enter each page that it names; the image has so many pages.
-pub record Fresh (pages : ℕ) (m : List ℕ) (row : Row) : Type 0 where
+pub record Unreached (pages : ℕ) (m : List ℕ) (row : Row) : Type 0 where
   pub marks : IsMarks m
   pub range : (q : ℕ) → 1 ≤ count q row → (2 ≤ q) × (q < pages)
   pub once : (q : ℕ) → count q row ≤ 1
   pub new : (q : ℕ) → 1 ≤ count q row → isMarked m q ≡ false
 
 -- Of a row that holds two: over the second after the first.
-pub fresh-after : (pages : ℕ) (m : List ℕ) (row a b : Row) → pages ≤ mostPages → Fresh pages m row → ((q : ℕ) → count q a + count q b ≤ count q row)
-    → Fresh pages (marksAfter a m) b
+pub fresh-after : (pages : ℕ) (m : List ℕ) (row a b : Row) → pages ≤ mostPages → Unreached pages m row → ((q : ℕ) → count q a + count q b ≤ count q row)
+    → Unreached pages (marksAfter a m) b
 fresh-after pages m row a b l f c =
     let k = kept a m (f .marks) (λ q g. omega (arith, f .range q (omega (arith, c q)))) in
     record {

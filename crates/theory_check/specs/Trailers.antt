@@ -78,12 +78,12 @@ recorded s e =
     record { kind = eqb-true _ _ (settled .0); settled = leb-true _ _ (settled .1); used = leb-true _ _ (used .1); tail = tail .1; last = last .1 }
 
 -- A page with a record: the bytes used, zeros, the trailer.
-pub record RecordIs (s : List ℕ) : Type 0 where
+pub record PageIs (s : List ℕ) : Type 0 where
   pub settled : settledAt s 0 ≤ 1
   pub used : usedAt s 0 ≤ capacity
   pub same : s ≡ take (usedAt s 0) s ++ replicate (capacity - usedAt s 0) 0 ++ trailer 1 (settledAt s 0) (usedAt s 0) (backAt s 0)
 
-pub record-says : (s : List ℕ) → AllBytes s → length s ≡ pageSize → stateOf s ≡ 2 → RecordIs s
+pub record-says : (s : List ℕ) → AllBytes s → length s ≡ pageSize → stateOf s ≡ 2 → PageIs s
 record-says s bytes long e =
     let u = usedAt s 0 in
     let r = recorded s e in
@@ -106,7 +106,7 @@ one-or-none (suc zero) h = refl
 one-or-none (suc (suc n)) h = absurd (omega arith)
 
 -- So it is the page of the record whose bytes stand there.
-pub record-page : (s : List ℕ) → length s ≡ pageSize → RecordIs s → (r : Row) → take (usedAt s 0) s ≡ recordBytes r
+pub record-page : (s : List ℕ) → length s ≡ pageSize → PageIs s → (r : Row) → take (usedAt s 0) s ≡ recordBytes r
     → (p : ℕ) → s ≡ recordPage (recordOn p (eqb (settledAt s 0) 1) (backAt s 0) r)
 record-page s long k r e p =
     let n : usedAt s 0 ≡ recordSize r = sym (length-take-le (usedAt s 0) s (omega (arith, k .used))) ∙ ap length e ∙ length-record r in

@@ -18,7 +18,7 @@ use Rattle.theory_check.specs.Tests.{marked}
 use Rattle.theory_check.specs.Walk.{state, Decoded, asAgg, asRec, withMark, listOf}
 use Rattle.theory_check.specs.Nodes.{list-node, agg-node, lit-node, rec-node, record-node}
 use Rattle.theory_check.specs.Pages.{proxy-of}
-use Rattle.theory_check.specs.Fresh.{marksAfter, Fresh, fresh-after}
+use Rattle.theory_check.specs.Fresh.{marksAfter, Unreached, fresh-after}
 
 -- The row, with k pages left.
 abbrev pub done : Row → (k : ℕ) → (m : List ℕ) → Decoded
@@ -32,7 +32,7 @@ three a b c e =
 
 module _ (img : List ℕ) (pages : ℕ) (many : pages ≤ mostPages) (long : length img ≡ pageSize * pages) where
   pub walked : (row : Row) (page holder level left k : ℕ) (m : List ℕ) → Fits row → size row ≤ capacity → byTable holder row ≡ true
-      → Stored (pageOf img) page row → page < 65536 → height row + level ≤ mostLevels + 1 → Fresh pages m row → left ≡ recordCount row + k → 1 ≤ k
+      → Stored (pageOf img) page row → page < 65536 → height row + level ≤ mostLevels + 1 → Unreached pages m row → left ≡ recordCount row + k → 1 ≤ k
       → listOf img (bytes row) page holder level (state left m) ≡ done row k m
   walked nil page holder level left k m f z t s p h u e l =
       let same : left ≡ k = omega arith in

@@ -1,4 +1,4 @@
--- `octets::put32`: four bytes, one after another.
+-- `base_numbers::put32`: four bytes, one after another.
 use native.Mathlib.Omega.{arith}
 use lib.ListN.{length-set}
 use Rattle.base_numbers.specs.Over.{four-sets}

@@ -30,31 +30,31 @@ copy-in-requires c κs =
     let s = c .before .before .before .before .before in
     simp length-take (omega (arith, starts s, s .pre .1))
 
-slice-relend-prefix-grow : tie.Need-slice-relend-prefix-grow
-slice-relend-prefix-grow c =
+slice-relend-prefix-enlarge : tie.Need-slice-relend-prefix-enlarge
+slice-relend-prefix-enlarge c =
     let s = c .before .before .before .before .before .before .before .before in
     omega (arith, ends s, s .pre .1 .0, s .pre .1 .1 .0, c .before .before .copy-in .kept .1 .0)
 
-slice-aggregate-grow : tie.Need-slice-aggregate-grow
-slice-aggregate-grow c = sym (length-take-le _ _ (slice-relend-prefix-grow (c .before)))
+slice-aggregate-enlarge : tie.Need-slice-aggregate-enlarge
+slice-aggregate-enlarge c = sym (length-take-le _ _ (slice-relend-prefix-enlarge (c .before)))
 
-sub-grow : tie.Need-sub-grow
-sub-grow c = search needs
+sub-enlarge : tie.Need-sub-enlarge
+sub-enlarge c = search needs
 
-grow-requires : tie.Need-grow-requires
-grow-requires c κs =
+enlarge-requires : tie.Need-enlarge-requires
+enlarge-requires c κs =
     let s = c .before .before .before .before .before .before .before .before .before in
     cut _ _ _ _ _ (s .pre .0) _ _ (copied-front _ _ _ _ (starts s) (c .before .before .before .copy-in .ensures)) (small s)
 
 -- the buffer keeps its length
 held : (c : tie.After-copy-in-arg3) → let g = c .before .before .before in let a = g .before .before .before .before in let s = a .before .before .before
     .before .before .before in
-    length (g .grow .last .0 ++ drop (s .args .at) (a .copy-in .last .1 .0)) ≡ length (s .args .out .now)
+    length (g .enlarge .last .0 ++ drop (s .args .at) (a .copy-in .last .1 .0)) ≡ length (s .args .out .now)
 held c =
     let g = c .before .before .before in
     let a = g .before .before .before .before in
     let s = a .before .before .before .before .before .before in
-    length-front (a .copy-in .last .1 .0) (g .grow .last .0) (s .args .at) (g .grow .kept .0) ∙ a .copy-in .kept .1 .0
+    length-front (a .copy-in .last .1 .0) (g .enlarge .last .0) (s .args .at) (g .enlarge .kept .0) ∙ a .copy-in .kept .1 .0
 
 copy-in-requires-2 : tie.Need-copy-in-requires-2
 copy-in-requires-2 c κs =
@@ -119,12 +119,12 @@ returns c =
     λ w. (
       sym (spliced-size _ _ _ _ _ w (s .pre .1 .0)),
       steps _ _ _ _ _ w _ _ _ _ _ _ f (small s) refl (s .pre .1 .0) (s .pre .1 .1 .0) (a .copy-in .ensures)
-          (g .grow .ensures (cut _ _ _ _ _ w _ _ f (small s)))
-          (g .grow .kept .0 ∙ ap length f ∙ length-take-le _ _ (starts s)) (b .copy-in2 .ensures) (rw part-end at (c .before .before .copy-in3 .ensures)),
+          (g .enlarge .ensures (cut _ _ _ _ _ w _ _ f (small s)))
+          (g .enlarge .kept .0 ∙ ap length f ∙ length-take-le _ _ (starts s)) (b .copy-in2 .ensures) (rw part-end at (c .before .before .copy-in3 .ensures)),
     )
 
 pub splice-spec : {M : Type 1} → statement M
 splice-spec =
     tie.close
-    (tie.spec slice-aggregate-copy-in copy-in-requires slice-relend-prefix-grow slice-aggregate-grow sub-grow grow-requires copy-in-requires-2 add-rest
+    (tie.spec slice-aggregate-copy-in copy-in-requires slice-relend-prefix-enlarge slice-aggregate-enlarge sub-enlarge enlarge-requires copy-in-requires-2 add-rest
     sub-copy-in part-copy-in-start part-copy-in-end add-copy-in copy-in-requires-3 sub-result add-result same-length returns)

@@ -1,4 +1,4 @@
-use Rattle.read_next.specs.Follow.{Upward, node-head, upward-start, upward-last, upward-ahead, ahead-low, upward-held, upward-small, upward-some}
+use Rattle.read_next.specs.Follow.{ItemUpward, node-head, upward-start, upward-last, upward-ahead, ahead-low, upward-held, upward-small, upward-some}
 use Rattle.read_next.specs.Follow.{upward-on}
 use Rattle.read_next.specs.Scan.{known}
 use native.Mathlib.Omega.{arith}
@@ -7,7 +7,7 @@ use Rattle.read_next.proofs.item_after.Statement.{statement}
 use Rattle.read_next.proofs.item_after.Tie as tie
 
 abbrev Inv-loop : tie.InvT-loop
-Inv-loop image pos page₀ at₀ left₀ page at left = Upward image pos page at left
+Inv-loop image pos page₀ at₀ left₀ page at left = ItemUpward image pos page at left
 
 abbrev μ-loop : tie.MeasureT-loop
 μ-loop image pos page₀ at₀ left₀ page at left = left

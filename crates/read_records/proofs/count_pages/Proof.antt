@@ -1,4 +1,4 @@
--- `records::count_pages`: the pages counted, and those that are left, are all of them.
+-- `read_records::count_pages`: the pages counted, and those that are left, are all of them.
 use mathlib.Core.Logic.{⊎-elim}
 use Prim.Native.Nat.{_-_}
 use native.Mathlib.Omega.{arith}

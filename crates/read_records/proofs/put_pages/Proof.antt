@@ -1,4 +1,4 @@
--- `records::put_pages`: the pages that are left, written from `at`, make what all of them make in the buffer as it was.
+-- `read_records::put_pages`: the pages that are left, written from `at`, make what all of them make in the buffer as it was.
 use mathlib.Core.Logic.{⊎-elim}
 use Prim.Native.Nat.{_-_}
 use native.Mathlib.Omega.{arith}

@@ -1,4 +1,4 @@
--- `records::records_of`: the count decides whether the buffer is short, and the pages are written if it is not.
+-- `read_records::records_of`: the count decides whether the buffer is short, and the pages are written if it is not.
 use denote.Ref.{now}
 use native.Mathlib.Omega.{arith}
 use borrow.Author.Needs.{needs}

@@ -1,4 +1,4 @@
--- `grow_splice::grow`: from pos on, the nodes that contain the spot have not grown yet.
+-- `grow_splice::enlarge`: from pos on, the nodes that contain the spot have not grown yet.
 use mathlib.Core.Path.{_≡_, refl, _∙_}
 use mathlib.Core.List.{List}
 use Prim.Native.Nat.{ℕ, _+_, _-_}
@@ -6,8 +6,8 @@ use native.Mathlib.Omega.{arith}
 use lib.ListN.{length}
 use denote.Ref.{now}
 use Rattle.grow_splice.specs.Bump.{Mid, Look, look, mid-end, mid-enter, mid-skip, Cut, grown, cut-length, cut-small, cut-start}
-use Rattle.grow_splice.proofs.grow.Statement.{statement}
-use Rattle.grow_splice.proofs.grow.Tie as tie
+use Rattle.grow_splice.proofs.enlarge.Statement.{statement}
+use Rattle.grow_splice.proofs.enlarge.Tie as tie
 
 abbrev Inv-loop : tie.InvT-loop
 Inv-loop s₀ par n whole pos₀ s pos = ((goal : List ℕ) → Mid s₀ goal 6 par n → Mid s goal pos par n) × (length s ≡ length s₀)
@@ -95,8 +95,8 @@ same-length c = c .before .loop .inv .1 ∙ c .before .before .before .before .p
 returns : tie.Need-returns Inv-loop μ-loop
 returns c = λ w. mid-end _ _ _ _ _ (c .before .loop .inv .0 _ (begun (c .before) w)) (c .loop-test .left)
 
-pub grow-spec : {M : Type 1} → statement M
-grow-spec =
+pub enlarge-spec : {M : Type 1} → statement M
+enlarge-spec =
     tie.close
     (tie.spec Inv-loop μ-loop size-at-requires add-put16 put16-requires loop-holds size-at-requires-2 add-if1 add-put16-2 add-put16-3 put16-requires-2 add-pos
     loop-less loop-again add-pos-2 loop-less-2 loop-again-2 same-length returns)
