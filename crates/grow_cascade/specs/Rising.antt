@@ -6,8 +6,9 @@ use Prim.Native.Nat.{ℕ, _+_, _*_, _<_, _≤_}
 use native.Mathlib.Omega.{arith}
 use lib.ListN.{length, take}
 use lib.IntN.{ℤ}
+use Rattle.theory_row_bytes.specs.RowAt.{RecordIs}
 use Rattle.model.specs.Limits.{mostPages, pageSize, capacity, mostNode}
-use Rattle.model.specs.Row.{Row, store, isNil, lone, recordSize, recordBytes, recordPage, height, Config}
+use Rattle.model.specs.Row.{Row, store, isNil, lone, recordSize, recordPage, height, Config}
 use Rattle.model.specs.Reading.{Reads, twoAt, pageOf, backAt, settledAt}
 use Rattle.model.specs.Growth.{Work, Out, separator, rootRow, splitPoint, startOfD}
 use Rattle.model.specs.Claims.{InLean}
@@ -49,7 +50,7 @@ pub record Rising (st : Config) (was : List ℕ) (root : Row) (c : Chain) (old r
   pub reads : Reads was st root
   pub held : whole c old ≡ root
   pub at : g .near ≡ lastPage c
-  pub is : take len l ≡ recordBytes row
+  pub is : RecordIs (take len l) row
   pub long : len ≡ recordSize row
   pub most : recordSize row ≤ (capacity + mostNode)
   pub some : isNil row ≡ false

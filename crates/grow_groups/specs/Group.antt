@@ -8,6 +8,7 @@ use native.Mathlib.Nat.{zero-add}
 use lib.Dec.{eqb}
 use lib.ListN.{length, take, drop, set}
 use lib.Seq.{take-at}
+use Rattle.theory_row_bytes.specs.RowAt.{RowIs}
 use Rattle.model.specs.Limits.{mostPages, capacity}
 use Rattle.model.specs.Row.{Row, nil, agg, lit, rec, size, isNil, lone, loneRec, recordSize, two, header, bytes, recordBytes, Config, noHead}
 use Rattle.model.specs.Reading.{twoAt}
@@ -58,7 +59,7 @@ proxy-written at q o a b c d h pa pb pc pd =
 -- The bytes are those of a row that becomes a record: neither no node nor one proxy, and the record fits its page.
 pub record NewRecord (l : List ℕ) (n : ℕ) : Type 0 where
   pub row : Row
-  pub is : l ≡ bytes row
+  pub is : RowIs l row
   pub below : Below n row
   pub moves : (isNil row || loneRec row) ≡ false
   pub small : recordSize row ≤ capacity
@@ -143,7 +144,7 @@ pub record Grouping (g : Growing) (l u img : List ℕ) (room : ℕ) : Type 0 whe
   pub st : Config
   pub setup : setupOf st ≡ g .setup
   pub row : Row
-  pub is : l ≡ bytes row
+  pub is : RowIs l row
   pub below : Below (g .setup .pages) row
   pub fits : Fits (groupI st g row u img .row)
   pub within : size (groupI st g row u img .row) ≤ room

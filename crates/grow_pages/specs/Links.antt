@@ -7,7 +7,7 @@ use lib.ListN.{length}
 use Rattle.model.specs.Limits.{mostPages, pageSize, capacity}
 use Rattle.model.specs.Row.{Row, nil, agg, lit, rec, _⊹_, size, two, bytes}
 use Rattle.model.specs.Reading.{sizeAt, nameAt, kindAt}
-use Rattle.theory_row_bytes.specs.RowAt.{RowAt, FirstNode, first-node, row-into}
+use Rattle.theory_row_bytes.specs.RowAt.{RowAt, FirstNode, first-node, row-into, RowIs}
 use Rattle.theory_rows.specs.Laws.{length-bytes, size-⊹}
 use Rattle.base_numbers.specs.Over.{over}
 
@@ -40,7 +40,7 @@ below-⊹ n (rec p s r rest) b h k = (h .0, below-⊹ n rest b (h .1) k)
 -- The bytes are those of a row whose proxies name pages below n.
 pub record Linked (l : List ℕ) (n : ℕ) : Type 0 where
   pub row : Row
-  pub is : l ≡ bytes row
+  pub is : RowIs l row
   pub below : Below n row
   pub small : size row < 65536
 

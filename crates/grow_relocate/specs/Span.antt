@@ -5,6 +5,7 @@ use mathlib.Core.List.{List, [], append-nil}
 use Prim.Native.Nat.{ℕ, _+_, _-_, _<_, _≤_}
 use native.Mathlib.Omega.{arith}
 use lib.ListN.{length, set}
+use Rattle.theory_row_bytes.specs.RowAt.{RowIs}
 use Rattle.model.specs.Limits.{mostPages}
 use Rattle.model.specs.Row.{Row, nil, agg, lit, rec, size, isNil, lone, loneRec, base, bytes, Config}
 use Rattle.model.specs.Reading.{twoAt}
@@ -22,7 +23,7 @@ use Rattle.theory_moves.specs.Moved.{groupPlace}
 -- The bytes l are those of a row.
 pub record Span (l : List ℕ) : Type 0 where
   pub row : Row
-  pub is : l ≡ bytes row
+  pub is : RowIs l row
   pub small : size row < 65536
 
 pub stays-base : (r : Row) → (isNil r || loneRec r) ≡ true → 6 ≡ base r

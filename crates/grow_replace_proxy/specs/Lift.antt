@@ -5,9 +5,9 @@ use mathlib.Core.List.{List}
 use Prim.Native.Nat.{ℕ, _+_, _*_, _-_, _<_, _≤_}
 use native.Mathlib.Omega.{arith}
 use lib.ListN.{length, take, drop}
-use Rattle.theory_row_bytes.specs.RowAt.{RecordIs, record-bytes, page-record, number-on}
+use Rattle.theory_row_bytes.specs.RowAt.{RecordIs, record-bytes, page-record, number-on, RowIs}
 use Rattle.model.specs.Limits.{pageSize, capacity}
-use Rattle.model.specs.Row.{Row, rec, _⊹_, size, base, bytes, recordSize, recordBytes, Held, recordPage, count, recordOn}
+use Rattle.model.specs.Row.{Row, rec, _⊹_, size, base, recordSize, recordBytes, Held, recordPage, count, recordOn}
 use Rattle.model.specs.Reading.{pageOf, usedAt}
 use Rattle.theory_rows.specs.Laws.{length-bytes}
 use Rattle.theory_rows.specs.Image.{length-record}
@@ -45,7 +45,7 @@ pub record Lift (img : List ℕ) (holder page : ℕ) (sep : List ℕ) : Type 0 w
   pub small : recordSize (fill spot (rec page settled old rest)) ≤ capacity
   pub once : count page (fill spot (rec page settled old rest)) ≡ 1
   pub names : (q : ℕ) → 1 ≤ count q (fill spot (rec page settled old rest)) → q < 65536
-  pub comes : sep ≡ bytes put
+  pub comes : RowIs sep put
   pub least : 8 ≤ size put
   pub most : size put ≤ 512
   pub root : KeepsRoot spot (rec page settled old rest) (put ⊹ rest)

@@ -8,6 +8,7 @@ use native.Mathlib.Omega.{arith}
 use lib.Dec.{eqb}
 use lib.ListN.{length, take}
 use lib.IntN.{pos}
+use Rattle.theory_row_bytes.specs.RowAt.{RowIs}
 use Rattle.model.specs.Limits.{mostPages, pageSize, capacity, mostNode}
 use Rattle.model.specs.Row.{Head, Row, nil, store, _⊹_, size, base, isNil, lone, bytes, recordSize, recordBytes, recordPage, height, image, Config, recordOn}
 use Rattle.model.specs.Reading.{pageOf}
@@ -69,7 +70,7 @@ pub record Begin (dry : Bool) (img : List ℕ) (above k left label : ℕ) (node 
   pub x : New
   pub fits : NewFits x
   pub named : x .head .label ≡ label
-  pub is : node ≡ bytes (asRow (aim .st) x nil)
+  pub is : RowIs node (asRow (aim .st) x nil)
   pub short : length (aim .path) ≤ 22
   pub room : dry ≡ false → grow (aim .st) (aim .root) (aim .path) k x .1 .full ≡ false
 

@@ -5,8 +5,9 @@ use mathlib.Core.List.{List}
 use Prim.Native.Nat.{ℕ, _+_, _*_, _-_, _≤_}
 use native.Mathlib.Omega.{arith}
 use lib.ListN.{length, take, drop}
+use Rattle.theory_row_bytes.specs.RowAt.{RowIs}
 use Rattle.model.specs.Limits.{pageSize, capacity, mostNode}
-use Rattle.model.specs.Row.{Row, _⊹_, size, base, bytes, recordSize, recordBytes, Held, recordPage, recordOn}
+use Rattle.model.specs.Row.{Row, _⊹_, size, base, recordSize, recordBytes, Held, recordPage, recordOn}
 use Rattle.model.specs.Reading.{pageOf, usedAt}
 use Rattle.base_layout.specs.Growing.{bufferSize}
 use Rattle.theory_rows.specs.Laws.{length-bytes}
@@ -27,7 +28,7 @@ pub record Taken (img : List ℕ) (page pos par : ℕ) (new : List ℕ) : Type 0
   pub on : PageIn img page
   pub is : pageOf img page ≡ recordPage (recordOn page settled up (fill spot tail))
   pub small : recordSize (fill spot tail) ≤ capacity
-  pub comes : new ≡ bytes put
+  pub comes : RowIs new put
   pub most : size put ≤ mostNode
   pub offset : pos ≡ at (base (fill spot tail)) spot
   pub holder : par ≡ parent 0 (base (fill spot tail)) spot

@@ -6,7 +6,7 @@ use Prim.Native.Nat.{ℕ, _+_, _-_, _<_, _≤_}
 use native.Mathlib.Omega.{arith}
 use lib.ListN.{length, take, drop, length-append, length-take, length-drop}
 use lib.Seq.{take-at, drop-at, length-take-le, take-all}
-use Rattle.theory_row_bytes.specs.RowAt.{RecordIs}
+use Rattle.theory_row_bytes.specs.RowAt.{RecordIs, RowIs}
 use Rattle.model.specs.Row.{Head, Row, nil, agg, lit, rec, _⊹_, size, nodeCount, lone, base, header, bytes, recordSize, recordBytes, count, noHead}
 use Rattle.base_numbers.specs.Over.{over, over-then, over-front, over-again, take-over}
 use Rattle.theory_rows.specs.Laws.{length-bytes, size-⊹, bytes-⊹}
@@ -91,7 +91,7 @@ pub record Splicing (l : List ℕ) (pos par gone : ℕ) (new : List ℕ) : Type 
   pub put : Row
   pub is : RecordIs l (fill spot (old ⊹ tail))
   pub goes : size old ≡ gone
-  pub comes : new ≡ bytes put
+  pub comes : RowIs new put
   pub offset : pos ≡ at (base (fill spot (old ⊹ tail))) spot
   pub holder : par ≡ parent 0 (base (fill spot (old ⊹ tail))) spot
   pub root : KeepsRoot spot (old ⊹ tail) (put ⊹ tail)

@@ -5,6 +5,7 @@ use mathlib.Core.List.{List, [], _++_, append-nil}
 use Prim.Native.Nat.{ℕ, _+_, _<_, _≤_}
 use native.Mathlib.Omega.{arith}
 use lib.ListN.{length, take, getD}
+use Rattle.theory_row_bytes.specs.RowAt.{RecordIs}
 use Rattle.model.specs.Limits.{mostPages, capacity}
 use Rattle.model.specs.Row.{Head, Row, nil, agg, lit, rec, size, lone, recordSize, two, header, bytes, recordBytes, Config, noHead}
 use Rattle.model.specs.Reading.{pageOf}
@@ -33,7 +34,7 @@ pub record Large (g : Growing) (p : ℕ) (l u : List ℕ) : Type 0 where
   pub st : Config
   pub setup : setupOf st ≡ g .setup
   pub row : Row
-  pub is : l ≡ recordBytes row
+  pub is : RecordIs l row
   pub fits : Fits row
   pub big : capacity < recordSize row
   pub small : recordSize row < 65536

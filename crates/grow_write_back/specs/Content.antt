@@ -6,6 +6,7 @@ use Prim.Native.Nat.{ℕ, _+_, _-_, _≤_}
 use native.Mathlib.Omega.{arith}
 use lib.ListN.{length, take, drop, getD}
 use lib.Seq.{take-all}
+use Rattle.theory_row_bytes.specs.RowAt.{RecordIs}
 use Rattle.model.specs.Limits.{capacity}
 use Rattle.model.specs.Row.{Row, nil, agg, lit, rec, size, isNil, lone, base, recordSize, header, bytes, recordBytes, noHead}
 use Rattle.theory_rows.specs.Laws.{length-bytes}
@@ -18,7 +19,7 @@ use Rattle.grow_pages.specs.Relinked.{written}
 -- The bytes l are a record that fits its page; its proxies name pages below n.
 pub record Content (l : List ℕ) (n : ℕ) : Type 0 where
   pub row : Row
-  pub is : l ≡ recordBytes row
+  pub is : RecordIs l row
   pub below : Below n row
   pub small : recordSize row ≤ capacity
   pub some : isNil row ≡ false

@@ -6,6 +6,7 @@ use native.Mathlib.Omega.{arith}
 use native.Mathlib.Nat.{mul-le-mul-right}
 use lib.IntN.{subℕ}
 use lib.ListN.{length}
+use Rattle.theory_row_bytes.specs.RowAt.{RecordIs}
 use Rattle.model.specs.Limits.{capacity, mostNode}
 use Rattle.model.specs.Row.{Row, lone, recordSize, recordBytes, Config}
 use Rattle.model.specs.Growth.{noWork, splitPoint, startOf, startOfD, rootRow}
@@ -25,7 +26,7 @@ pub record Leaning (l : List ℕ) (s : Setup) : Type 0 where
   pub setup : setupOf st ≡ s
   pub ranges : Ranges st
   pub row : Row
-  pub is : l ≡ recordBytes row
+  pub is : RecordIs l row
   pub fits : Fits row
   pub big : capacity < recordSize row
   pub most : recordSize row ≤ (capacity + mostNode)

@@ -6,8 +6,9 @@ use Prim.Native.Nat.{ℕ, _+_, _*_, _<_, _≤_}
 use native.Mathlib.Omega.{arith}
 use lib.Dec.{eqb}
 use lib.ListN.{length, set, length-set, length-replicate}
+use Rattle.theory_row_bytes.specs.RowAt.{RecordIs}
 use Rattle.model.specs.Limits.{mostPages, pageSize, capacity}
-use Rattle.model.specs.Row.{Row, size, recordSize, recordBytes, Config}
+use Rattle.model.specs.Row.{Row, size, recordSize, Config}
 use Rattle.model.specs.Growth.{Work, counted, freed, splitPoint, separator}
 use Rattle.theory_rows.specs.Laws.{cond-case}
 use Rattle.theory_rows.specs.Fits.{Fits}
@@ -40,7 +41,7 @@ pub record Off (g : Growing) (settled : ℕ) (l u : List ℕ) : Type 0 where
   pub stays : Bool
   pub bit : settled ≡ cond stays 1 0
   pub row : Row
-  pub is : l ≡ recordBytes row
+  pub is : RecordIs l row
   pub fits : Fits row
   pub big : capacity < recordSize row
   pub small : recordSize row ≤ bufferSize

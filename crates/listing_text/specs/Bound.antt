@@ -6,8 +6,8 @@ use lib.ListN.{length, length-append}
 use Rattle.model.specs.Row.{Row, nil, agg, lit, rec, size, height}
 use Rattle.theory_rows.specs.Fits.{Fits}
 use Rattle.theory_decoding.specs.Steps.{steps, recordCount}
-use Rattle.listing_text.specs.Text.{lineOf, headLine}
-use Rattle.listing_text.specs.Digits.{two-digits, line-length, head-long}
+use Rattle.listing_lines.specs.Text.{lineOf, headLine}
+use Rattle.listing_lines.specs.Digits.{two-digits, line-length, head-long}
 use Rattle.listing_text.specs.Lined.{rowText, span}
 
 pub row-bound : (l : ℕ) (r : Row) → Fits r → l + height r ≤ 100 → 6 * length (rowText l r) ≤ 13 * size r + 53040 * recordCount r

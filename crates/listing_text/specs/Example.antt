@@ -12,7 +12,7 @@ use Rattle.model.specs.Answers.{usualSettings, usualMatrix}
 use Rattle.model.specs.Common.{accept, opened}
 use Rattle.model.specs.Calls.Format.{config, formatNumber, formatOf}
 use Rattle.model.specs.Calls.Insert.{insertNumber, insertOf}
-use Rattle.listing_text.specs.Text.{decimalBy, decimalOf, hexOf, contentOf, lineOf, linesOf, headLine, listingOf, listingOn, printed}
+use Rattle.listing_lines.specs.Text.{decimalBy, decimalOf, hexOf, contentOf, lineOf, linesOf, headLine, listingOf, listingOn, printed}
 
 -- Some bytes formatted as three pages with root label 7; then literal 9 with bytes 41 42 at child 0, then aggregate 300 at child 0.
 abbrev formatted : (bytes : List ℕ) → List ℕ

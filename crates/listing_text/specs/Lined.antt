@@ -14,8 +14,8 @@ use Rattle.model.specs.Reading.{sizeAt, nameAt, kindAt, headAt}
 use Rattle.theory_row_bytes.specs.RowAt.{RowAt, sizeOf, restOf}
 use Rattle.theory_layout.specs.Here.{PageIn, Here, view}
 use Rattle.read_find.specs.Rowed.{startOn, endOn}
-use Rattle.listing_text.specs.Text.{lineOf, letterOf, linesOf}
-use Rattle.listing_text.specs.Wrote.{Room, Wrote, nothing, then, same-text}
+use Rattle.listing_lines.specs.Text.{lineOf, letterOf, linesOf}
+use Rattle.listing_lines.specs.Wrote.{Room, Wrote, nothing, then, same-text}
 use Rattle.listing_text.specs.declared.Extent.{Extent}
 
 -- ── the lines of a row ──

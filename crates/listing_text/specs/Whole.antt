@@ -20,9 +20,9 @@ use Rattle.theory_layout.specs.Here.{PageIn, Here, root-page}
 use Rattle.read_records.specs.Up.{upFrom, upPages}
 use Rattle.read_records.specs.Order.{up-order}
 use Rattle.read_find.specs.Rowed.{startOn, endOn}
-use Rattle.listing_text.specs.Text.{overLine, refusedLine, headLine, listingOf, listingOn, printed}
-use Rattle.listing_text.specs.Digits.{two-digits, refused-long}
-use Rattle.listing_text.specs.Wrote.{Room, Wrote, then, same-text}
+use Rattle.listing_lines.specs.Text.{overLine, refusedLine, headLine, listingOf, listingOn, printed}
+use Rattle.listing_lines.specs.Digits.{two-digits, refused-long}
+use Rattle.listing_lines.specs.Wrote.{Room, Wrote, then, same-text}
 use Rattle.listing_text.specs.Lined.{rowText, row-text, Lined, Fitting, Texted}
 use Rattle.listing_text.specs.Bound.{row-bound, head-bound, span-steps}
 

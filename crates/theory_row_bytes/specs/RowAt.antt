@@ -222,7 +222,10 @@ row-into l pos h cs rest s = record {
 
 -- ── a record ──
 
--- The bytes are those of the record that holds the row.
+-- The bytes are those of the row and no others, or of the record that holds the row.
+abbrev pub RowIs : List ℕ → Row → Type 0
+RowIs l row = l ≡ bytes row
+
 abbrev pub RecordIs : List ℕ → Row → Type 0
 RecordIs l row = l ≡ recordBytes row
 

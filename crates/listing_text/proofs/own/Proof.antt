@@ -2,7 +2,7 @@
 use mathlib.Core.Path.{sym}
 use borrow.Author.Needs.{needs}
 use native.Mathlib.Omega.{arith}
-use Rattle.listing_text.specs.Wrote.{nothing, same-room, same-text}
+use Rattle.listing_lines.specs.Wrote.{nothing, same-room, same-text}
 use Rattle.listing_text.specs.Lined.{node-fits, own-aggregate, own-literal, own-none}
 use Rattle.listing_text.proofs.own.Statement.{statement}
 use Rattle.listing_text.proofs.own.Tie as tie

@@ -2,7 +2,7 @@
 use mathlib.Core.Path.{sym, _∙_}
 use borrow.Author.Needs.{needs}
 use native.Mathlib.Omega.{arith}
-use Rattle.listing_text.specs.Wrote.{same-text}
+use Rattle.listing_lines.specs.Wrote.{same-text}
 use Rattle.listing_text.specs.Whole.{over-printed, listing-printed, refused-printed, refused-room}
 use Rattle.listing_text.proofs.print.Statement.{statement}
 use Rattle.listing_text.proofs.print.Tie as tie

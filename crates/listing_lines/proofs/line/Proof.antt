@@ -1,10 +1,10 @@
--- `listing_text::line`: its pieces one after another. cN is c N places before.
+-- `listing_lines::line`: its pieces one after another. cN is c N places before.
 use native.Mathlib.Omega.{arith}
-use Rattle.listing_text.specs.Wrote.{then}
-use Rattle.listing_text.specs.Text.{lineOf}
-use Rattle.listing_text.specs.Digits.{line-long}
-use Rattle.listing_text.proofs.line.Statement.{statement}
-use Rattle.listing_text.proofs.line.Tie as tie
+use Rattle.listing_lines.specs.Wrote.{then}
+use Rattle.listing_lines.specs.Text.{lineOf}
+use Rattle.listing_lines.specs.Digits.{line-long}
+use Rattle.listing_lines.proofs.line.Statement.{statement}
+use Rattle.listing_lines.proofs.line.Tie as tie
 
 decimal-requires : tie.Need-decimal-requires
 decimal-requires c κs =

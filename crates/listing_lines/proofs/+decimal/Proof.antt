@@ -1,20 +1,20 @@
--- `listing_text::decimal`: the digits before the last, then the last. The measure is the number. cN is c N places before.
+-- `listing_lines::decimal`: the digits before the last, then the last. The measure is the number. cN is c N places before.
 use mathlib.Core.Path.{sym, ap, _∙_}
 use mathlib.Core.List.{[], _∷_, _++_}
 use native.Mathlib.Omega.{arith}
 use Prim.Native.Nat.{ℕ, _/_, _<_}
 use borrow.Fn.Kinds.{In}
 use borrow.Fn.PlainCycle.{Measures, is, falls, and}
-use Rattle.listing_text.specs.Text.{decimalOf}
-use Rattle.listing_text.specs.Wrote.{then, same-text, same-room}
-use Rattle.listing_text.specs.Digits.{decimal-last, decimal-more, decimal-long}
-use Rattle.listing_text.proofs.decimal.Reads as decimal
-use Rattle.listing_text.proofs.decimal.Kinds as decimal-kinds
-use Rattle.listing_text.proofs.+decimal.Lts-decimal as decimal-lts
-use Rattle.listing_text.proofs.glyph.Reads as glyph-reads
-use Rattle.listing_text.proofs.put.Reads as put-reads
-use Rattle.listing_text.proofs.+decimal.{statement}
-use Rattle.listing_text.proofs.+decimal.Tie.{close}
+use Rattle.listing_lines.specs.Text.{decimalOf}
+use Rattle.listing_lines.specs.Wrote.{then, same-text, same-room}
+use Rattle.listing_lines.specs.Digits.{decimal-last, decimal-more, decimal-long}
+use Rattle.listing_lines.proofs.decimal.Reads as decimal
+use Rattle.listing_lines.proofs.decimal.Kinds as decimal-kinds
+use Rattle.listing_lines.proofs.+decimal.Lts-decimal as decimal-lts
+use Rattle.listing_lines.proofs.glyph.Reads as glyph-reads
+use Rattle.listing_lines.proofs.put.Reads as put-reads
+use Rattle.listing_lines.proofs.+decimal.{statement}
+use Rattle.listing_lines.proofs.+decimal.Tie.{close}
 
 abbrev μ-decimal : Measures 1 decimal-kinds.ps ℕ
 μ-decimal κs a = a .0

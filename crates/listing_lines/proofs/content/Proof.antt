@@ -1,9 +1,9 @@
--- `listing_text::content`: empty content is a dash. cN is c N places before.
+-- `listing_lines::content`: empty content is a dash. cN is c N places before.
 use mathlib.Core.Path.{sym}
-use Rattle.listing_text.specs.Wrote.{same-room, same-text}
-use Rattle.listing_text.specs.Digits.{content-empty, content-hex}
-use Rattle.listing_text.proofs.content.Statement.{statement}
-use Rattle.listing_text.proofs.content.Tie as tie
+use Rattle.listing_lines.specs.Wrote.{same-room, same-text}
+use Rattle.listing_lines.specs.Digits.{content-empty, content-hex}
+use Rattle.listing_lines.proofs.content.Statement.{statement}
+use Rattle.listing_lines.proofs.content.Tie as tie
 
 put-requires : tie.Need-put-requires
 put-requires c κs =

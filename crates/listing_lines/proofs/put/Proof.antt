@@ -1,8 +1,8 @@
--- `listing_text::put`: one byte.
+-- `listing_lines::put`: one byte.
 use borrow.Author.Needs.{needs}
-use Rattle.listing_text.specs.Wrote.{one-byte}
-use Rattle.listing_text.proofs.put.Statement.{statement}
-use Rattle.listing_text.proofs.put.Tie as tie
+use Rattle.listing_lines.specs.Wrote.{one-byte}
+use Rattle.listing_lines.proofs.put.Statement.{statement}
+use Rattle.listing_lines.proofs.put.Tie as tie
 
 returns : tie.Need-returns
 returns c = one-byte (c .pre)

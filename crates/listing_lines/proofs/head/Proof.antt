@@ -1,11 +1,11 @@
--- `listing_text::head`: its pieces one after another. cN is c N places before.
+-- `listing_lines::head`: its pieces one after another. cN is c N places before.
 use borrow.Author.Needs.{needs}
 use native.Mathlib.Omega.{arith}
-use Rattle.listing_text.specs.Wrote.{then}
-use Rattle.listing_text.specs.Text.{headLine}
-use Rattle.listing_text.specs.Digits.{head-long}
-use Rattle.listing_text.proofs.head.Statement.{statement}
-use Rattle.listing_text.proofs.head.Tie as tie
+use Rattle.listing_lines.specs.Wrote.{then}
+use Rattle.listing_lines.specs.Text.{headLine}
+use Rattle.listing_lines.specs.Digits.{head-long}
+use Rattle.listing_lines.proofs.head.Statement.{statement}
+use Rattle.listing_lines.proofs.head.Tie as tie
 
 words-requires : tie.Need-words-requires
 words-requires c κs =

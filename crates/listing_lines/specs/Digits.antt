@@ -9,7 +9,7 @@ use borrow.Author.Tests.{ltb-true, ltb-false, lt-ltb, le-ltb}
 use lib.ListN.{length, take, getD, length-append}
 use lib.Seq.{take-suc, take-all, length-take-le}
 use lib.Dec.{ltb}
-use Rattle.listing_text.specs.Text.{digit, decimalBy, decimalOf, hexOf, contentOf, lineOf, headLine, refusedLine}
+use Rattle.listing_lines.specs.Text.{digit, decimalBy, decimalOf, hexOf, contentOf, lineOf, headLine, refusedLine}
 
 -- ── decimal ──
 

@@ -1,14 +1,14 @@
--- `listing_text::hexadecimal`: the bytes before i are written. cN is c N places before.
+-- `listing_lines::hexadecimal`: the bytes before i are written. cN is c N places before.
 use mathlib.Core.Path.{sym}
 use Prim.Native.Nat.{_≤_, _-_}
 use lib.ListN.{length, take}
 use borrow.Author.Needs.{needs}
 use native.Mathlib.Omega.{arith}
-use Rattle.listing_text.specs.Text.{hexOf}
-use Rattle.listing_text.specs.Wrote.{Wrote, nothing, then, same-text}
-use Rattle.listing_text.specs.Digits.{length-hex, hex-none, hex-all, hex-long, hex-turn}
-use Rattle.listing_text.proofs.hexadecimal.Statement.{statement}
-use Rattle.listing_text.proofs.hexadecimal.Tie as tie
+use Rattle.listing_lines.specs.Text.{hexOf}
+use Rattle.listing_lines.specs.Wrote.{Wrote, nothing, then, same-text}
+use Rattle.listing_lines.specs.Digits.{length-hex, hex-none, hex-all, hex-long, hex-turn}
+use Rattle.listing_lines.proofs.hexadecimal.Statement.{statement}
+use Rattle.listing_lines.proofs.hexadecimal.Tie as tie
 
 abbrev Inv-loop : tie.InvT-loop
 Inv-loop bytes out₀ at i₀ n₀ out i n = Wrote (hexOf (take i bytes)) at out₀ out n × (i ≤ length bytes)

@@ -1,11 +1,11 @@
--- `listing_text::refused`: its pieces one after another. cN is c N places before.
+-- `listing_lines::refused`: its pieces one after another. cN is c N places before.
 use borrow.Author.Needs.{needs}
 use native.Mathlib.Omega.{arith}
-use Rattle.listing_text.specs.Wrote.{then}
-use Rattle.listing_text.specs.Text.{refusedLine}
-use Rattle.listing_text.specs.Digits.{refused-long}
-use Rattle.listing_text.proofs.refused.Statement.{statement}
-use Rattle.listing_text.proofs.refused.Tie as tie
+use Rattle.listing_lines.specs.Wrote.{then}
+use Rattle.listing_lines.specs.Text.{refusedLine}
+use Rattle.listing_lines.specs.Digits.{refused-long}
+use Rattle.listing_lines.proofs.refused.Statement.{statement}
+use Rattle.listing_lines.proofs.refused.Tie as tie
 
 words-requires : tie.Need-words-requires
 words-requires c κs = record { fits = omega (arith, refused-long (c .before .before .before .args .number)) }

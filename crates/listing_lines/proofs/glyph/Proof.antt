@@ -1,8 +1,8 @@
--- `listing_text::glyph`: the two ranges of digits.
+-- `listing_lines::glyph`: the two ranges of digits.
 use borrow.Author.Needs.{needs}
 use borrow.Author.Tests.{lt-ltb, le-ltb}
-use Rattle.listing_text.proofs.glyph.Statement.{statement}
-use Rattle.listing_text.proofs.glyph.Tie as tie
+use Rattle.listing_lines.proofs.glyph.Statement.{statement}
+use Rattle.listing_lines.proofs.glyph.Tie as tie
 
 returns : tie.Need-returns
 returns c = rw (lt-ltb _ _ (c .if1 .taken))
