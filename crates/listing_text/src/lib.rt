@@ -115,7 +115,15 @@ pub fn listing(image: &[u8], out: &mut [u8]) -> usize
     let at = head(pages, pages - 1 - n, n, out, 0);
     let start = row_start(image, 1);
     let stop = row_end(image, 1);
-    walk(image, start, stop, 1, 4194304, out, at)
+    walk(
+        image,
+        start,
+        stop,
+        1,
+        Settings::PAGE * Settings::PAGES,
+        out,
+        at,
+    )
 }
 
 // The check's number.

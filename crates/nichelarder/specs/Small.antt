@@ -116,12 +116,12 @@ module _ (img : List ℕ) (st : Config) (root : Row) (r : Reads img st root) whe
           let l = path-levels 0 (n .path) (shown root) n (in-tree (shown root) n (one-root st root v) (m .0)) in
           write-small (pathBytes (n .path)) buffer longestPath (omega (arith, length-path (n .path), height-shown root, v .levels))
 
-  listed-small : (buffer : List ℕ) → recordsOf (upPages img) img buffer .0 .written ≤ 2048
+  listed-small : (buffer : List ℕ) → recordsOf (upPages img) img buffer .0 .written ≤ 2 * mostPages
   unfolding recordsOf
   listed-small buffer =
       let v = reads-valid img st root r in
       let n = same-length (upPages img) (recordPages root) (up-order img st root r) in
-      rw (opens img st root r) (write-small (pageBytes (upPages img)) buffer 2048
+      rw (opens img st root r) (write-small (pageBytes (upPages img)) buffer (2 * mostPages)
       (omega (arith, length-pageBytes (upPages img), pages-few st root v, v .ranges .many)))
 
   read-start-small : (x : Place) → readOf img x .start + readOf img x .len ≤ mostBytes
@@ -140,7 +140,7 @@ module _ (img : List ℕ) (n : ℕ) (z : n ≡ 0 → ⊥) (e : checkOf img ≡ n
   unfolding climbOf
   climb-zero x buffer = rw (refuses img n e z) (omega arith)
 
-  records-zero : (order buffer : List ℕ) → recordsOf order img buffer .0 .written ≤ 2048
+  records-zero : (order buffer : List ℕ) → recordsOf order img buffer .0 .written ≤ 2 * mostPages
   unfolding recordsOf
   records-zero order buffer = rw (refuses img n e z) (omega arith)
 
@@ -157,7 +157,7 @@ next-small img x = by-store _ img (λ n z e. next-zero img n z e x) (λ st root 
 pub climb-small : (img : List ℕ) (x : Place) (buffer : List ℕ) → climbOf img x buffer .0 .written ≤ longestPath
 climb-small img x buffer = by-store _ img (λ n z e. climb-zero img n z e x buffer) (λ st root r. climbed-small img st root r x buffer)
 
-pub records-small : (img buffer : List ℕ) → recordsOf (upPages img) img buffer .0 .written ≤ 2048
+pub records-small : (img buffer : List ℕ) → recordsOf (upPages img) img buffer .0 .written ≤ 2 * mostPages
 records-small img buffer = by-store _ img (λ n z e. records-zero img n z e (upPages img) buffer) (λ st root r. listed-small img st root r buffer)
 
 pub read-small : (img : List ℕ) (x : Place) → readOf img x .start + readOf img x .len ≤ mostBytes

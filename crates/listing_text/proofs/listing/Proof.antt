@@ -63,4 +63,5 @@ returns c =
 pub listing-spec : {M : Type 1} → statement M
 listing-spec =
     tie.close
-    (tie.spec count-pages-requires sub-head sub-head-2 head-requires row-start-requires row-end-requires walk-requires same-length returns)
+    (tie.spec count-pages-requires sub-head sub-head-2 head-requires row-start-requires row-end-requires (λ c. omega arith) walk-requires same-length
+    returns)
