@@ -1,6 +1,5 @@
 -- What an insert's functions hand on.
 use mathlib.Core.Path.{_≡_, ap}
-use mathlib.Core.Bool.{true}
 use Prim.Native.Nat.{ℕ}
 use Rattle.base_layout.specs.declared.Setup.{Setup}
 use Rattle.base_layout.specs.declared.Growing.{Growing}
@@ -11,10 +10,6 @@ bufferSize = 4608
 
 abbrev pub separatorSize : ℕ
 separatorSize = 512
-
--- The same, dry.
-abbrev pub dried : Growing → Growing
-dried g = record { setup = g .setup; near = g .near; dry = true }
 
 -- The same, near another page.
 abbrev pub nearTo : Growing → ℕ → Growing

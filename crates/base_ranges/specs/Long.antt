@@ -1,9 +1,8 @@
 -- An image's length that passes.
 use mathlib.Core.Path.{_≡_}
-use mathlib.Core.Bool.{true, _&&_}
+use mathlib.Core.Bool.{true}
 use Prim.Native.Nat.{ℕ, _/_, _%_, _≤_}
 use borrow.Author.Tests.{leb-true, eqb-true}
-use lib.Dec.{leb, eqb}
 use Rattle.model.specs.Limits.{mostPages, pageSize}
 use Rattle.model.specs.Reading.{lengthOk}
 use Rattle.theory_decoding.specs.Valid.{both}

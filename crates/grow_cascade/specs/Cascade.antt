@@ -1,6 +1,6 @@
 -- What the loop goes by: growth from the record it is at gives what it gave from the first one.
-use mathlib.Core.Path.{_≡_, refl, sym, ap, _∙_}
-use mathlib.Core.Bool.{Bool, true, false, cond, _||_, true≢false}
+use mathlib.Core.Path.{_≡_, refl, ap, subst, _∙_}
+use mathlib.Core.Bool.{Bool, true, false, _||_, true≢false}
 use mathlib.Core.List.{List}
 use Prim.Native.Nat.{ℕ, _+_, _<_, _≤_}
 use native.Mathlib.Omega.{arith}
@@ -9,10 +9,11 @@ use lib.IntN.{ℤ}
 use Rattle.model.specs.Limits.{capacity}
 use Rattle.model.specs.Row.{Row, size, bytes, recordSize, recordBytes, Config}
 use Rattle.model.specs.Reading.{pageOf}
-use Rattle.model.specs.Growth.{Work, Out, separator}
+use Rattle.model.specs.Growth.{Work, Out, separator, rise}
 use Rattle.base_numbers.specs.Over.{over, length-over}
 use Rattle.theory_rows.specs.Laws.{length-bytes}
-use Rattle.theory_insert_point.specs.Chain.{Chain, top, below, lastSettled, lastHolder, rise}
+use Rattle.model.specs.Spot.{Chain, top, below}
+use Rattle.theory_growth.specs.Chain.{lastSettled, lastHolder}
 use Rattle.theory_page_memory.specs.Memory.{Mem, riseMem}
 use Rattle.base_layout.specs.declared.Growing.{Growing}
 use Rattle.base_layout.specs.Growing.{nearTo}
@@ -22,9 +23,9 @@ use Rattle.grow_split.specs.Severed.{Severed}
 use Rattle.grow_replace_proxy.specs.Lift.{Lift, lifted}
 use Rattle.grow_write_back.specs.Off.{SplitOff}
 use Rattle.grow_cascade.specs.declared.Grown.{Grown}
-use Rattle.grow_cascade.specs.Rising.{Rising, Risen}
-use Rattle.grow_cascade.specs.Settled.{leanNow}
-use Rattle.grow_cascade.specs.Up.{up-lift, up-rising, next-goal, next-mem, next-same, next-still}
+use Rattle.grow_cascade.specs.Rising.{Rising, LeftTable, Risen}
+use Rattle.grow_cascade.specs.Stops.{leanNow}
+use Rattle.grow_cascade.specs.Up.{up-lift, up-rising, next-goal, next-mem, split-after}
 
 -- A record of a store has a new row, in the buffer l, and is to be written, or split.
 pub record Cascade (g : Growing) (len : ℕ) (filled : Bool) (counts : ℕ) (leans : ℤ) (l u img : List ℕ) : Type 0 where
@@ -60,30 +61,23 @@ onward-start w = record { now = w; goes = refl; writes = λ _. refl; same = refl
 
 -- Growth stops here.
 pub onward-end : {goal : Out} {mem : Mem} {img₀ : List ℕ} {g : Growing} {len : ℕ} {filled : Bool} {counts : ℕ} {leans : ℤ} {l u img : List ℕ}
-    (o : Onward goal mem img₀ g len filled counts leans l u img) → {r : Grown} {new : List ℕ}
-    → Risen (goalOf (o .now)) (memOf (o .now)) (g .dry) r img new → Risen goal mem (g .dry) r img₀ new
-onward-end o r = record {
+    (o : Onward goal mem img₀ g len filled counts leans l u img) → {r : Grown} {new u′ : List ℕ}
+    → Risen (goalOf (o .now)) (memOf (o .now)) (g .dry) r img new u′ → Risen goal mem (g .dry) r img₀ new u′
+onward-end o {u′ = u′} r = record {
   full = r .full ∙ ap (λ (x : Out). x .1 .full) (o .goes);
   splits = r .splits ∙ ap (λ (x : Out). x .1 .splits) (o .goes);
   lean = r .lean ∙ ap (λ (x : Out). x .1 .lean) (o .goes);
   same = r .same ∙ o .same;
   still = λ z. r .still z ∙ o .still z;
   pages = λ z. r .pages z ∙ o .writes z;
+  table = λ z. subst (λ (x : Out). LeftTable x u′) (o .goes) (r .table z);
 }
 
 -- ── after the split ──
 
-pub bit-stays : (b : Bool) (k : ℕ) → k ≡ cond b 1 0 → k ≡ 1 → b ≡ true
-bit-stays true k e z = refl
-bit-stays false k e z = absurd (omega arith)
-
-pub bit-goes : (b : Bool) (k : ℕ) → k ≡ cond b 1 0 → (k ≡ 1 → ⊥) → b ≡ false
-bit-goes true k e z = absurd (z e)
-bit-goes false k e z = refl
-
 -- The separator is within what it was written to.
-pub severed-end : {st : Config} {g : Growing} {row : Row} {work : Work} {r : Output} {u before img out₀ out₁ : List ℕ}
-    → Severed st g row work r u before img out₀ out₁ → size (separator st (g .near) row work .0) ≤ length out₀ → r .end ≤ length out₁
+pub severed-end : {st : Config} {g : Growing} {row : Row} {work : Work} {r : Output} {table u before img out₀ out₁ : List ℕ}
+    → Severed st g row work r table u before img out₀ out₁ → size (separator st (g .near) row work .0) ≤ length out₀ → r .end ≤ length out₁
 severed-end {st} {g} {row} {work} {out₀ = out₀} v k =
     let S = separator st (g .near) row work .0 in
     omega (arith, v .end, ap length (v .out), length-over 0 (bytes S) out₀ (omega (arith, length-bytes S)), length-bytes S)
@@ -102,14 +96,14 @@ module _ {goal : Out} {mem : Mem} {img₀ : List ℕ} {g : Growing} {len : ℕ} 
   k = o .now
 
   pub upward : {holder : ℕ} {r : Output} {leans′ : ℤ} {u′ img₁ out₀ out₁ : List ℕ} → capacity < recordSize (k .row) → lastSettled (k .chain) ≡ false
-      → holder ≡ lastHolder (k .chain) → SplitOff (k .st) g (k .row) (k .work) (lastSettled (k .chain)) r u′ img img₁ out₀ out₁
+      → holder ≡ lastHolder (k .chain) → SplitOff (k .st) g (k .row) (k .work) (lastSettled (k .chain)) r u u′ img img₁ out₀ out₁
       → Past (g .setup .pages) u′ → leans′ ≡ leanNow (k .st) (k .row) counts leans
       → Upward goal mem img₀ g holder (r .end) (filled || r .full) (counts + 1) leans′ l u′ img₁ out₁
   upward {holder} {r} {leans′} {u′} {img₁} {out₀} {out₁} big un at sev past le = go (k .chain) (k .rising) (o .goes) (o .writes) un at sev
     where
       go : (c : Chain) → Rising (k .st) (k .was) (k .root) c (k .old) (k .row) (k .work) g len filled counts leans l u img
           → rise (k .st) c (k .row, k .work) ≡ goal → (g .dry ≡ false → riseMem (k .st) c (k .row) (k .work) (pageOf img) ≡ mem)
-          → lastSettled c ≡ false → holder ≡ lastHolder c → SplitOff (k .st) g (k .row) (k .work) (lastSettled c) r u′ img img₁ out₀ out₁
+          → lastSettled c ≡ false → holder ≡ lastHolder c → SplitOff (k .st) g (k .row) (k .work) (lastSettled c) r u u′ img img₁ out₀ out₁
           → Upward goal mem img₀ g holder (r .end) (filled || r .full) (counts + 1) leans′ l u′ img₁ out₁
       go top w y m un at sev = absurd (true≢false un)
       go (below c s q true rest) w y m un at sev = absurd (true≢false un)
@@ -128,7 +122,7 @@ module _ {goal : Out} {mem : Mem} {img₀ : List ℕ} {g : Growing} {len : ℕ} 
           };
           goes = next-goal w big sev ∙ y;
           writes = λ d. next-mem w big sev d ∙ m d;
-          same = next-same w big sev ∙ sym (w .same) ∙ o .same;
-          still = λ d. next-still w big sev d ∙ sym (w .still d) ∙ o .still d;
+          same = split-after w big sev .long ∙ o .same;
+          still = λ d. split-after w big sev .same d ∙ o .still d;
         };
       }

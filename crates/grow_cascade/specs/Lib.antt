@@ -1,5 +1,4 @@
 pub mod Rising
-pub mod Low
-pub mod Settled
+pub mod Stops
 pub mod Up
 pub mod Cascade

@@ -4,46 +4,60 @@ use mathlib.Core.Bool.{Bool, true, false, cond}
 use mathlib.Core.List.{List}
 use Prim.Native.Nat.{ℕ, _+_, _*_, _<_, _≤_}
 use native.Mathlib.Omega.{arith}
+use borrow.Author.Tests.{leb-false}
+use lib.Dec.{leb}
 use lib.ListN.{length, take}
 use lib.IntN.{ℤ}
 use Rattle.theory_row_bytes.specs.RowAt.{RecordIs}
-use Rattle.model.specs.Limits.{mostPages, pageSize, capacity, mostNode}
-use Rattle.model.specs.Row.{Row, store, isNil, lone, recordSize, recordPage, height, Config}
+use Rattle.model.specs.Limits.{mostPages, pageSize, capacity}
+use Rattle.model.specs.Row.{Row, isNil, recordSize, recordPage, count, outside, Config}
 use Rattle.model.specs.Reading.{Reads, twoAt, pageOf, backAt, settledAt}
-use Rattle.model.specs.Growth.{Work, Out, separator, rootRow, splitPoint, startOfD}
+use Rattle.model.specs.Growth.{Work, Out, separator, splitPoint, startOfD, rise}
 use Rattle.model.specs.Claims.{InLean}
-use Rattle.theory_rows.specs.Fits.{Fits, Valid}
-use Rattle.theory_rows.specs.Bound.{depth, SplitGood, split-good}
-use Rattle.theory_rows.specs.Store.{settled-lone}
+use Rattle.theory_rows.specs.Fits.{Valid}
+use Rattle.theory_rows.specs.Bound.{SplitGood}
+use Rattle.theory_rows.specs.Lean.{Splittable}
+use Rattle.theory_rows.specs.Pages.{bit, or-right, reserved}
 use Rattle.theory_decoding.specs.Decode.{in-trailer, two-bytes}
 use Rattle.theory_decoding.specs.Reading.{reads-valid, reads-length}
 use Rattle.theory_layout.specs.Here.{PageIn, OnPage, page-byte, page-number}
-use Rattle.theory_insert_point.specs.Chain.{Chain, top, below, lastPage, lastSettled, lastHolder, whole, rise}
+use Rattle.model.specs.Spot.{Chain, top, below, lastPage}
+use Rattle.theory_rows.specs.Population.{population}
+use Rattle.theory_places.specs.Widths.{Told}
+use Rattle.theory_growth.specs.Told.{told-chain, population-whole}
+use Rattle.grow_widths.specs.Tally.{mostEntry}
+use Rattle.theory_growth.specs.Chain.{lastSettled, lastHolder, whole, count-chain}
+use Rattle.theory_growth.specs.Keeps.{Growing as Grows, growing-splits, growing-some, split-able}
+use Rattle.theory_growth.specs.Shown.{population-rise}
 use Rattle.theory_insert_point.specs.Bytes.{lastHeld, chain-page, chain-bytes}
-use Rattle.theory_insert_point.specs.Levels.{height-rise, root-depth, chainLength}
+use Rattle.theory_insert_point.specs.Nesting.{chainLength}
 use Rattle.theory_page_memory.specs.Memory.{Mem}
-use Rattle.theory_page_memory.specs.Back.{fits-rise}
-use Rattle.theory_page_memory.specs.Around.{Low, chain-low}
+use Rattle.theory_page_memory.specs.Links.{not-bit}
 use Rattle.theory_page_memory.specs.Steps.{bit-le}
 use Rattle.theory_page_memory.specs.Kept.{Ready}
 use Rattle.grow_pages.specs.Links.{Below}
+use Rattle.grow_pages.specs.Write.{usedBy}
 use Rattle.base_layout.specs.declared.Growing.{Growing}
 use Rattle.base_layout.specs.Setup.{setupOf}
 use Rattle.base_layout.specs.Growing.{pages-of, target-of}
 use Rattle.grow_groups.specs.Used.{InUse, Past, Env}
+use Rattle.grow_split.specs.Tells.{Tabled}
 use Rattle.grow_write_back.specs.Leaning.{Leaning}
 use Rattle.grow_write_back.specs.Off.{Off, leaves}
 use Rattle.grow_cascade.specs.declared.Grown.{Grown}
 
--- A run that writes: no page is missing in the end, what stands around the last record stands on its pages, and its own page is as it was.
-pub record Wet (st : Config) (c : Chain) (old row : Row) (work : Work) (m : Mem) : Type 0 where
+-- A run that writes: no page is missing in the end, what stands around the last record stands on its pages, and its own page is as it was; the table is right for
+-- the store with the new row.
+pub record Wet (st : Config) (c : Chain) (old row : Row) (work : Work) (u : List ℕ) (m : Mem) : Type 0 where
   pub room : rise st c (row, work) .1 .full ≡ false
   pub first : List ℕ
   pub ready : Ready st first c old row work m
   pub own : m (lastPage c) ≡ recordPage (lastHeld c old)
+  pub told : Told u (whole c row)
+  pub few : population (rise st c (row, work) .0) ≤ mostEntry
 
 -- The store read as `root` from the image `was`; its record at the end of the chain c held `old` and is to hold `row`, with `work` done so far.
--- The rest are the code's: the record's length, what was counted, the buffer l, the marks u, and the image.
+-- The rest are the code's: the record's length, what was counted, the buffer l, the table u, and the image.
 pub record Rising (st : Config) (was : List ℕ) (root : Row) (c : Chain) (old row : Row) (work : Work)
     (g : Growing) (len : ℕ) (filled : Bool) (count : ℕ) (leans : ℤ) (l u img : List ℕ) : Type 0 where
   pub setup : setupOf st ≡ g .setup
@@ -52,35 +66,43 @@ pub record Rising (st : Config) (was : List ℕ) (root : Row) (c : Chain) (old r
   pub at : g .near ≡ lastPage c
   pub is : RecordIs (take len l) row
   pub long : len ≡ recordSize row
-  pub most : recordSize row ≤ (capacity + mostNode)
-  pub some : isNil row ≡ false
-  pub keeps : lone old ≡ true → lone row ≡ true
+  pub grows : Grows c old (row, work)
   pub below : Below (g .setup .pages) row
   pub marked : InUse u work
   pub past : Past (g .setup .pages) u
   pub full : filled ≡ work .full
   pub splits : count ≡ work .splits
   pub lean : leans ≡ work .lean
-  pub range : InLean leans
   pub short : chainLength c + count ≤ mostPages
-  pub fits : Fits (rise st c (row, work) .0)
-  pub levels : height (rise st c (row, work) .0) ≤ 24
   pub same : length img ≡ length was
   pub still : g .dry ≡ true → img ≡ was
-  pub wet : g .dry ≡ false → Wet st c old row work (pageOf img)
+  pub wet : g .dry ≡ false → Wet st c old row work u (pageOf img)
 
--- What growth gives in the end: what was counted, and the image.
-pub record Risen (goal : Out) (mem : Mem) (dry : Bool) (r : Grown) (img new : List ℕ) : Type 0 where
+-- What growth leaves of the table: it is right, and has the pages in use.
+pub record LeftTable (goal : Out) (u : List ℕ) : Type 0 where
+  pub told : Told u (goal .0)
+  pub marked : InUse u (goal .1)
+
+-- What growth gives in the end: what was counted, the image, and the table.
+pub record Risen (goal : Out) (mem : Mem) (dry : Bool) (r : Grown) (img new u : List ℕ) : Type 0 where
   pub full : r .full ≡ goal .1 .full
   pub splits : r .splits ≡ goal .1 .splits
   pub lean : r .lean ≡ goal .1 .lean
   pub same : length new ≡ length img
   pub still : dry ≡ true → new ≡ img
   pub pages : dry ≡ false → pageOf new ≡ mem
+  pub table : dry ≡ false → LeftTable goal u
+
+pub risen-by : {o o′ : Out} {mem : Mem} {dry : Bool} {r : Grown} {img new u : List ℕ} → o ≡ o′ → Risen o mem dry r img new u → Risen o′ mem dry r img new u
+risen-by {mem = mem} {dry} {r} {img} {new} {u} = subst (λ (o : Out). Risen o mem dry r img new u)
+
+is-bit : (b : Bool) → 1 ≤ bit b → b ≡ true
+is-bit true h = refl
+is-bit false h = absurd (omega arith)
 
 module _ {st : Config} {was : List ℕ} {root : Row} {c : Chain} {old row : Row} {work : Work}
-    {g : Growing} {len : ℕ} {filled : Bool} {count : ℕ} {leans : ℤ} {l u img : List ℕ}
-    (w : Rising st was root c old row work g len filled count leans l u img) where
+    {g : Growing} {len : ℕ} {filled : Bool} {counts : ℕ} {leans : ℤ} {l u img : List ℕ}
+    (w : Rising st was root c old row work g len filled counts leans l u img) where
   -- ── the record and its page ──
 
   pub valid : Valid st root
@@ -96,12 +118,6 @@ module _ {st : Config} {was : List ℕ} {root : Row} {c : Chain} {old row : Row}
   inside =
       let p = stands .here .on in
       omega (arith, p .low, p .inside, w .at, w .same, long-image, pages-of (w .setup), valid .ranges .many)
-
-  pub held-fits : Fits (store (whole c old))
-  held-fits = subst (λ (r : Row). Fits (store r)) (sym (w .held)) (valid .rows)
-
-  pub low : Low c old
-  low = chain-low c old held-fits
 
   own-page : pageOf img (lastPage c) ≡ recordPage (lastHeld c old)
   own-page = go (g .dry) refl
@@ -138,13 +154,14 @@ module _ {st : Config} {was : List ℕ} {root : Row} {c : Chain} {old row : Row}
 
   -- ── the new row ──
 
-  pub row-fits : Fits row
-  row-fits = fits-rise st c (row, work) (w .fits)
+  pub able : Splittable st row
+  able = growing-splits st (valid .ranges) c old (row, work) (w .grows) .1
 
-  pub deep : depth (rootRow st (lone row) row) ≤ 23
-  deep =
-      root-depth st c old row (ap lone (w .held) ∙ settled-lone root (valid .rows .0 .shape)) (w .keeps) row-fits
-      (omega (arith, height-rise st c (row, work), w .levels))
+  pub some : isNil row ≡ false
+  some = growing-some st (valid .ranges) c old (row, work) (w .grows)
+
+  pub range : InLean leans
+  range = subst InLean (sym (w .lean)) (w .grows .lean .0)
 
   -- The marks and the image for a split, in a dry run or not.
   module _ (d : Bool) where
@@ -162,14 +179,14 @@ module _ {st : Config} {was : List ℕ} {root : Row} {c : Chain} {old row : Row}
       ranges = valid .ranges;
       row = row;
       is = w .is;
-      fits = row-fits;
+      fits = able .fits;
       big = big;
-      most = w .most;
-      deep = deep;
+      most = able .most;
+      deep = able .deep;
     }
 
     pub good : (v : Work) → SplitGood (separator st (g .near) row v .0) (splitPoint st (recordSize row)) (startOfD st row)
-    good v = split-good st (valid .ranges) (g .near) row v row-fits big (w .most) deep
+    good v = split-able st (valid .ranges) (g .near) row v able big
 
     -- What the split of the record requires.
     abbrev pub off : (d : Bool) → (settled : ℕ) → settled ≡ cond (lastSettled c) 1 0 → Off (at-page d) settled (take len l) u
@@ -183,12 +200,37 @@ module _ {st : Config} {was : List ℕ} {root : Row} {c : Chain} {old row : Row}
           bit = e;
           row = row;
           is = w .is;
-          fits = row-fits;
+          fits = able .fits;
           big = big;
-          small = omega (arith, w .most);
+          small = omega (arith, able .most);
           below = w .below;
           work = work;
           marked = w .marked;
           good = y .fits;
           most = omega (arith, y .small);
         }
+
+  -- ── the table ──
+
+  module _ (wet : g .dry ≡ false) where
+    -- Each page is named as often as it is used, but for those outside.
+    tally : (q : ℕ) → reserved st q + count q (whole c row) ≡ bit (work .used q)
+    tally q = omega (arith, count-chain q c row, w .wet wet .ready .now .tally q)
+
+    pub named-once : (q : ℕ) → count q (whole c row) ≤ 1
+    named-once q = omega (arith, tally q, bit-le (work .used q))
+
+    -- What is named is in use.
+    pub named-used : (q : ℕ) → 1 ≤ count q (whole c row) → usedBy u q ≡ true
+    named-used q h =
+        let out : outside (st .pages) q ≡ false = not-bit _ (omega (arith, tally q, bit-le (work .used q))) in
+        let low : q < st .pages = leb-false (st .pages) q (or-right (leb q 1) (leb (st .pages) q) out) in
+        w .marked .same q (omega (arith, low, valid .ranges .many)) ∙ is-bit (work .used q) (omega (arith, tally q))
+
+    -- The table is right for the row.
+    pub tabled : Tabled u row
+    tabled = record {
+      told = told-chain u c row (w .wet wet .told) .1;
+      named = λ q h. named-used q (omega (arith, count-chain q c row));
+      few = omega (arith, population-whole c row, population-rise st c (row, work), w .wet wet .few);
+    }

@@ -15,7 +15,7 @@ ghost use Rattle.model.specs.Claims.{InLean};
 ghost use Rattle.base_layout.specs.Growing.{bufferSize};
 ghost use Rattle.grow_write_back.specs.Leaning.{Leaning};
 ghost use Rattle.grow_cascade.specs.Rising.{Risen};
-ghost use Rattle.grow_cascade.specs.Settled.{leanNow};
+ghost use Rattle.grow_cascade.specs.Stops.{leanNow};
 ghost use Rattle.grow_cascade.specs.Cascade.{Cascade, goalOf, memOf};
 
 // What growth counted: whether a page was taken where none was free, the records split, the lean of the first split.
@@ -39,15 +39,15 @@ fn lean_now(splits: u32, lean: i32, buf: &[u8], setup: Setup) -> i32
 // The record on the page that `start` is near has the new content buf[..len]; `full` says whether a page was missing before.
 pub fn cascade(
     image: &mut [u8],
-    used: &mut [u8; Settings::PAGES],
+    widths: &mut [u32; Settings::PAGES],
     start: Growing,
     buf: &mut [u8],
     mut len: usize,
     mut full: bool,
 ) -> Grown
-    requires { ⌜ (length (now buf) ≡ bufferSize) × Cascade start len full 0 (pos 0) (now buf) (now used) (now image) ⌝ }
-    ensures { λ r. ⌜ ((w : Cascade start len full 0 (pos 0) (now (buf .entry)) (now (used .entry)) (now (image .entry)))
-        → Risen (goalOf w) (memOf w) (start .dry) r (now (image .entry)) (now (image .exit))) ⌝ }
+    requires { ⌜ (length (now buf) ≡ bufferSize) × Cascade start len full 0 (pos 0) (now buf) (now widths) (now image) ⌝ }
+    ensures { λ r. ⌜ ((w : Cascade start len full 0 (pos 0) (now (buf .entry)) (now (widths .entry)) (now (image .entry)))
+        → Risen (goalOf w) (memOf w) (start .dry) r (now (image .entry)) (now (image .exit)) (now (widths .exit))) ⌝ }
 {
     let setup = start.setup;
     let dry = start.dry;
@@ -65,7 +65,7 @@ pub fn cascade(
         lean = lean_now(splits, lean, &buf[..len], setup);
         splits = splits + 1;
         let mut sep = [0u8; Growing::SEPARATOR];
-        let s = split_off(&buf[..len], image, used, g, settled, &mut sep);
+        let s = split_off(&buf[..len], image, widths, g, settled, &mut sep);
         full = full | s.full;
         if settled == 1 {
             keep(image, g, &sep[..s.end], settled, holder);

@@ -2,7 +2,7 @@
 use mathlib.Core.Path.{_≡_, refl, sym, ap, _∙_}
 use mathlib.Core.Bool.{Bool, true, false, cond, not, _||_, false≢true, true≢false}
 use mathlib.Core.List.{List, [], _∷_, _++_, append-nil}
-use Prim.Native.Nat.{ℕ, _+_, _-_, _<_, _≤_}
+use Prim.Native.Nat.{ℕ, _+_, _<_, _≤_}
 use native.Mathlib.Omega.{arith}
 use native.Mathlib.Nat.{zero-add}
 use lib.Dec.{eqb}
@@ -15,6 +15,7 @@ use Rattle.model.specs.Reading.{twoAt}
 use Rattle.model.specs.Growth.{freeFrom}
 use Rattle.theory_rows.specs.Laws.{length-bytes, isNil-nil, cond-case}
 use Rattle.theory_rows.specs.Fits.{Fits}
+use Rattle.theory_rows.specs.Pages.{or-left}
 use Rattle.base_numbers.specs.Over.{over, over-right, over-then}
 use Rattle.base_layout.specs.declared.Growing.{Growing}
 use Rattle.base_layout.specs.Setup.{setupOf}
@@ -22,23 +23,27 @@ use Rattle.base_layout.specs.Growing.{pages-of}
 use Rattle.grow_pages.specs.Write.{usedBy, setPage, pageBytesOf}
 use Rattle.grow_pages.specs.Links.{Below, Linked}
 use Rattle.grow_pages.specs.Relinked.{written}
+use Rattle.grow_widths.specs.Tally.{numberOf}
+use Rattle.grow_widths.specs.Tallying.{linked-most}
 use Rattle.grow_split_point.specs.Kids.{Node, node, sizeOf}
+use Rattle.grow_split_point.specs.Chosen.{size-some}
 use Rattle.grow_groups.specs.declared.Output.{Output}
 use Rattle.grow_groups.specs.Used.{Past, free-within, set-past}
 
--- What a split makes of a row and of the bytes that it works on: the row that comes of it, the marks, whether a page was taken where none was free, the image.
+-- What a split makes of a row and of the bytes that it works on: the row that comes of it, the table of pages in use, whether a page was taken where none
+-- was free, the image.
 pub record Cutting : Type 0 where
   pub row : Row
   pub used : List ℕ
   pub full : Bool
   pub img : List ℕ
 
--- The model's group over the marks of used pages and the image. A dry run leaves the image as it is, and is else the same.
+-- The model's group over the table of pages in use and the image. A dry run leaves the image as it is, and is else the same.
 unfoldable pub groupI : (st : Config) → (g : Growing) → (group : Row) → (used image : List ℕ) → Cutting
 groupI st g r u img =
     let q = freeFrom st (st .pages) (usedBy u) (g .near) in
     let stay : Cutting = record { row = r; used = u; full = false; img = img } in
-    let own : Cutting = record { row = rec q false r nil; used = set u q 1; full = eqb q 0; img = cond (g .dry) img (written q false 0 r img) } in
+    let own : Cutting = record { row = rec q false r nil; used = set u q (numberOf u r); full = eqb q 0; img = cond (g .dry) img (written q false 0 r img) } in
     cond (isNil r || loneRec r) stay own
 
 -- ── a proxy ──
@@ -64,12 +69,6 @@ pub record NewRecord (l : List ℕ) (n : ℕ) : Type 0 where
   pub moves : (isNil row || loneRec row) ≡ false
   pub small : recordSize row ≤ capacity
 
-pub some-size : (r : Row) → (isNil r || loneRec r) ≡ false → 0 < size r
-some-size nil e = absurd (true≢false e)
-some-size (agg h cs rest) e = omega arith
-some-size (lit h c rest) e = omega arith
-some-size (rec p s r rest) e = omega arith
-
 nil-size : (r : Row) → size r ≡ 0 → isNil r ≡ true
 nil-size nil e = refl
 nil-size (agg h cs rest) e = absurd (omega arith)
@@ -94,7 +93,7 @@ module _ (l : List ℕ) (n : ℕ) (w : NewRecord l n) where
 
   part-node : Node l 0 (w .row)
   part-node =
-      node l 0 (w .row) (some-size (w .row) (w .moves)) (omega (arith, w .small, part-length))
+      node l 0 (w .row) (size-some (w .row) (or-left (isNil (w .row)) (loneRec (w .row)) (w .moves))) (omega (arith, w .small, part-length))
       (record { post = []; is = w .is ∙ sym (append-nil (bytes (w .row))) })
 
   part-size : twoAt l 4 ≡ sizeOf (w .row)
@@ -172,7 +171,7 @@ unfolding groupI
 group-past st g e few start r u img h =
     let n = g .setup .pages in
     cond-case (λ (c : Cutting). Past n (c .used)) (isNil r || loneRec r) (λ _. h)
-    (λ _. set-past n _ 1 u (free-within st n (g .near) (usedBy u) (pages-of e) few start h (st .pages)) h)
+    (λ _. set-past n _ (numberOf u r) u (free-within st n (g .near) (usedBy u) (pages-of e) few start h (st .pages)) h)
 
 module _ {g : Growing} {l u img : List ℕ} {room : ℕ} (w : Grouping g l u img room) where
   group-length : length l ≡ size (w .row)
@@ -211,11 +210,14 @@ module _ {g : Growing} {l u img : List ℕ} {room : ℕ} (w : Grouping g l u img
     unfolding groupI
     proxy-room = let z : 8 + 0 ≤ room = rw (sym h) at (w .within) in omega arith
 
-    pub group-moved : (q at : ℕ) (b out o : List ℕ) → q ≡ freeFrom (w .st) (g .setup .pages) (usedBy u) (g .near)
+    abbrev pub group-linked : g .setup .pages ≤ mostPages → Linked l mostPages
+    group-linked few = linked-most few (part-linked l (g .setup .pages) group-record)
+
+    pub group-moved : (q n at : ℕ) (b out o : List ℕ) → q ≡ freeFrom (w .st) (g .setup .pages) (usedBy u) (g .near) → n ≡ numberOf u (w .row)
         → b ≡ cond (g .dry) img (written q false 0 (w .row) img) → o ≡ over at (proxyBytes q) out
-        → Outcome (groupI (w .st) g (w .row) u img) at (record { end = at + 8; full = eqb q 0 }) (set u q 1) b o out
+        → Outcome (groupI (w .st) g (w .row) u img) at (record { end = at + 8; full = eqb q 0 }) (set u q n) b o out
     unfolding groupI
-    group-moved q at b out o e pb po =
+    group-moved q n at b out o e en pb po =
         let k : q ≡ freeFrom (w .st) (w .st .pages) (usedBy u) (g .near) =
         e ∙ ap (λ (i : ℕ). freeFrom (w .st) i (usedBy u) (g .near)) (sym (pages-of (w .setup))) in
-        rw (sym h, ← k) (record { used = refl; image = pb; filled = refl; written = po; next = omega arith })
+        rw (sym h, ← k) (record { used = ap (set u q) en; image = pb; filled = refl; written = po; next = omega arith })

@@ -1,18 +1,17 @@
--- The marks of used pages, and the free page that a search finds.
+-- The table of pages in use, and the free page that a search finds.
 use mathlib.Core.Path.{_≡_, refl, sym, ap, _∙_}
-use mathlib.Core.Bool.{Bool, true, false, cond, not, true≢false}
+use mathlib.Core.Bool.{Bool, true, false, not, true≢false}
 use mathlib.Core.List.{List, []}
-use mathlib.Core.Logic.{_⊎_, inl, inr}
-use Prim.Native.Nat.{ℕ, zero, suc, _*_, _<_, _≤_}
+use Prim.Native.Nat.{ℕ, _*_, _<_, _≤_}
 use native.Mathlib.Omega.{arith}
-use borrow.Author.Tests.{ltb-true, ltb-false}
+use borrow.Author.Tests.{eqb-true, ltb-true, ltb-false}
 use lib.Dec.{eqb, ltb}
 use lib.ListN.{length, set}
 use lib.Seq.{getD-set-other}
 use Rattle.model.specs.Limits.{mostPages, pageSize}
 use Rattle.model.specs.Row.{Config}
 use Rattle.model.specs.Growth.{Work, freeFrom}
-use Rattle.theory_rows.specs.Laws.{cond-case}
+use Rattle.theory_rows.specs.Pages.{free-found}
 use Rattle.base_layout.specs.declared.Growing.{Growing}
 use Rattle.grow_pages.specs.Write.{usedBy, free-below}
 
@@ -24,6 +23,9 @@ pub record InUse (u : List ℕ) (w : Work) : Type 0 where
 -- Pages from n on are marked as used.
 abbrev pub Past : (n : ℕ) → List ℕ → Type 0
 Past n u = (q : ℕ) → n ≤ q → q < mostPages → usedBy u q ≡ true
+
+pub marked-beyond : {n : ℕ} {u : List ℕ} {w : Work} → InUse u w → Past n u → (q : ℕ) → n ≤ q → q < mostPages → w .used q ≡ true
+marked-beyond m past q k h = sym (m .same q h) ∙ past q k h
 
 -- The numbers, the marks and the image that growth goes by.
 pub record Env (g : Growing) (u img : List ℕ) : Type 0 where
@@ -37,25 +39,20 @@ pub record Env (g : Growing) (u img : List ℕ) : Type 0 where
 pub env-with : {g : Growing} {u img u′ img′ : List ℕ} → Env g u img → length img′ ≡ length img → Past (g .setup .pages) u′ → Env g u′ img′
 env-with env e past = record { few = env .few; image = omega (arith, env .image); low = env .low; start = env .start; past = past }
 
-free-or : (st : Config) (used : ℕ → Bool) (k q : ℕ) → (used (freeFrom st k used q) ≡ false) ⊎ (freeFrom st k used q ≡ 0)
-unfolding freeFrom
-free-or st used zero q = inr refl
-free-or st used (suc k) q =
-    let r = freeFrom st k used (cond (ltb (suc q) (st .pages)) (suc q) 2) in
-    cond-case (λ (i : ℕ). (used i ≡ false) ⊎ (i ≡ 0)) (used q) (λ _. free-or st used k (cond (ltb (suc q) (st .pages)) (suc q) 2)) (λ e. inl e)
-
 -- A page is found inside the image, or it is 0.
 pub free-within : (st : Config) (n near : ℕ) (used : ℕ → Bool) → st .pages ≡ n → n ≤ mostPages → near < n
     → ((q : ℕ) → n ≤ q → q < mostPages → used q ≡ true) → (k : ℕ) → freeFrom st k used near < n
-free-within st n near used e few start past k =
-    let q = freeFrom st k used near in
-    let h : q < mostPages = free-below st (omega (arith, e)) used k near (omega arith) in
-    go q h (free-or st used k near) (ltb q n) refl
+free-within st n near used e few start past k = go (eqb q 0) (ltb q n) refl refl
   where
-    go : (q : ℕ) → q < mostPages → (used q ≡ false) ⊎ (q ≡ 0) → (b : Bool) → ltb q n ≡ b → q < n
-    go q h f true g = ltb-true q n g
-    go q h (inl f) false g = absurd (true≢false (sym (past q (ltb-false q n g) h) ∙ f))
-    go q h (inr f) false g = omega arith
+    q : ℕ
+    q = freeFrom st k used near
+
+    go : (b d : Bool) → eqb q 0 ≡ b → ltb q n ≡ d → q < n
+    go true d z i = omega (arith, eqb-true q 0 z)
+    go false true z i = ltb-true q n i
+    go false false z i =
+        let h : q < mostPages = free-below st (omega (arith, e)) used k near (omega arith) in
+        absurd (true≢false (sym (past q (ltb-false q n i) h) ∙ free-found st k used near z))
 
 -- Some settings with so many pages: the search for a page reads no other.
 abbrev pub some-config : ℕ → Config

@@ -7,6 +7,7 @@ use grow_pages::first_free;
 use grow_pages::put_record;
 use grow_pages::relink;
 use grow_split_point::stays;
+use grow_widths::number;
 use model::Settings;
 ghost use mathlib.Core.Path.{_≡_};
 ghost use mathlib.Core.Bool.{false};
@@ -68,16 +69,16 @@ pub fn put_nodes(image: &mut [u8], pages: usize, q: usize, part: &[u8])
 pub fn put_group(
     part: &[u8],
     image: &mut [u8],
-    used: &mut [u8; Settings::PAGES],
+    widths: &mut [u32; Settings::PAGES],
     g: Growing,
     out: &mut [u8],
     at: usize,
 ) -> Output
-    requires { ⌜ Env g (now used) (now image)
-        × ((at ≤ length (now out)) × Grouping g (now part) (now used) (now image) (length (now out) - at)) ⌝ }
-    ensures { λ r. ⌜ ((w : Grouping g (now (part .entry)) (now (used .entry)) (now (image .entry)) (length (now (out .entry)) - at))
-        → Outcome (groupI (w .st) g (w .row) (now (used .entry)) (now (image .entry))) at r
-        (now (used .exit)) (now (image .exit)) (now (out .exit)) (now (out .entry))) ⌝ }
+    requires { ⌜ Env g (now widths) (now image)
+        × ((at ≤ length (now out)) × Grouping g (now part) (now widths) (now image) (length (now out) - at)) ⌝ }
+    ensures { λ r. ⌜ ((w : Grouping g (now (part .entry)) (now (widths .entry)) (now (image .entry)) (length (now (out .entry)) - at))
+        → Outcome (groupI (w .st) g (w .row) (now (widths .entry)) (now (image .entry))) at r
+        (now (widths .exit)) (now (image .exit)) (now (out .exit)) (now (out .entry))) ⌝ }
 {
     if stays(part) {
         copy_in(part, out, at);
@@ -88,8 +89,8 @@ pub fn put_group(
     }
     let pages = g.setup.pages;
     let dry = g.dry;
-    let q = first_free(used, pages, g.near);
-    used[q] = 1;
+    let q = first_free(widths, pages, g.near);
+    widths[q] = number(part, widths);
     if !dry {
         put_nodes(image, pages, q, part);
     }

@@ -1,10 +1,15 @@
 // An insert on an image that passes the check: its refusals, then a dry run, then one that writes.
+use base_layout::setup_on;
 use grow_new_node::put_node;
+use grow_new_node::shut;
+use grow_path::child_path;
 use grow_refusals::admit;
 use grow_run::once;
+use grow_widths::one_more;
 use model::InsertAnswer;
 use model::Place;
 use model::Settings;
+use read_find::find_in;
 ghost use mathlib.Core.Path.{_≡_};
 ghost use Rattle.model.specs.Answers.{insertRefused};
 ghost use Rattle.model.specs.Calls.Check.{checkOf};
@@ -22,10 +27,11 @@ fn refused(number: u32) -> InsertAnswer
     }
 }
 
-// Insert, on an image that passes the check. The dry run finds whether the store is full, so that a refused insert alters no byte.
+// Insert, on an image that passes the check, with its table. The dry run, on a copy of the table, finds whether the store is full, so that a refused insert alters
+// no byte. All that is read of the caller's path and content is read before the first write: they may lie in the image. The table is right for the image that is left.
 pub fn insert_of(
     image: &mut [u8],
-    widths: &[u32; Settings::PAGES],
+    widths: &mut [u32; Settings::PAGES],
     path: &[u8],
     child: u32,
     kind: usize,
@@ -35,6 +41,7 @@ pub fn insert_of(
     requires { ⌜ (checkOf (now image) ≡ 0) × Widths (now image) (now widths) ⌝ }
     ensures answer { λ r. ⌜ r ≡ insertOf (now (image .entry)) (now (path .entry)) child kind label (now (content .entry)) .0 ⌝ }
     ensures image { λ _. ⌜ now (image .exit) ≡ insertOf (now (image .entry)) (now (path .entry)) child kind label (now (content .entry)) .1 ⌝ }
+    ensures table { λ _. ⌜ Widths (now (image .exit)) (now (widths .exit)) ⌝ }
 {
     let k = child as usize;
     let l = label as usize;
@@ -42,17 +49,27 @@ pub fn insert_of(
     if a.number != 0 {
         return refused(a.number);
     }
+    let t = a.receiver;
+    let mut whole = [0u8; Settings::PATH];
+    let end = child_path(path, child, &mut whole);
     let mut node = [0u8; Settings::NODE];
     let n = put_node(&mut node, kind, l, content);
-    let tried = once(image, a.parent, k, a.left, l, &node[..n], true);
+    let setup = setup_on(image);
+    shut(widths, setup.pages);
+    let mut trial = *widths;
+    let tried = once(image, &mut trial, a.parent, t, l, &node[..n], true);
     if tried.full {
         return refused(12);
     }
-    let made = once(image, a.parent, k, a.left, l, &node[..n], false);
-    let place = made.place;
+    one_more(image, widths, t.page, t.deep);
+    let made = once(image, widths, a.parent, t, l, &node[..n], false);
+    let at = find_in(image, widths, &whole[..end]).place;
     InsertAnswer {
         number: 0,
-        place: place,
+        place: Place {
+            page: at.page,
+            offset: at.offset,
+        },
         splits: made.splits,
         lean: made.lean,
     }

@@ -1,5 +1,3 @@
+pub mod Behind
 pub mod Parent
 pub mod Aim
-pub mod Keeps
-pub mod Held
-pub mod Receive

@@ -1,4 +1,3 @@
 pub mod Marks
 pub mod Node
-pub mod Apart
 pub mod Placed

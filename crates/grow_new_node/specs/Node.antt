@@ -1,13 +1,13 @@
 -- The new node: its bytes, and whether the matrix sets it apart.
 use mathlib.Core.Path.{_≡_, refl, sym, ap, _∙_}
 use mathlib.Core.Bool.{Bool, true, false, not, _&&_, _||_, true≢false}
-use mathlib.Core.List.{List, [], _∷_, _++_, append-nil}
+use mathlib.Core.List.{List, [], _++_, append-nil}
 use mathlib.Core.Logic.{_⊎_, inl, inr, ⊎-elim}
-use Prim.Native.Nat.{ℕ, zero, suc, _+_, _*_, _≤_, _<_}
+use Prim.Native.Nat.{ℕ, _+_, _*_, _≤_, _<_}
 use native.Mathlib.Omega.{arith}
-use borrow.Author.Tests.{eqb-true, lt-ltb, le-ltb}
-use lib.ListN.{length, getD, take, drop}
-use lib.Seq.{getD-take, getD-drop}
+use borrow.Author.Tests.{not-false, eqb-true}
+use lib.ListN.{length, getD, take, drop, drop-of-length-le}
+use lib.Seq.{getD-take, getD-drop, drop-cons}
 use lib.Dec.{eqb}
 use Rattle.model.specs.Limits.{mostContent}
 use Rattle.model.specs.Row.{Head, Row, nil, size, two, bytes, Config}
@@ -26,19 +26,14 @@ pub record Sound (kind label : ℕ) (content : List ℕ) : Type 0 where
   pub label-fits : label < 65536
   pub small : length content ≤ mostContent
 
-nothing : (l : List ℕ) → length l ≡ 0 → l ≡ []
-nothing [] e = refl
-nothing (x ∷ l) e = absurd (omega arith)
-
 module _ (k l : ℕ) (c : List ℕ) (b : kindBad (newOf k l c) ≡ false) where
   kinds-are : ((k ≡ 1) × (c ≡ [])) ⊎ (k ≡ 2)
-  kinds-are = go (eqb k 1) (eqb k 2) (eqb (length c) 0) refl refl refl b
+  kinds-are = go (eqb k 1) (eqb k 2) refl refl b
     where
-      go : (x y z : Bool) → eqb k 1 ≡ x → eqb k 2 ≡ y → eqb (length c) 0 ≡ z → (not (x || y) || (x && not z)) ≡ false → ((k ≡ 1) × (c ≡ [])) ⊎ (k ≡ 2)
-      go true y true e f g h = inl (eqb-true k 1 e, nothing c (eqb-true (length c) 0 g))
-      go true y false e f g h = absurd (true≢false h)
-      go false true z e f g h = inr (eqb-true k 2 f)
-      go false false z e f g h = absurd (true≢false h)
+      go : (x y : Bool) → eqb k 1 ≡ x → eqb k 2 ≡ y → (not (x || y) || (x && not (eqb (length c) 0))) ≡ false → ((k ≡ 1) × (c ≡ [])) ⊎ (k ≡ 2)
+      go true y e f h = inl (eqb-true k 1 e, drop-of-length-le c {i = 0} (omega (arith, eqb-true (length c) 0 (not-false _ h))))
+      go false true e f h = inr (eqb-true k 2 f)
+      go false false e f h = absurd (true≢false h)
 
   pub node-kind : k < 3
   node-kind = ⊎-elim (λ e. omega arith) (λ e. omega arith) kinds-are
@@ -62,18 +57,6 @@ module _ (st : Config) (k l : ℕ) (c : List ℕ) (b : kindBad (newOf k l c) ≡
 
 -- ── the matrix ──
 
--- An element that is there needs no default.
-there : (l : List ℕ) (i a b : ℕ) → i < length l → getD l i a ≡ getD l i b
-there [] i a b h = absurd (omega arith)
-there (x ∷ l) zero a b h = refl
-there (x ∷ l) (suc i) a b h = there l i a b (omega arith)
-
-pub class-low : (st : Config) (l : ℕ) → l < 15 → l ≡ class st l
-class-low st l h = sym (rw (lt-ltb l 15 h))
-
-pub class-high : (st : Config) (l : ℕ) → 15 ≤ l → 15 ≡ class st l
-class-high st l h = sym (rw (le-ltb l 15 h))
-
 -- The entry of the matrix, which stands in the image from byte n on.
 pub entry : (img : List ℕ) (st : Config) (root : Row) → Reads img st root → (n : ℕ) → 16 ≡ n → (h c : Head) (i j : ℕ)
     → i ≡ class st (h .label) → j ≡ class st (c .label) → i < 16 → j < 16 → eqb (getD img (n + 16 * i + j) 0) 0 ≡ apart st h c
@@ -83,10 +66,11 @@ entry img st root r n s h c i j ei ej bi bj =
     let m : take 256 (drop 16 img) ≡ st .matrix =
     ap (λ (l : List ℕ). take 256 (drop 16 l)) (r .same) ∙ ap (λ (s : Config). s .matrix) (config-image st root v) in
     let z : n + 16 * i + j ≡ 16 + k = omega arith in
+    let h : k < length (st .matrix) = omega (arith, v .ranges .entries) in
     let g : getD img (n + 16 * i + j) 0 ≡ getD (st .matrix) k 2 =
     ap (λ (n : ℕ). getD img n 0) z
     ∙ sym (getD-drop 16 img k 0)
     ∙ sym (getD-take 256 (drop 16 img) k 0 (omega arith))
     ∙ ap (λ (l : List ℕ). getD l k 0) m
-    ∙ there (st .matrix) k 0 2 (omega (arith, v .ranges .entries)) in
+    ∙ cc (drop-cons (st .matrix) k 0 h, drop-cons (st .matrix) k 2 h) in
     ap (λ (n : ℕ). eqb n 0) g ∙ rw (ei, ej)

@@ -1,4 +1,4 @@
-// The start of an insert, on an image that passes the check: the pages in use, the new node's bytes, and its own record if it is set apart.
+// The start of an insert, on an image that passes the check: the pages that it never takes, the new node's bytes, and its own record if it is set apart.
 use base_layout::Growing;
 use base_layout::Setup;
 use base_numbers::copy_in;
@@ -11,19 +11,19 @@ ghost use mathlib.Core.Path.{_≡_};
 ghost use mathlib.Core.Bool.{true};
 ghost use Prim.Native.Nat.{_+_, _*_, _≤_, _<_};
 ghost use lib.ListN.{length};
-ghost use Rattle.model.specs.Limits.{mostPages, pageSize, capacity};
+ghost use Rattle.model.specs.Limits.{mostPages, capacity};
 ghost use Rattle.model.specs.Row.{Head, Row, nil, size, bytes, lone, Config};
 ghost use Rattle.model.specs.Reading.{Reads};
 ghost use Rattle.model.specs.Calls.Insert.{newOf};
 ghost use Rattle.model.specs.Tree.{New};
-ghost use Rattle.model.specs.Growth.{Work, class, apart, asRow, atRest, freeFrom};
+ghost use Rattle.model.specs.Growth.{Work, class, apart, asRow, freeFrom};
 ghost use Rattle.base_numbers.specs.Over.{over};
 ghost use Rattle.base_layout.specs.Setup.{setupOf};
 ghost use Rattle.grow_pages.specs.Write.{usedBy};
+ghost use Rattle.grow_new_node.specs.Marks.{Shut};
 ghost use Rattle.grow_new_node.specs.Node.{Sound};
 ghost use Rattle.grow_groups.specs.Used.{InUse, Env};
-ghost use Rattle.grow_new_node.specs.Apart.{Own};
-ghost use Rattle.grow_new_node.specs.Placed.{NodePlaced};
+ghost use Rattle.grow_new_node.specs.Placed.{Own, NodePlaced};
 
 // How many bytes stand for the new node in its row, and whether a page was taken where none was free.
 pub struct Fresh {
@@ -31,18 +31,17 @@ pub struct Fresh {
     pub full: bool,
 }
 
-// The pages that are not free: 0, 1, those past the end, and those whose trailer begins with 1.
-pub fn usage(image: &[u8], pages: usize) -> [u8; Settings::PAGES]
-    requires { ⌜ (pages ≤ mostPages) × (pageSize * pages ≡ length (now image)) ⌝ }
-    ensures { λ r. ⌜ ((st : Config) (root : Row) → Reads (now (image .entry)) st root → InUse r (atRest st root)) ⌝ }
+// Marks the pages that growth never takes as in use: 0, 1 and those past the end.
+pub fn shut(widths: &mut [u32; Settings::PAGES], pages: usize)
+    ensures { λ _. ⌜ (length (now (widths .entry)) ≡ mostPages → Shut pages (now (widths .entry)) (now (widths .exit))) ⌝ }
 {
-    let mut used = [1u8; Settings::PAGES];
-    let mut p = 2;
-    while p < pages {
-        used[p] = image[Settings::PAGE * p + Settings::CAPACITY];
+    widths[0] = 1;
+    widths[1] = 1;
+    let mut p = pages;
+    while p < Settings::PAGES {
+        widths[p] = 1;
         p += 1;
     }
-    used
 }
 
 // Writes the new node to the front of out; its size.
@@ -81,19 +80,19 @@ pub fn is_apart(image: &[u8], setup: Setup, parent: usize, child: usize) -> bool
 // Gives the node a settled record of its own and writes its proxy to the front of out; whether no page was free.
 pub fn place_apart(
     image: &mut [u8],
-    used: &mut [u8; Settings::PAGES],
+    widths: &mut [u32; Settings::PAGES],
     g: Growing,
     node: &[u8],
     out: &mut [u8],
 ) -> bool
-    requires { ⌜ Env g (now used) (now image) × ((length (now node) ≤ capacity) × (8 ≤ length (now out))) ⌝ }
+    requires { ⌜ Env g (now widths) (now image) × ((length (now node) ≤ capacity) × (8 ≤ length (now out))) ⌝ }
     ensures { λ r. ⌜ ((st : Config) → setupOf st ≡ g .setup → (row : Row) → lone row ≡ true → now (node .entry) ≡ bytes row
-        → Own (freeFrom st (st .pages) (usedBy (now (used .entry))) (g .near)) g row
-        (now (used .entry)) (now (image .entry)) (now (out .entry)) r (now (used .exit)) (now (image .exit)) (now (out .exit))) ⌝ }
+        → Own (freeFrom st (st .pages) (usedBy (now (widths .entry))) (g .near)) g row
+        (now (widths .entry)) (now (image .entry)) (now (out .entry)) r (now (widths .exit)) (now (image .exit)) (now (out .exit))) ⌝ }
 {
     let dry = g.dry;
-    let q = first_free(used, g.setup.pages, g.near);
-    used[q] = 1;
+    let q = first_free(widths, g.setup.pages, g.near);
+    widths[q] = 1;
     if !dry {
         put_record(image, q, node, 1, g.near);
     }
@@ -104,23 +103,23 @@ pub fn place_apart(
 // Writes what stands for the new node in its row to the front of out: the node, or the proxy of its own record if the matrix sets it apart.
 pub fn place_node(
     image: &mut [u8],
-    used: &mut [u8; Settings::PAGES],
+    widths: &mut [u32; Settings::PAGES],
     g: Growing,
     parent: usize,
     label: usize,
     node: &[u8],
     out: &mut [u8],
 ) -> Fresh
-    requires { ⌜ Env g (now used) (now image) × ((g .setup .matrix + 256 ≤ length (now image))
+    requires { ⌜ Env g (now widths) (now image) × ((g .setup .matrix + 256 ≤ length (now image))
         × ((length (now node) ≤ capacity) × ((length (now node) ≤ length (now out)) × (8 ≤ length (now out))))) ⌝ }
     ensures { λ r. ⌜ ((st : Config) (root : Row) → Reads (now (image .entry)) st root → setupOf st ≡ g .setup
-        → (w : Work) → InUse (now (used .entry)) w → (x : New) (h : Head) → h .label ≡ parent → x .head .label ≡ label
+        → (w : Work) → InUse (now (widths .entry)) w → (x : New) (h : Head) → h .label ≡ parent → x .head .label ≡ label
         → now (node .entry) ≡ bytes (asRow st x nil)
-        → NodePlaced st x h g w (now (image .entry)) (now (out .entry)) r (now (used .exit)) (now (image .exit)) (now (out .exit))) ⌝ }
+        → NodePlaced st x h g w (now (widths .entry)) (now (image .entry)) (now (out .entry)) r (now (widths .exit)) (now (image .exit)) (now (out .exit))) ⌝ }
 {
     let setup = g.setup;
     if is_apart(image, setup, parent, label) {
-        let full = place_apart(image, used, g, node, out);
+        let full = place_apart(image, widths, g, node, out);
         return Fresh {
             size: 8,
             full: full,

@@ -8,6 +8,8 @@ use Rattle.model.specs.Limits.{mostPages, pageSize, capacity}
 use Rattle.model.specs.Row.{Row, nil, agg, lit, rec, _⊹_, size, two, bytes}
 use Rattle.model.specs.Reading.{sizeAt, nameAt, kindAt}
 use Rattle.theory_row_bytes.specs.RowAt.{RowAt, FirstNode, first-node, row-into, RowIs}
+use Rattle.theory_rows.specs.Works.{Parted}
+use Rattle.theory_page_memory.specs.Links.{All, all-parted}
 use Rattle.theory_rows.specs.Laws.{length-bytes, size-⊹}
 use Rattle.base_numbers.specs.Over.{over}
 
@@ -26,16 +28,10 @@ links-⊹ q (rec p s r rest) b img = links-⊹ q rest b (over (pageSize * p + (c
 
 -- Each proxy of the row names a page below n.
 abbrev pub Below : (n : ℕ) → Row → Type 0
-Below n nil = Unit {0}
-Below n (agg h cs rest) = Below n cs × Below n rest
-Below n (lit h c rest) = Below n rest
-Below n (rec p s r rest) = (p < n) × Below n rest
+Below n = All (λ p s r. p < n)
 
-pub below-⊹ : (n : ℕ) (a b : Row) → Below n a → Below n b → Below n (a ⊹ b)
-below-⊹ n nil b h k = k
-below-⊹ n (agg l cs rest) b h k = (h .0, below-⊹ n rest b (h .1) k)
-below-⊹ n (lit l c rest) b h k = below-⊹ n rest b h k
-below-⊹ n (rec p s r rest) b h k = (h .0, below-⊹ n rest b (h .1) k)
+pub below-parted : (n : ℕ) → Parted (Below n)
+below-parted n = all-parted (λ p s r. p < n)
 
 -- The bytes are those of a row whose proxies name pages below n.
 pub record Linked (l : List ℕ) (n : ℕ) : Type 0 where
@@ -78,7 +74,7 @@ module _ (l : List ℕ) (n q pos : ℕ) (img goal : List ℕ) (few : n ≤ mostP
           stands = row-into l pos lb cs rest s;
           ends = omega arith;
           small = omega arith;
-          below = below-⊹ n cs rest (b .0) (b .1);
+          below = below-parted n .join cs rest (b .0) (b .1);
           same = links-⊹ q cs rest img ∙ e;
         };
         proxy = λ k. absurd (omega (arith, v .kind-is));

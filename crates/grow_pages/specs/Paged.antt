@@ -6,7 +6,7 @@ use Prim.Native.Nat.{ℕ, _+_, _-_, _*_, _≤_}
 use native.Mathlib.Omega.{arith}
 use borrow.Author.Tests.{eqb-true, eqb-false, leb-true, leb-false}
 use lib.Dec.{eqb, leb}
-use lib.ListN.{length, take, drop, replicate, length-append, length-take, length-drop, length-replicate, take-append-drop}
+use lib.ListN.{length, take, drop, length-append, length-take, length-drop, take-append-drop}
 use lib.Seq.{take-at, drop-at, take-append-le, drop-append-le, drop-drop, length-take-le}
 use Rattle.model.specs.Limits.{pageSize, capacity}
 use Rattle.model.specs.Row.{Row, nil, agg, lit, rec, two}
@@ -91,11 +91,6 @@ module _ (p : ℕ) (s img : List ℕ) (long : length s ≡ pageSize) (room : pag
       ap (λ (i : ℕ). pageOf (over i s img) q) z
       ∙ page-over p 0 s img (omega arith) room q
       ∙ ap (λ (v : List ℕ). cond (eqb q p) v (pageOf img q)) (over-all s (pageOf img p) (long ∙ sym (length-page p img room)))
-
--- A page is cleared.
-pub page-cleared : (p : ℕ) (img : List ℕ) → pageSize * p + pageSize ≤ length img → (q : ℕ)
-    → pageOf (setPage p (replicate pageSize 0) img) q ≡ cond (eqb q p) (replicate pageSize 0) (pageOf img q)
-page-cleared p img room q = page-set p (replicate pageSize 0) img (length-replicate {A = ℕ} pageSize 0) room q
 
 -- ── back links ──
 

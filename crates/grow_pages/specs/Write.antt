@@ -68,7 +68,7 @@ page-written p s l m e = e
 
 -- ── free pages ──
 
--- A page is used where its byte is not 0.
+-- A page is used where its number in the table is not 0.
 unfoldable pub usedBy : (used : List ℕ) → ℕ → Bool
 usedBy u q = not (eqb (getD u q 0) 0)
 
@@ -112,7 +112,7 @@ after-last n q h =
     let e : ltb (suc q) n ≡ false = le-ltb (suc q) n (omega arith) in
     rw e
 
--- A page marked: its byte is set.
+-- A page marked: its number is set.
 pub used-set : (u : List ℕ) (q v x : ℕ) → q < length u → usedBy (set u q v) x ≡ mark (not (eqb v 0)) q (usedBy u) x
 unfolding usedBy
 used-set u q v x h = go (eqb x q) refl
@@ -120,6 +120,10 @@ used-set u q v x h = go (eqb x q) refl
     go : (b : Bool) → eqb x q ≡ b → not (eqb (getD (set u q v) x 0) 0) ≡ cond b (not (eqb v 0)) (not (eqb (getD u x 0) 0))
     go true e = ap (λ (i : ℕ). not (eqb (getD (set u q v) i 0) 0)) (eqb-true x q e) ∙ ap (λ (i : ℕ). not (eqb i 0)) (getD-set-same u q v 0 h)
     go false e = ap (λ (i : ℕ). not (eqb i 0)) (getD-set-other u q x v 0 (eqb-false x q e))
+
+-- A page taken: its number is not 0.
+pub used-taken : (u : List ℕ) (q v x : ℕ) → 1 ≤ v → q < length u → usedBy (set u q v) x ≡ mark true q (usedBy u) x
+used-taken u q v x some h = used-set u q v x h ∙ ap (λ (b : Bool). mark (not b) q (usedBy u) x) (ne-eqb v 0 (λ e. omega arith))
 
 -- Only pages below 1,024 are looked at.
 module _ (st : Config) (many : st .pages ≤ mostPages) where

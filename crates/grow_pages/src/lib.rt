@@ -14,15 +14,15 @@ ghost use Rattle.model.specs.Growth.{freeFrom};
 ghost use Rattle.grow_pages.specs.Write.{usedBy, setPage, pageBytesOf};
 ghost use Rattle.grow_pages.specs.Links.{Linked, links};
 
-// The first free page counting up from `from`, page 2 following the last; 0 if none is free. A page is used where its byte is not 0.
-pub fn first_free(used: &[u8; Settings::PAGES], pages: usize, from: usize) -> usize
+// The first free page counting up from `from`, page 2 following the last; 0 if none is free. A page is used where its number is not 0.
+pub fn first_free(widths: &[u32; Settings::PAGES], pages: usize, from: usize) -> usize
     requires { ⌜ (1 ≤ from) × ((from < pages) × (pages ≤ mostPages)) ⌝ }
-    ensures { λ r. ⌜ ((st : Config) → st .pages ≡ pages → r ≡ freeFrom st pages (usedBy (now (used .entry))) from) ⌝ }
+    ensures { λ r. ⌜ ((st : Config) → st .pages ≡ pages → r ≡ freeFrom st pages (usedBy (now (widths .entry))) from) ⌝ }
 {
     let mut q = from;
     let mut left = pages;
     while 0 < left {
-        if used[q] == 0 {
+        if widths[q] == 0 {
             return q;
         }
         q = if q + 1 < pages { q + 1 } else { 2 };

@@ -1,3 +1,1 @@
-pub mod Parent
 pub mod Admit
-pub mod Label

@@ -1,8 +1,8 @@
 // Every refusal of an insert but a full store's, on an image that passes the check.
-use base_layout::size_at;
+use grow_locate::Receiver;
+use grow_locate::find_spot;
 use model::Settings;
 use read_find::find_in;
-use read_find::nth;
 ghost use mathlib.Core.Path.{_≡_};
 ghost use mathlib.Core.Bool.{false};
 ghost use Prim.Native.Nat.{ℕ, _+_, _*_};
@@ -15,15 +15,14 @@ ghost use Rattle.model.specs.Calls.Insert.{insertNumber, newOf};
 ghost use Rattle.model.specs.Calls.Find.{findOf};
 ghost use Rattle.theory_layout.specs.Nodes.{ReadAt};
 ghost use Rattle.theory_layout.specs.Widths.{Widths};
-ghost use Rattle.grow_locate.specs.Receive.{LeftAt};
-ghost use Rattle.grow_refusals.specs.Parent.{parentNumber};
-ghost use Rattle.grow_refusals.specs.Admit.{refusedBy, badKind};
+ghost use Rattle.grow_locate.specs.Aim.{Aimed, receiverOf};
+ghost use Rattle.grow_refusals.specs.Admit.{refusedBy, badKind, parentNumber};
 
-// The refusal number of an insert but for a full store; if it is 0, the bytes of the image at which the parent and the left sibling stand.
+// The refusal number of an insert but for a full store; if it is 0, the byte of the image at which the parent stands, and where the node goes.
 pub struct Admitted {
     pub number: u32,
     pub parent: usize,
-    pub left: usize,
+    pub receiver: Receiver,
 }
 
 fn refused(number: u32) -> Admitted
@@ -32,7 +31,12 @@ fn refused(number: u32) -> Admitted
     Admitted {
         number: number,
         parent: 0,
-        left: 0,
+        receiver: Receiver {
+            page: 0,
+            at: 0,
+            par: 0,
+            deep: 0,
+        },
     }
 }
 
@@ -46,33 +50,31 @@ fn kind_bad(kind: usize, len: usize) -> bool
     kind != 2
 }
 
-// The number that the parent gives, and where the left sibling stands.
-struct Tried {
-    number: u32,
-    left: usize,
-}
-
 // The tests of the node at the byte `parent` as the parent of a new child: 8 for a literal, 9 if the child's number is above its number of children.
-// The search for the left sibling is the test, so that the children are passed one time.
-fn try_parent(image: &[u8], widths: &[u32; Settings::PAGES], parent: usize, child: usize) -> Tried
+// The search for the new node's spot is the test, so that the children are passed one time.
+fn try_parent(
+    image: &[u8],
+    widths: &[u32; Settings::PAGES],
+    parent: usize,
+    child: usize,
+) -> Admitted
     requires { ⌜ ((n : Node) × ReadAt (now image) n parent) × Widths (now image) (now widths) ⌝ }
     ensures { λ r. ⌜ ((n : Node) → ReadAt (now (image .entry)) n parent → r .number ≡ parentNumber (n .kind) (n .children) child) ⌝ }
-    ensures { λ r. ⌜ (r .number ≡ 0 → LeftAt (now (image .entry)) parent child (r .left)) ⌝ }
+    ensures { λ r. ⌜ (r .number ≡ 0 → r .parent ≡ parent) ⌝ }
+    ensures { λ r. ⌜ (r .number ≡ 0 → (w : Aimed (now (image .entry)) (r .parent) child) → r .receiver ≡ receiverOf (w .t)) ⌝ }
 {
     if image[parent] == 2 {
-        return Tried { number: 8, left: 0 };
+        return refused(8);
     }
-    if child == 0 {
-        return Tried { number: 0, left: 0 };
+    let s = find_spot(image, widths, parent, child);
+    if !s.found {
+        return refused(9);
     }
-    let end = parent + size_at(image, parent);
-    let left = nth(image, widths, parent + 6, end, child - 1, Settings::PAGES);
-    if !left.found {
-        return Tried { number: 9, left: 0 };
-    }
-    Tried {
+    let receiver = s.receiver;
+    Admitted {
         number: 0,
-        left: left.at,
+        parent: parent,
+        receiver: receiver,
     }
 }
 
@@ -90,7 +92,7 @@ pub fn admit(
         → r .number ≡ insertNumber (shown root) (now (path .entry)) child (newOf kind label (now (content .entry))) false) ⌝ }
     ensures { λ r. ⌜ (r .number ≡ 0 → r .parent ≡ pageSize * findOf (now (image .entry)) (now (path .entry)) .place .page
         + findOf (now (image .entry)) (now (path .entry)) .place .offset) ⌝ }
-    ensures { λ r. ⌜ (r .number ≡ 0 → LeftAt (now (image .entry)) (r .parent) child (r .left)) ⌝ }
+    ensures { λ r. ⌜ (r .number ≡ 0 → (w : Aimed (now (image .entry)) (r .parent) child) → r .receiver ≡ receiverOf (w .t)) ⌝ }
 {
     if Settings::PARENT_PATH < path.len() {
         return refused(4);
@@ -107,10 +109,5 @@ pub fn admit(
     }
     let place = found.place;
     let parent = Settings::PAGE * place.page + place.offset;
-    let t = try_parent(image, widths, parent, child);
-    Admitted {
-        number: t.number,
-        parent: parent,
-        left: t.left,
-    }
+    try_parent(image, widths, parent, child)
 }

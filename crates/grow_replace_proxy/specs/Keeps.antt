@@ -11,15 +11,15 @@ use Rattle.theory_rows.specs.Fits.{Shape, one, more}
 use Rattle.theory_rows.specs.Laws.{cond-case, size-⊹}
 use Rattle.theory_rows.specs.Bound.{goOn-more, stops-false}
 use Rattle.theory_rows.specs.Keeps.{nodeCount-⊹}
-use Rattle.theory_insert_point.specs.Chain.{Spot, here, inside, fill}
-use Rattle.grow_splice.specs.Spot.{isInside}
+use Rattle.model.specs.Spot.{Position, here, inside, fill}
+use Rattle.grow_splice.specs.Position.{isInside}
 use Rattle.grow_splice.specs.Splice.{KeepsRoot, inside-keeps, many-keeps}
 use Rattle.grow_replace_proxy.specs.Left.{proxy-root}
 
 -- ── the root ──
 
 -- A proxy at the top of a row has another node beside it.
-pub proxy-keeps : (s : Spot) (q : ℕ) (b : Bool) (old rest put : Row) → (isInside s ≡ true) ⊎ (2 ≤ nodeCount (fill s (rec q b old rest))) → 1 ≤ nodeCount put
+pub proxy-keeps : (s : Position) (q : ℕ) (b : Bool) (old rest put : Row) → (isInside s ≡ true) ⊎ (2 ≤ nodeCount (fill s (rec q b old rest))) → 1 ≤ nodeCount put
     → KeepsRoot s (rec q b old rest) (put ⊹ rest)
 proxy-keeps (inside left h right s) q b old rest put f k = inside-keeps left h right s (rec q b old rest) (put ⊹ rest)
 proxy-keeps (here left) q b old rest put (inl e) k = absurd (false≢true e)
@@ -28,11 +28,11 @@ proxy-keeps (here left) q b old rest put (inr n) k =
     (omega (arith, nodeCount-⊹ left (rec q b old rest), nodeCount-⊹ left (put ⊹ rest), nodeCount-⊹ put rest))
 
 -- So it is in a record that fits.
-pub shape-keeps : {t : Bool} (s : Spot) (q : ℕ) (b : Bool) (old rest put : Row) → Shape t (fill s (rec q b old rest)) → 1 ≤ nodeCount put
+pub shape-keeps : {t : Bool} (s : Position) (q : ℕ) (b : Bool) (old rest put : Row) → Shape t (fill s (rec q b old rest)) → 1 ≤ nodeCount put
     → KeepsRoot s (rec q b old rest) (put ⊹ rest)
 shape-keeps s q b old rest put v k = proxy-keeps s q b old rest put (beside s v) k
   where
-    beside : {t : Bool} (s : Spot) → Shape t (fill s (rec q b old rest)) → (isInside s ≡ true) ⊎ (2 ≤ nodeCount (fill s (rec q b old rest)))
+    beside : {t : Bool} (s : Position) → Shape t (fill s (rec q b old rest)) → (isInside s ≡ true) ⊎ (2 ≤ nodeCount (fill s (rec q b old rest)))
     beside (inside left h right s) v = inl refl
     beside (here left) v = inr (many v)
       where

@@ -13,8 +13,8 @@ use Rattle.theory_rows.specs.Laws.{length-bytes}
 use Rattle.theory_rows.specs.Image.{length-record}
 use Rattle.theory_decoding.specs.Decode.{used-page}
 use Rattle.theory_layout.specs.Here.{PageIn}
-use Rattle.theory_insert_point.specs.Chain.{Spot, fill}
-use Rattle.grow_splice.specs.Spot.{at, parent}
+use Rattle.model.specs.Spot.{Position, fill}
+use Rattle.grow_splice.specs.Position.{at, parent}
 use Rattle.grow_splice.specs.Splice.{KeepsRoot, Splicing, put-for}
 use Rattle.grow_replace_proxy.specs.Seek.{NamesOnce}
 use Rattle.grow_replace_proxy.specs.Inner.{Filled}
@@ -31,9 +31,9 @@ module _ (img : List ℕ) (h : Held) (is : pageOf img (h .page) ≡ recordPage h
       let z : pageSize * h .page + n - pageSize * h .page ≡ recordSize (h .row) = omega (arith, page-used) in
       rw z (record-bytes (page-record img h is))
 
--- The record on page `holder` names `page` one time, by a proxy at the spot; the bytes of `put` are to take the proxy's place.
+-- The record on page `holder` names `page` one time, by a proxy at the position; the bytes of `put` are to take the proxy's place.
 pub record Lift (img : List ℕ) (holder page : ℕ) (sep : List ℕ) : Type 0 where
-  pub spot : Spot
+  pub position : Position
   pub settled : Bool
   pub old : Row
   pub rest : Row
@@ -41,23 +41,23 @@ pub record Lift (img : List ℕ) (holder page : ℕ) (sep : List ℕ) : Type 0 w
   pub above : Bool
   pub up : ℕ
   pub on : PageIn img holder
-  pub is : pageOf img holder ≡ recordPage (recordOn holder above up (fill spot (rec page settled old rest)))
-  pub small : recordSize (fill spot (rec page settled old rest)) ≤ capacity
-  pub once : count page (fill spot (rec page settled old rest)) ≡ 1
-  pub names : (q : ℕ) → 1 ≤ count q (fill spot (rec page settled old rest)) → q < 65536
+  pub is : pageOf img holder ≡ recordPage (recordOn holder above up (fill position (rec page settled old rest)))
+  pub small : recordSize (fill position (rec page settled old rest)) ≤ capacity
+  pub once : count page (fill position (rec page settled old rest)) ≡ 1
+  pub names : (q : ℕ) → 1 ≤ count q (fill position (rec page settled old rest)) → q < 65536
   pub comes : RowIs sep put
   pub least : 8 ≤ size put
   pub most : size put ≤ 512
-  pub root : KeepsRoot spot (rec page settled old rest) (put ⊹ rest)
+  pub root : KeepsRoot position (rec page settled old rest) (put ⊹ rest)
 
 -- The record's row with `put` in the proxy's place.
 abbrev pub lifted : (img : List ℕ) (holder page : ℕ) (sep : List ℕ) → Lift img holder page sep → Row
-lifted img holder page sep w = fill (w .spot) (w .put ⊹ w .rest)
+lifted img holder page sep w = fill (w .position) (w .put ⊹ w .rest)
 
 module _ (img : List ℕ) (holder page : ℕ) (sep : List ℕ) (w : Lift img holder page sep) where
   -- The record's row before.
   abbrev pub before : Row
-  before = fill (w .spot) (rec page (w .settled) (w .old) (w .rest))
+  before = fill (w .position) (rec page (w .settled) (w .old) (w .rest))
 
   abbrev held : Held
   held = recordOn holder (w .above) (w .up) before
@@ -82,7 +82,7 @@ module _ (img : List ℕ) (holder page : ℕ) (sep : List ℕ) (w : Lift img hol
     -- the witnesses of the three calls
     abbrev pub names-once : NamesOnce l page
     names-once = record {
-      spot = w .spot;
+      position = w .position;
       settled = w .settled;
       old = w .old;
       rest = w .rest;
@@ -92,8 +92,8 @@ module _ (img : List ℕ) (holder page : ℕ) (sep : List ℕ) (w : Lift img hol
       names = w .names;
     }
 
-    abbrev pub filled : (pos : ℕ) → pos ≡ at (base before) (w .spot) → Filled l pos
-    filled pos k = record { spot = w .spot; page = page; settled = w .settled; old = w .old; rest = w .rest; is = e; small = w .small; stands = k }
+    abbrev pub filled : (pos : ℕ) → pos ≡ at (base before) (w .position) → Filled l pos
+    filled pos k = record { position = w .position; page = page; settled = w .settled; old = w .old; rest = w .rest; is = e; small = w .small; stands = k }
 
-    abbrev pub place : (pos par : ℕ) → pos ≡ at (base before) (w .spot) → par ≡ parent 0 (base before) (w .spot) → Splicing l pos par 8 sep
-    place pos par p q = put-for (w .spot) page (w .settled) (w .old) (w .put) (w .rest) l pos par sep e p q (w .comes) (w .root)
+    abbrev pub place : (pos par : ℕ) → pos ≡ at (base before) (w .position) → par ≡ parent 0 (base before) (w .position) → Splicing l pos par 8 sep
+    place pos par p q = put-for (w .position) page (w .settled) (w .old) (w .put) (w .rest) l pos par sep e p q (w .comes) (w .root)

@@ -9,14 +9,14 @@ ghost use Prim.Native.Nat.{_≤_};
 ghost use lib.ListN.{length};
 ghost use Rattle.model.specs.Row.{recordSize, recordBytes};
 ghost use Rattle.base_numbers.specs.Over.{over};
-ghost use Rattle.grow_replace_proxy.specs.Seek.{NamesOnce, proxySpot};
+ghost use Rattle.grow_replace_proxy.specs.Seek.{NamesOnce, proxyPosition};
 ghost use Rattle.grow_replace_proxy.specs.Inner.{Filled, filledIn};
 ghost use Rattle.grow_replace_proxy.specs.Lift.{Lift, lifted};
 
 // Where the record has the proxy to the page. Its root is an aggregate or a helper, so its nodes start at 6.
 fn proxy_in(rec: &[u8], page: usize) -> usize
     requires { ⌜ NamesOnce (now rec) page ⌝ }
-    ensures { λ r. ⌜ ((w : NamesOnce (now (rec .entry)) page) → r ≡ proxySpot (now (rec .entry)) page w) ⌝ }
+    ensures { λ r. ⌜ ((w : NamesOnce (now (rec .entry)) page) → r ≡ proxyPosition (now (rec .entry)) page w) ⌝ }
 {
     let mut pos = 6;
     loop {

@@ -9,60 +9,56 @@ use Rattle.model.specs.Row.{Head, Row, nil, agg, lit, rec, size, two, header, b
 use Rattle.model.specs.Reading.{sizeAt}
 use Rattle.base_numbers.specs.Over.{over}
 use Rattle.theory_rows.specs.Laws.{length-bytes}
-use Rattle.theory_insert_point.specs.Chain.{Spot, inside}
+use Rattle.model.specs.Spot.{Position, inside}
 use Rattle.theory_row_bytes.specs.RowAt.{HeaderAt, header-after, header-size, header-inside, header-resized, kindOf, headOf, bodyOf, restOf, one-bytes}
-use Rattle.grow_splice.specs.Spot.{spot-case, parent, around, before, push, before-push, around-push, parent-push, parent-low, parent-high}
-use Rattle.grow_splice.specs.Spot.{before-plain}
+use Rattle.grow_splice.specs.Position.{position-case, parent, around, before, push, before-push, around-push, parent-push, parent-in, before-plain}
 
 -- cur is goal, but that the nodes from pos on have not grown yet
 pub record Mid (cur goal : List ℕ) (pos par n : ℕ) : Type 0 where
-  pub spot : Spot
+  pub position : Position
   pub filled : ℕ
   pub pre : List ℕ
   pub outer : ℕ
-  pub now : cur ≡ pre ++ before spot filled
-  pub then : goal ≡ pre ++ before spot (filled + n)
+  pub now : cur ≡ pre ++ before position filled
+  pub then : goal ≡ pre ++ before position (filled + n)
   pub len : length pre ≡ pos
   pub low : outer < pos
-  pub at : par ≡ parent outer pos spot
-  pub small : around spot + filled + n < 65536
+  pub at : par ≡ parent outer pos position
+  pub small : around position + filled + n < 65536
 
 pub mid-end : (cur goal : List ℕ) (pos par n : ℕ) → Mid cur goal pos par n → par < pos → cur ≡ goal
 mid-end cur goal pos par n m h =
-    m .now ∙ ap (λ (z : List ℕ). m .pre ++ z) (before-plain (m .spot) (m .outer) pos (m .filled) (m .filled + n) (m .low) (omega (arith, m .at)))
+    m .now ∙ ap (λ (z : List ℕ). m .pre ++ z) (before-plain (m .position) (m .outer) pos (m .filled) (m .filled + n) (m .low) (omega (arith, m .at)))
     ∙ sym (m .then)
 
 -- what stands at pos
 pub record Look (cur goal : List ℕ) (pos par n : ℕ) : Type 0 where
-  pub sz : ℕ
-  pub is : sizeAt cur pos ≡ sz
   pub fits : pos + 6 ≤ length cur
-  pub more : 6 ≤ sz
-  pub small : sz + n < 65536
-  pub skip : pos + sz ≤ par → Mid cur goal (pos + sz) par n
-  pub enter : par < pos + sz → Mid (over (pos + 4) (two (sz + n)) cur) goal (pos + 6) par n
+  pub more : 6 ≤ sizeAt cur pos
+  pub small : sizeAt cur pos + n < 65536
+  pub skip : pos + sizeAt cur pos ≤ par → Mid cur goal (pos + sizeAt cur pos) par n
+  pub enter : par < pos + sizeAt cur pos → Mid (over (pos + 4) (two (sizeAt cur pos + n)) cur) goal (pos + 6) par n
 
 -- a node that is passed by
-look-past : (a : Row) (t : Spot) (cur goal : List ℕ) (pos par n : ℕ) (m : Mid cur goal pos par n) → pos ≤ par → 0 < size a → restOf a ≡ nil
-    → m .spot ≡ push a t → Look cur goal pos par n
+look-past : (a : Row) (t : Position) (cur goal : List ℕ) (pos par n : ℕ) (m : Mid cur goal pos par n) → pos ≤ par → 0 < size a → restOf a ≡ nil
+    → m .position ≡ push a t → Look cur goal pos par n
 look-past a t cur goal pos par n m h some alone s =
     let f = m .filled in
     let b = one-bytes a some alone in
     let size-is : size a ≡ 6 + length (bodyOf a) = omega (arith, length-bytes a, simp length-append at (ap length b)) in
-    let low : (x : ℕ) → before (m .spot) x ≡ bytes a ++ before t x = λ x. ap (λ (z : Spot). before z x) s ∙ before-push a t x in
+    let low : (x : ℕ) → before (m .position) x ≡ bytes a ++ before t x = λ x. ap (λ (z : Position). before z x) s ∙ before-push a t x in
     let bound : size a + around t + f + n < 65536 = omega (arith, m .small, ap around s, around-push a t) in
-    let par-is : par ≡ parent (m .outer) (pos + size a) t = m .at ∙ ap (λ (z : Spot). parent (m .outer) pos z) s ∙ parent-push a t (m .outer) pos in
+    let par-is : par ≡ parent (m .outer) (pos + size a) t = m .at ∙ ap (λ (z : Position). parent (m .outer) pos z) s ∙ parent-push a t (m .outer) pos in
     let shape : cur ≡ m .pre ++ (header (kindOf a) (headOf a) (size a) ++ (bodyOf a ++ before t f)) =
     m .now ∙ ap (λ (z : List ℕ). m .pre ++ z) (low f ∙ ap (λ (z : List ℕ). z ++ before t f) b) in
     let v = header-after cur (m .pre) (bodyOf a ++ before t f) pos (kindOf a) (headOf a) (size a) shape (m .len) in
+    let is = header-size v (omega arith) in
     record {
-      sz = size a;
-      is = header-size v (omega arith);
       fits = header-inside v;
       more = omega arith;
       small = omega arith;
-      skip = λ g. record {
-        spot = t;
+      skip = λ g. rw is (record {
+        position = t;
         filled = f;
         pre = m .pre ++ bytes a;
         outer = m .outer;
@@ -72,73 +68,72 @@ look-past a t cur goal pos par n m h some alone s =
         low = omega (arith, m .low);
         at = par-is;
         small = omega arith;
-      };
-      enter = λ g. absurd (⊎-elim (λ w. omega (arith, m .low)) (λ w. omega (arith, m .low)) (parent-low t (m .outer) (pos + size a) (omega (arith, m .low))));
+      });
+      enter = λ g. absurd (⊎-elim (λ w. omega (arith, m .low)) (λ w. omega (arith, m .low)) (parent-in t (m .outer) (pos + size a) (omega (arith, m .low))));
     }
 
 -- the node that holds the filling
-look-into : (h : Head) (rest : Row) (t : Spot) (cur goal : List ℕ) (pos par n : ℕ) (m : Mid cur goal pos par n) → m .spot ≡ inside nil h rest t
+look-into : (h : Head) (rest : Row) (t : Position) (cur goal : List ℕ) (pos par n : ℕ) (m : Mid cur goal pos par n) → m .position ≡ inside nil h rest t
     → pos ≤ par → Look cur goal pos par n
 look-into h rest t cur goal pos par n m s g =
     let f = m .filled in
     let sz : ℕ = 6 + (around t + f) in
     let bound : 6 + around t + f + n < 65536 = omega (arith, m .small, ap around s) in
     let zero-is : pos + 0 ≡ pos = omega arith in
-    let par-is : par ≡ parent pos (pos + 6) t = m .at ∙ ap (λ (z : Spot). parent (m .outer) pos z) s ∙ ap (λ (z : ℕ). parent z (z + 6) t) zero-is in
-    let shape : cur ≡ m .pre ++ (header 1 h sz ++ before t f) = m .now ∙ ap (λ (z : Spot). m .pre ++ before z f) s in
+    let par-is : par ≡ parent pos (pos + 6) t = m .at ∙ ap (λ (z : Position). parent (m .outer) pos z) s ∙ ap (λ (z : ℕ). parent z (z + 6) t) zero-is in
+    let shape : cur ≡ m .pre ++ (header 1 h sz ++ before t f) = m .now ∙ ap (λ (z : Position). m .pre ++ before z f) s in
     let grows : sz + n ≡ 6 + (around t + (f + n)) = omega arith in
     let v = header-after cur (m .pre) (before t f) pos 1 h sz shape (m .len) in
+    let is = header-size v (omega arith) in
     record {
-      sz = sz;
-      is = header-size v (omega arith);
       fits = header-inside v;
       more = omega arith;
       small = omega arith;
-      skip = λ g. absurd (⊎-elim (λ w. omega arith) (λ w. omega arith) (parent-high t pos (pos + 6) (omega arith)));
-      enter = λ g. record {
-        spot = t;
+      skip = λ g. absurd (⊎-elim (λ w. omega arith) (λ w. omega arith) (parent-in t pos (pos + 6) (omega arith)));
+      enter = λ g. rw is (record {
+        position = t;
         filled = f;
         pre = m .pre ++ header 1 h (sz + n);
         outer = pos;
         now = ap (over (pos + 4) (two (sz + n))) shape ∙ header-resized (m .pre) (before t f) pos 1 h sz (sz + n) (m .len)
             ∙ sym (append-assoc (m .pre) (header 1 h (sz + n)) (before t f));
-        then = m .then ∙ ap (λ (z : Spot). m .pre ++ before z (f + n)) s ∙ ap (λ (z : ℕ). m .pre ++ (header 1 h z ++ before t (f + n))) (sym grows)
+        then = m .then ∙ ap (λ (z : Position). m .pre ++ before z (f + n)) s ∙ ap (λ (z : ℕ). m .pre ++ (header 1 h z ++ before t (f + n))) (sym grows)
             ∙ sym (append-assoc (m .pre) (header 1 h (sz + n)) (before t (f + n)));
         len = simp length-append (omega (arith, m .len));
         low = omega arith;
         at = par-is;
         small = omega arith;
-      };
+      });
     }
 
 pub look : (cur goal : List ℕ) (pos par n : ℕ) → Mid cur goal pos par n → pos ≤ par → Look cur goal pos par n
 look cur goal pos par n m h =
-    spot-case (λ s. m .spot ≡ s → Look cur goal pos par n) (λ s. absurd (omega (arith, m .low, m .at, ap (parent (m .outer) pos) s)))
+    position-case (λ s. m .position ≡ s → Look cur goal pos par n) (λ s. absurd (omega (arith, m .low, m .at, ap (parent (m .outer) pos) s)))
     (λ k rest u s. look-into k rest u cur goal pos par n m s h)
     (λ k cs t. look-past (agg k cs nil) t cur goal pos par n m h (omega arith) refl)
     (λ k c t. look-past (lit k c nil) t cur goal pos par n m h (omega arith) refl)
     (λ p b r t. look-past (rec p b r nil) t cur goal pos par n m h (omega arith) refl)
-    (m .spot) refl
+    (m .position) refl
 
 -- what the walk is called with: the bytes of a record before a filling; the node that holds the filling starts at par; the record grows by n
 pub record Cut (l : List ℕ) (par n : ℕ) : Type 0 where
   pub kind : ℕ
   pub head : Head
-  pub spot : Spot
+  pub position : Position
   pub filled : ℕ
-  pub is : l ≡ header kind head (6 + (around spot + filled)) ++ before spot filled
-  pub at : par ≡ parent 0 6 spot
-  pub small : 6 + around spot + filled + n < 65536
+  pub is : l ≡ header kind head (6 + (around position + filled)) ++ before position filled
+  pub at : par ≡ parent 0 6 position
+  pub small : 6 + around position + filled + n < 65536
 
 -- what it leaves
 abbrev pub grown : (l : List ℕ) (par n : ℕ) → Cut l par n → List ℕ
-grown l par n w = header (w .kind) (w .head) (6 + (around (w .spot) + (w .filled + n))) ++ before (w .spot) (w .filled + n)
+grown l par n w = header (w .kind) (w .head) (6 + (around (w .position) + (w .filled + n))) ++ before (w .position) (w .filled + n)
 
 module _ (l : List ℕ) (par n : ℕ) (w : Cut l par n) where
-  at-root : HeaderAt l 0 (w .kind) (w .head) (6 + (around (w .spot) + w .filled))
-  at-root = header-after l [] (before (w .spot) (w .filled)) 0 (w .kind) (w .head) (6 + (around (w .spot) + w .filled)) (w .is) refl
+  at-root : HeaderAt l 0 (w .kind) (w .head) (6 + (around (w .position) + w .filled))
+  at-root = header-after l [] (before (w .position) (w .filled)) 0 (w .kind) (w .head) (6 + (around (w .position) + w .filled)) (w .is) refl
 
-  pub cut-root : sizeAt l 0 ≡ 6 + (around (w .spot) + w .filled)
+  pub cut-root : sizeAt l 0 ≡ 6 + (around (w .position) + w .filled)
   cut-root = header-size at-root (omega (arith, w .small))
 
   pub cut-small : sizeAt l 0 + n < 65536
@@ -149,32 +144,18 @@ module _ (l : List ℕ) (par n : ℕ) (w : Cut l par n) where
 
   pub cut-start : Mid (over 4 (two (sizeAt l 0 + n)) l) (grown l par n w) 6 par n
   cut-start =
-      let z : sizeAt l 0 + n ≡ 6 + (around (w .spot) + (w .filled + n)) = omega (arith, cut-root) in
+      let z : sizeAt l 0 + n ≡ 6 + (around (w .position) + (w .filled + n)) = omega (arith, cut-root) in
       record {
-        spot = w .spot;
+        position = w .position;
         filled = w .filled;
-        pre = header (w .kind) (w .head) (6 + (around (w .spot) + (w .filled + n)));
+        pre = header (w .kind) (w .head) (6 + (around (w .position) + (w .filled + n)));
         outer = 0;
-        now = ap (λ (k : ℕ). over 4 (two k) l) z ∙ ap (over 4 (two (6 + (around (w .spot) + (w .filled + n))))) (w .is)
-            ∙ header-resized [] (before (w .spot) (w .filled)) 0 (w .kind) (w .head) (6 + (around (w .spot) + w .filled))
-            (6 + (around (w .spot) + (w .filled + n))) refl;
+        now = ap (λ (k : ℕ). over 4 (two k) l) z ∙ ap (over 4 (two (6 + (around (w .position) + (w .filled + n))))) (w .is)
+            ∙ header-resized [] (before (w .position) (w .filled)) 0 (w .kind) (w .head) (6 + (around (w .position) + w .filled))
+            (6 + (around (w .position) + (w .filled + n))) refl;
         then = refl;
         len = refl;
         low = omega arith;
         at = w .at;
         small = omega (arith, w .small);
       }
-
--- the walk's two steps, as the code takes them
-pub mid-enter : (cur goal next : List ℕ) (pos par n r : ℕ) → Mid cur goal pos par n → pos ≤ par → r ≡ sizeAt cur pos → par < pos + r
-    → next ≡ over (pos + 4) (two (r + n)) cur → Mid next goal (pos + 6) par n
-mid-enter cur goal next pos par n r m h e k q =
-    let v = look cur goal pos par n m h in
-    let z : r ≡ v .sz = e ∙ v .is in
-    rw (q, z) (v .enter (omega arith))
-
-pub mid-skip : (cur goal : List ℕ) (pos par n r : ℕ) → Mid cur goal pos par n → pos ≤ par → r ≡ sizeAt cur pos → pos + r ≤ par → Mid cur goal (pos + r) par n
-mid-skip cur goal pos par n r m h e k =
-    let v = look cur goal pos par n m h in
-    let z : r ≡ v .sz = e ∙ v .is in
-    rw z (v .skip (omega arith))

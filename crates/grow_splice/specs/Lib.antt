@@ -1,3 +1,3 @@
-pub mod Spot
+pub mod Position
 pub mod Bump
 pub mod Splice

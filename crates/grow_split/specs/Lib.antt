@@ -1,5 +1,5 @@
 pub mod Cutting
 pub mod Separate
 pub mod Same
-pub mod Mem
+pub mod Tells
 pub mod Severed

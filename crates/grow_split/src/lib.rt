@@ -31,21 +31,21 @@ pub fn separate(
     buf: &[u8],
     row: Children,
     image: &mut [u8],
-    used: &mut [u8; Settings::PAGES],
+    widths: &mut [u32; Settings::PAGES],
     g: Growing,
     out: &mut [u8],
     at: usize,
 ) -> Output
-    requires { ⌜ Env g (now used) (now image) × ((at ≤ length (now out)) × ((length (now out) < 65536)
-        × Sep g row (now buf) (now used) (now image) (length (now out) - at))) ⌝ }
-    ensures { λ r. ⌜ ((w : Sep g row (now (buf .entry)) (now (used .entry)) (now (image .entry)) (length (now (out .entry)) - at))
-        → Outcome (separateI (w .st) g (row .p) (row .pos) nil (w .kids .row) (now (used .entry)) (now (image .entry))) at r
-        (now (used .exit)) (now (image .exit)) (now (out .exit)) (now (out .entry))) ⌝ }
+    requires { ⌜ Env g (now widths) (now image) × ((at ≤ length (now out)) × ((length (now out) < 65536)
+        × Sep g row (now buf) (now widths) (now image) (length (now out) - at))) ⌝ }
+    ensures { λ r. ⌜ ((w : Sep g row (now (buf .entry)) (now (widths .entry)) (now (image .entry)) (length (now (out .entry)) - at))
+        → Outcome (separateI (w .st) g (row .p) (row .pos) nil (w .kids .row) (now (widths .entry)) (now (image .entry))) at r
+        (now (widths .exit)) (now (image .exit)) (now (out .exit)) (now (out .entry))) ⌝ }
 {
     let pos = row.pos;
     let end = row.end;
     let x = child(buf, pos, end, row.p);
-    let a = put_group(&buf[pos..x], image, used, g, out, at);
+    let a = put_group(&buf[pos..x], image, widths, g, out, at);
     if enters(buf, x, g.setup.tolerance) {
         let inner = x + 6;
         let next = x + size_at(buf, x);
@@ -55,15 +55,15 @@ pub fn separate(
             end: next,
             p: row.p,
         };
-        let b = separate(buf, kids, image, used, g, out, a.end + 6);
+        let b = separate(buf, kids, image, widths, g, out, a.end + 6);
         put16(out, a.end + 4, b.end - a.end);
-        let c = put_group(&buf[next..end], image, used, g, out, b.end);
+        let c = put_group(&buf[next..end], image, widths, g, out, b.end);
         return Output {
             end: c.end,
             full: a.full | b.full | c.full,
         };
     }
-    let b = put_group(&buf[x..end], image, used, g, out, a.end);
+    let b = put_group(&buf[x..end], image, widths, g, out, a.end);
     Output {
         end: b.end,
         full: a.full | b.full,
@@ -75,13 +75,13 @@ pub fn separator(
     buf: &[u8],
     p: usize,
     image: &mut [u8],
-    used: &mut [u8; Settings::PAGES],
+    widths: &mut [u32; Settings::PAGES],
     g: Growing,
     out: &mut [u8],
 ) -> Output
-    requires { ⌜ Env g (now used) (now image) × ((length (now out) ≡ separatorSize) × Large g p (now buf) (now used)) ⌝ }
-    ensures { λ r. ⌜ ((w : Large g p (now (buf .entry)) (now (used .entry))) → Severed (w .st) g (w .row) (w .work) r
-        (now (used .exit)) (now (image .entry)) (now (image .exit)) (now (out .entry)) (now (out .exit))) ⌝ }
+    requires { ⌜ Env g (now widths) (now image) × ((length (now out) ≡ separatorSize) × Large g p (now buf) (now widths)) ⌝ }
+    ensures { λ r. ⌜ ((w : Large g p (now (buf .entry)) (now (widths .entry))) → Severed (w .st) g (w .row) (w .work) r
+        (now (widths .entry)) (now (widths .exit)) (now (image .entry)) (now (image .exit)) (now (out .entry)) (now (out .exit))) ⌝ }
 {
     let row = Children {
         pos: 6,
@@ -90,9 +90,9 @@ pub fn separator(
     };
     if buf[0] == 1 {
         copy_in(&buf[..6], out, 0);
-        let r = separate(buf, row, image, used, g, out, 6);
+        let r = separate(buf, row, image, widths, g, out, 6);
         put16(out, 4, r.end);
         return r;
     }
-    separate(buf, row, image, used, g, out, 0)
+    separate(buf, row, image, widths, g, out, 0)
 }

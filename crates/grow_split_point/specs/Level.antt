@@ -6,7 +6,7 @@ use Prim.Native.Nat.{ℕ, _+_, _-_, _<_, _≤_}
 use native.Mathlib.Omega.{arith}
 use lib.ListN.{length, take, drop}
 use Rattle.model.specs.Limits.{capacity}
-use Rattle.model.specs.Row.{Row, nil, agg, lit, rec, _⊹_, size, lone, recordSize, header, bytes, recordBytes, Config}
+use Rattle.model.specs.Row.{Row, nil, agg, lit, rec, size, lone, recordSize, header, bytes, recordBytes, Config}
 use Rattle.model.specs.Reading.{sizeAt}
 use Rattle.model.specs.Growth.{rootRow}
 use Rattle.theory_rows.specs.Laws.{size-⊹, isNil-nil}

@@ -1,4 +1,3 @@
 pub mod Leaning
 pub mod Content
-pub mod Names
 pub mod Off

@@ -1,29 +1,30 @@
 -- A record that is too large leaves its page, unless it is settled, and is split: what the code requires, and what it leaves.
-use mathlib.Core.Path.{_≡_, refl, ap, subst, _∙_}
+use mathlib.Core.Path.{_≡_, refl, ap, _∙_}
 use mathlib.Core.Bool.{Bool, true, false, cond, _||_, or-false}
 use mathlib.Core.List.{List}
 use Prim.Native.Nat.{ℕ, _+_, _*_, _<_, _≤_}
 use native.Mathlib.Omega.{arith}
 use lib.Dec.{eqb}
-use lib.ListN.{length, set, length-set, length-replicate}
+use lib.ListN.{length, getD, set, length-set, length-replicate}
+use lib.Seq.{getD-set-other}
 use Rattle.theory_row_bytes.specs.RowAt.{RecordIs}
 use Rattle.model.specs.Limits.{mostPages, pageSize, capacity}
-use Rattle.model.specs.Row.{Row, size, recordSize, Config}
+use Rattle.model.specs.Row.{Row, size, recordSize, count, Config}
 use Rattle.model.specs.Growth.{Work, counted, freed, splitPoint, separator}
 use Rattle.theory_rows.specs.Laws.{cond-case}
 use Rattle.theory_rows.specs.Fits.{Fits}
 use Rattle.theory_rows.specs.Image.{length-record}
 use Rattle.theory_page_memory.specs.Memory.{blank}
-use Rattle.grow_pages.specs.Write.{setPage, used-set}
+use Rattle.grow_pages.specs.Write.{usedBy, setPage, used-set}
 use Rattle.grow_pages.specs.Links.{Below}
 use Rattle.grow_pages.specs.Paged.{length-setPage}
 use Rattle.base_layout.specs.declared.Growing.{Growing}
 use Rattle.base_layout.specs.Setup.{setupOf}
-use Rattle.base_layout.specs.Growing.{bufferSize, separatorSize, pages-of}
+use Rattle.base_layout.specs.Growing.{bufferSize, separatorSize}
 use Rattle.grow_groups.specs.declared.Output.{Output}
 use Rattle.grow_groups.specs.Used.{InUse, Past, Env, env-with, set-past}
+use Rattle.grow_split.specs.Tells.{Tabled, Keeps, same-mark, tabled-set}
 use Rattle.grow_split.specs.Severed.{Large, Severed}
-use Rattle.grow_write_back.specs.Names.{marked-beyond, marked-past, separator-named}
 
 -- What growth carries along when the record on page q is split: one split more, and page q free unless the record stays there.
 abbrev pub leaves : (st : Config) → (stays : Bool) → (q : ℕ) → Row → Work → Work
@@ -32,6 +33,10 @@ leaves st stays q r w = cond stays (counted st r w) (freed st q (counted st r w)
 -- The image, with the page free.
 abbrev pub leftImage : (g : Growing) → (stays : Bool) → (image : List ℕ) → List ℕ
 leftImage g stays img = cond (g .dry || stays) img (setPage (g .near) blank img)
+
+-- The table, with the page free.
+abbrev pub leftTable : (g : Growing) → (stays : Bool) → (table : List ℕ) → List ℕ
+leftTable g stays u = cond stays u (set u (g .near) 0)
 
 -- The bytes l are a record that is too large, and its separator has room.
 pub record Off (g : Growing) (settled : ℕ) (l u : List ℕ) : Type 0 where
@@ -52,13 +57,15 @@ pub record Off (g : Growing) (settled : ℕ) (l u : List ℕ) : Type 0 where
   pub most : size (separator st (g .near) row (leaves st stays (g .near) row work) .0) ≤ separatorSize
 
 -- What the split leaves of a record, which stays on its page or not.
-abbrev pub SplitOff : (st : Config) → (g : Growing) → (row : Row) → (work : Work) → (stays : Bool) → (r : Output) → (u img img₁ out₀ out₁ : List ℕ) → Type 0
-SplitOff st g row work stays r u img img₁ out₀ out₁ = Severed st g row (leaves st stays (g .near) row work) r u (leftImage g stays img) img₁ out₀ out₁
+abbrev pub SplitOff : (st : Config) → (g : Growing) → (row : Row) → (work : Work) → (stays : Bool) → (r : Output) → (table u img img₁ out₀ out₁ : List ℕ)
+    → Type 0
+SplitOff st g row work stays r table u img img₁ out₀ out₁ =
+    Severed st g row (leaves st stays (g .near) row work) r (leftTable g stays table) u (leftImage g stays img) img₁ out₀ out₁
 
 -- ── the page that is left ──
 
 pub left-settled : (settled : ℕ) (g : Growing) (u img : List ℕ) → (settled ≡ 0 → ⊥) → (stays : Bool) → settled ≡ cond stays 1 0
-    → (u ≡ cond stays u (set u (g .near) 0)) × (img ≡ leftImage g stays img)
+    → (u ≡ leftTable g stays u) × (img ≡ leftImage g stays img)
 left-settled settled g u img h true e = (refl, go (g .dry))
   where
     go : (d : Bool) → img ≡ cond (d || true) img (setPage (g .near) blank img)
@@ -68,7 +75,7 @@ left-settled settled g u img h false e = absurd (h e)
 
 pub left-marked : (settled : ℕ) (g : Growing) (u img b : List ℕ) → settled ≡ 0 → b ≡ cond (g .dry) img (setPage (g .near) blank img)
     → (stays : Bool) → settled ≡ cond stays 1 0
-    → (set u (g .near) 0 ≡ cond stays u (set u (g .near) 0)) × (b ≡ leftImage g stays img)
+    → (set u (g .near) 0 ≡ leftTable g stays u) × (b ≡ leftImage g stays img)
 left-marked settled g u img b h pb true e = absurd (omega arith)
 left-marked settled g u img b h pb false e = (refl, rw or-false pb)
 
@@ -89,6 +96,19 @@ marked-left st q false u r w h m = record {
   same = λ x k. used-set u q 0 x (omega (arith, m .long)) ∙ ap (λ (b : Bool). cond (eqb x q) false b) (m .same x k);
 }
 
+-- A table that is right for the record's row is so with the page free, since the row does not name it;
+pub left-tabled : (g : Growing) (stays : Bool) (u : List ℕ) (row : Row) → count (g .near) row ≡ 0 → Tabled u row → Tabled (leftTable g stays u) row
+left-tabled g true u row z t = t
+left-tabled g false u row z t = tabled-set u (g .near) 0 row z t
+
+-- and the other pages in use keep their entries.
+pub left-frame : (g : Growing) (stays : Bool) (u : List ℕ) {used : List ℕ} {row : Row} → Keeps (leftTable g stays u) used row
+    → (q : ℕ) → (q ≡ g .near → ⊥) → usedBy u q ≡ true → getD used q 0 ≡ getD u q 0
+left-frame g true u k q other h = k .frame q h
+left-frame g false u k q other h =
+    let e = getD-set-other u (g .near) q 0 0 other in
+    k .frame q (same-mark u (set u (g .near) 0) q e h) ∙ e
+
 -- ── the split ──
 
 module _ {g : Growing} {settled : ℕ} {l u img : List ℕ} (w : Off g settled l u) (env : Env g u img) where
@@ -104,7 +124,7 @@ module _ {g : Growing} {settled : ℕ} {l u img : List ℕ} (w : Off g settled l
   off-page : (g .near < mostPages) × (pageSize * g .near + pageSize ≤ length img)
   off-page = omega (arith, env .few, env .start, env .image)
 
-  module _ {u′ i′ : List ℕ} (ue : u′ ≡ cond (w .stays) u (set u (g .near) 0)) (ie : i′ ≡ leftImage g (w .stays) img) where
+  module _ {u′ i′ : List ℕ} (ue : u′ ≡ leftTable g (w .stays) u) (ie : i′ ≡ leftImage g (w .stays) img) where
     pub marks : InUse u′ W
     marks = rw ue (marked-left (w .st) (g .near) (w .stays) u (w .row) (w .work) (off-page .0) (w .marked))
 
@@ -135,11 +155,6 @@ module _ {g : Growing} {settled : ℕ} {l u img : List ℕ} (w : Off g settled l
         most = w .most;
       }
 
-      pub off-done : {r : Output} {u″ i″ o₀ o₁ : List ℕ} → Severed (w .st) g (w .row) W r u″ i′ i″ o₀ o₁
-          → SplitOff (w .st) g (w .row) (w .work) (w .stays) r u″ img i″ o₀ o₁ × Past (g .setup .pages) u″
-      off-done {r} {u″} {i″} {o₀} {o₁} s = (
-        subst (λ (x : List ℕ). Severed (w .st) g (w .row) W r u″ x i″ o₀ o₁) ie s,
-        marked-past (s .marked)
-            (separator-named (w .st) (g .setup .pages) (g .near) (pages-of (w .setup)) (env .few) (env .start) (w .row) W (w .below)
-            (marked-beyond marks past) .used),
-      )
+      pub off-done : {r : Output} {u″ i″ o₀ o₁ : List ℕ} → Severed (w .st) g (w .row) W r u′ u″ i′ i″ o₀ o₁
+          → SplitOff (w .st) g (w .row) (w .work) (w .stays) r u u″ img i″ o₀ o₁ × Past (g .setup .pages) u″
+      off-done s = (rw (← ue, ← ie) s, s .past)

@@ -13,7 +13,7 @@ use model::Settings;
 ghost use mathlib.Core.Path.{_≡_};
 ghost use mathlib.Core.Bool.{Bool, cond};
 ghost use Prim.Native.Nat.{_+_, _*_, _≤_, _<_};
-ghost use lib.ListN.{length, set};
+ghost use lib.ListN.{length};
 ghost use lib.IntN.{subℕ};
 ghost use Rattle.model.specs.Limits.{mostPages, pageSize};
 ghost use Rattle.model.specs.Row.{Row, base, recordSize, recordBytes};
@@ -23,7 +23,7 @@ ghost use Rattle.grow_pages.specs.Relinked.{written};
 ghost use Rattle.grow_groups.specs.Used.{Past, Env};
 ghost use Rattle.grow_write_back.specs.Leaning.{Leaning};
 ghost use Rattle.grow_write_back.specs.Content.{Content};
-ghost use Rattle.grow_write_back.specs.Off.{leftImage, Off, SplitOff};
+ghost use Rattle.grow_write_back.specs.Off.{leftImage, leftTable, Off, SplitOff};
 
 // The lean of a split: the start of d minus p.
 pub fn first_lean(buf: &[u8], setup: Setup) -> i32
@@ -63,10 +63,10 @@ pub fn keep(image: &mut [u8], g: Growing, content: &[u8], settled: usize, holder
 }
 
 // Frees the page of a record that is split, unless the record is settled.
-pub fn leave(image: &mut [u8], used: &mut [u8; Settings::PAGES], g: Growing, settled: usize)
+pub fn leave(image: &mut [u8], widths: &mut [u32; Settings::PAGES], g: Growing, settled: usize)
     requires { ⌜ (g .near < mostPages) × (pageSize * g .near + pageSize ≤ length (now image)) ⌝ }
     ensures { λ _. ⌜ ((stays : Bool) → settled ≡ cond stays 1 0
-        → (now (used .exit) ≡ cond stays (now (used .entry)) (set (now (used .entry)) (g .near) 0))
+        → (now (widths .exit) ≡ leftTable g stays (now (widths .entry)))
         × (now (image .exit) ≡ leftImage g stays (now (image .entry)))) ⌝ }
 {
     let page = g.near;
@@ -74,7 +74,7 @@ pub fn leave(image: &mut [u8], used: &mut [u8; Settings::PAGES], g: Growing, set
     if settled != 0 {
         return;
     }
-    used[page] = 0;
+    widths[page] = 0;
     if dry {
         return;
     }
@@ -86,17 +86,18 @@ pub fn leave(image: &mut [u8], used: &mut [u8; Settings::PAGES], g: Growing, set
 pub fn split_off(
     buf: &[u8],
     image: &mut [u8],
-    used: &mut [u8; Settings::PAGES],
+    widths: &mut [u32; Settings::PAGES],
     g: Growing,
     settled: usize,
     out: &mut [u8],
 ) -> Output
-    requires { ⌜ Env g (now used) (now image) × ((length (now out) ≡ separatorSize) × Off g settled (now buf) (now used)) ⌝ }
-    ensures { λ r. ⌜ ((w : Off g settled (now (buf .entry)) (now (used .entry)))
+    requires { ⌜ Env g (now widths) (now image) × ((length (now out) ≡ separatorSize) × Off g settled (now buf) (now widths)) ⌝ }
+    ensures { λ r. ⌜ ((w : Off g settled (now (buf .entry)) (now (widths .entry)))
         → SplitOff (w .st) g (w .row) (w .work) (w .stays) r
-        (now (used .exit)) (now (image .entry)) (now (image .exit)) (now (out .entry)) (now (out .exit)) × Past (g .setup .pages) (now (used .exit))) ⌝ }
+        (now (widths .entry)) (now (widths .exit)) (now (image .entry)) (now (image .exit)) (now (out .entry)) (now (out .exit))
+        × Past (g .setup .pages) (now (widths .exit))) ⌝ }
 {
-    leave(image, used, g, settled);
+    leave(image, widths, g, settled);
     let p = split_point(g.setup.target, buf.len());
-    separator(buf, p, image, used, g, out)
+    separator(buf, p, image, widths, g, out)
 }

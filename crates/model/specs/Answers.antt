@@ -5,8 +5,7 @@ use Prim.Native.Nat.{ℕ}
 use lib.ListN.{replicate}
 use lib.IntN.{pos}
 use Rattle.model.specs.Limits.{pageSize, capacity, mostPages, mostLevels, mostContent, mostNode, leastTarget, mostTarget, mostTolerance, theForm}
-use Rattle.model.specs.Limits.{matrixEntries, markBytes}
-use Rattle.model.specs.Limits.{longestPath, longestParent}
+use Rattle.model.specs.Limits.{matrixEntries, markBytes, longestPath, longestParent}
 use Rattle.model.specs.declared.Limits.{Limits}
 use Rattle.model.specs.declared.Settings.{Settings}
 use Rattle.model.specs.declared.Place.{Place}

@@ -1,13 +1,15 @@
 -- Growth: what an insert makes of a store.
 use mathlib.Core.Bool.{Bool, true, false, cond, not, _&&_, _||_}
-use mathlib.Core.List.{List, [], _∷_}
-use Prim.Native.Nat.{ℕ, zero, suc, _+_, _*_, _-_, _/_}
+use mathlib.Core.List.{List}
+use mathlib.Core.Option.{Option, none, some}
+use Prim.Native.Nat.{ℕ, zero, suc, _+_, _*_, _/_}
 use lib.ListN.{length, getD}
 use lib.Dec.{leb, ltb, eqb}
 use lib.IntN.{ℤ, pos, subℕ}
 use Rattle.model.specs.Limits.{capacity}
 use Rattle.model.specs.Row.{Head, Row, nil, agg, lit, rec, _⊹_, size, isNil, lone, loneRec, recordSize, count, outside, Config}
-use Rattle.model.specs.Tree.{width, New}
+use Rattle.model.specs.Tree.{New}
+use Rattle.model.specs.Spot.{fill, Chain, top, below, lastPage, Spot, spotOf}
 
 -- What growth carries along: the pages that are not free, how many records were split, the lean of the first split,
 -- and whether a page was taken where none was free.
@@ -155,7 +157,7 @@ module _ (st : Config) where
       let split = onRow (λ r. r ⊹ rest) (separator q (o .0) (freed q (counted (o .0) (o .1)))) in
       cond (leb (recordSize (o .0)) capacity) (onRow (λ r. rec q false r rest) o) split
 
-  -- ── where the new node goes (steps 1 and 2) ──
+  -- ── the new node (step 2) ──
 
   abbrev pub class : (label : ℕ) → ℕ
   class l = cond (ltb l 15) l 15
@@ -173,40 +175,31 @@ module _ (st : Config) where
         let own = ownRecord page true (asRow x nil) rest w in
         cond (apart parent (x .head)) own (asRow x rest, w)
 
-    -- The new node after its left sibling, node i of the row, or after the sibling's proxy if the sibling is a record's root.
-    unfoldable pub after : (parent : Head) → (page i : ℕ) → Row → Work → Out
-    after parent page i nil w = (nil, w)
-    after parent page zero (agg h cs rest) w = onRow (agg h cs) (place parent page rest w)
-    after parent page (suc i) (agg h cs rest) w = onRow (agg h cs) (after parent page i rest w)
-    after parent page zero (lit h c rest) w = onRow (lit h c) (place parent page rest w)
-    after parent page (suc i) (lit h c rest) w = onRow (lit h c) (after parent page i rest w)
-    after parent page i (rec q s r rest) w =
-        let beside = onRow (rec q s r) (place parent page rest w) in
-        let within = close q s rest (after parent q i r w) in
-        let beyond = onRow (rec q s r) (after parent page (i - width r) rest w) in
-        cond (ltb i (width r)) (cond (lone r) beside within) beyond
+  -- ── from the record that takes it upwards (steps 3 to 6) ──
 
-    -- The new node as child k of its parent; with no left sibling, first in the parent.
-    abbrev pub child : (parent : Head) → (page k : ℕ) → Row → Work → Out
-    child parent page zero row w = place parent page row w
-    child parent page (suc i) row w = after parent page i row w
+  -- The last record of a chain has a new row: it is closed into the row of the record above, and so on up to the root record, which is settled, on page 1.
+  unfoldable pub rise : Chain → Out → Out
+  rise top o = kept 1 o
+  rise (below c s q b rest) o = rise c (onRow (fill s) (close q b rest o))
 
-    -- The new node as child k of the node that the path names from node i of the row, which is in the record of `page`.
-    unfoldable pub inserted : (k page i : ℕ) → (path : List ℕ) → Row → Work → Out
-    inserted k page i path nil w = (nil, w)
-    inserted k page zero [] (agg h cs rest) w = onRow (λ r. agg h r rest) (child h page k cs w)
-    inserted k page zero (j ∷ path) (agg h cs rest) w = onRow (λ r. agg h r rest) (inserted k page j path cs w)
-    inserted k page (suc i) path (agg h cs rest) w = onRow (agg h cs) (inserted k page i path rest w)
-    inserted k page zero path (lit h c rest) w = (lit h c rest, w)
-    inserted k page (suc i) path (lit h c rest) w = onRow (lit h c) (inserted k page i path rest w)
-    inserted k page i path (rec q s r rest) w =
-        let within = close q s rest (inserted k q i path r w) in
-        let beyond = onRow (rec q s r) (inserted k page (i - width r) path rest w) in
-        cond (ltb i (width r)) within beyond
+  -- ── an insert ──
+
+  module _ (x : New) where
+    -- Step 2 at a spot: the row of the record that takes the new node, with it.
+    abbrev pub received : Spot → Work → Out
+    received t w = onRow (fill (t .position)) (place x (t .parent) (lastPage (t .chain)) (t .rest) w)
+
+    -- Steps 2 to 6 from a spot.
+    abbrev pub risen : Spot → Work → Out
+    risen t w = rise (t .chain) (received t w)
 
   abbrev pub atRest : (root : Row) → Work
   atRest root = record { used = λ q. outside (st .pages) q || ltb 0 (count q root); splits = 0; lean = pos 0; full = false }
 
-  -- An insert: the new root record, and what growth carried along. The page of the root record is 1, and it is settled.
+  abbrev pub fromSpot : New → (root : Row) → Option Spot → Out
+  fromSpot x root none = (root, atRest root)
+  fromSpot x root (some t) = risen x t (atRest root)
+
+  -- An insert: step 1 gives the spot, steps 2 to 6 go up from it. The new root record, and what growth carried along.
   unfoldable pub grow : (root : Row) → (path : List ℕ) → (k : ℕ) → New → Out
-  grow root path k x = kept 1 (inserted x k 1 0 path root (atRest root))
+  grow root path k x = fromSpot x root (spotOf root path k)

@@ -1,6 +1,7 @@
 pub mod Limits
 pub mod Row
 pub mod Tree
+pub mod Spot
 pub mod Growth
 pub mod Reading
 pub mod Answers

@@ -1,6 +1,6 @@
 -- A walk along a row that stands in an image: what it asks at each node, and what is left after it.
 use mathlib.Core.Path.{_≡_, refl, sym, ap, subst, _∙_}
-use mathlib.Core.Bool.{cond}
+use mathlib.Core.Bool.{Bool, cond}
 use mathlib.Core.List.{List}
 use Prim.Native.Nat.{ℕ, suc, _+_, _*_, _-_, _≤_, _<_}
 use native.Mathlib.Omega.{arith}
@@ -107,6 +107,9 @@ pub record Entered (img : List ℕ) (i end depth p : ℕ) (row : Row) : Type 0 w
   pub long : sizeAt img i ≡ 8
   pub inside : Rowed img (startOn img p) (endOn img p) (depth - 1)
   pub after : Rowed img (i + 8) end depth
+  pub settled : Bool
+  pub is : row ≡ rec p settled (inside .row) (after .row)
+  pub starts : startOn img p ≡ pageSize * p + base (inside .row)
   pub wide : width row ≡ width (inside .row) + width (after .row)
   pub told : (c : List ℕ) → Widths img c → getD c p 0 ≡ width (inside .row)
   pub within : (k : ℕ) → k < width (inside .row) → nthOf (startOn img p) (inside .row) k ≡ nthOf i row k
@@ -138,6 +141,9 @@ module _ (img : List ℕ) (i end depth p : ℕ) (some : i < end) (kind : kindAt 
                   omega arith;
             };
         after = record { page = page; row = rest; here = v .after; ends = omega arith; deep = omega arith; few = omega arith };
+        settled = s;
+        is = ap (λ (n : ℕ). rec n s r rest) (sym same);
+        starts = a ∙ ap (λ (n : ℕ). pageSize * n + base r) (sym same);
         wide = refl;
         told = λ c t. ap (λ (n : ℕ). getD c n 0) same ∙ t .told q page r (h .on .low) u;
         within = λ k t. ap (λ (n : ℕ). nthOf n r k) a ∙ sym (nth-inside i q s r rest k t);

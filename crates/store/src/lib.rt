@@ -8,7 +8,7 @@ use model::ReadNode;
 use model::Settings;
 use model::WriteAnswer;
 ghost use mathlib.Core.Path.{_≡_};
-ghost use lib.ListN.{length};
+ghost use lib.ListN.{replicate};
 ghost use Rattle.model.specs.Limits.{mostPages};
 ghost use Rattle.model.specs.Calls.Format.{formatOf};
 ghost use Rattle.model.specs.Calls.Check.{checkOf};
@@ -36,9 +36,9 @@ pub fn check(image: &[u8]) -> u32
     read_check::check(image)
 }
 
-// The check, for calls that count the nodes of rows: it leaves in a table how many nodes the record on each page shows.
+// The check, for calls that count the nodes of rows: it leaves in a table of zeros how many nodes the record on each page shows, and 0 for a free page.
 fn check_widths(image: &[u8], widths: &mut [u32; Settings::PAGES]) -> u32
-    requires { ⌜ length (now widths) ≡ mostPages ⌝ }
+    requires { ⌜ now widths ≡ replicate mostPages 0 ⌝ }
     ensures { λ r. ⌜ (r ≡ checkOf (now (image .entry))) × (r ≡ 0 → Widths (now (image .entry)) (now (widths .exit))) ⌝ }
 {
     read_check::check_widths(image, widths)
@@ -66,7 +66,7 @@ pub fn insert(
             lean: 0,
         };
     }
-    grow_insert::insert_of(image, &widths, path, child, kind, label, content)
+    grow_insert::insert_of(image, &mut widths, path, child, kind, label, content)
 }
 
 // The place of the node that a path names.

@@ -1,7 +1,6 @@
 -- Check in a list of calls.
-use mathlib.Core.Path.{_≡_, sym, _∙_}
 use native.Mathlib.Omega.{arith}
-use mathlib.Core.List.{List, [], _∷_}
+use mathlib.Core.List.{List}
 use Prim.Native.Nat.{ℕ}
 use Rattle.model.specs.Row.{Row, Config}
 use Rattle.model.specs.Tree.{shown}

@@ -1,8 +1,5 @@
 -- Climb in a list of calls.
-use mathlib.Core.Path.{_≡_, refl, sym, ap, _∙_}
-use mathlib.Core.Bool.{Bool, true, false, cond}
-use lib.ListN.{length, drop}
-use lib.Dec.{ltb}
+use mathlib.Core.Path.{_≡_, sym, ap, _∙_}
 use mathlib.Core.List.{List, [], _∷_}
 use Prim.Native.Nat.{ℕ}
 use native.Mathlib.Omega.{arith}
@@ -12,8 +9,7 @@ use Rattle.model.specs.Reading.{Reads}
 use Rattle.model.specs.Claims.{CallHolds}
 use Rattle.theory_calls.specs.Open.{opens}
 use Rattle.theory_calls.specs.Asking.{asked}
-use Rattle.model.specs.Answers.{writeRefused}
-use Rattle.model.specs.Common.{pathBytes, write}
+use Rattle.model.specs.Common.{pathBytes}
 use Rattle.model.specs.Calls.Climb.{climbFrom, climbIn, climbOf, climbCall}
 use Rattle.model.specs.declared.Place.{Place}
 use Rattle.model.specs.declared.WriteAnswer.{WriteAnswer}

@@ -13,8 +13,7 @@ use Rattle.model.specs.Claims.{CallHolds}
 use Rattle.theory_calls.specs.Open.{opens}
 use Rattle.theory_calls.specs.Asking.{asked}
 use Rattle.model.specs.Limits.{longestPath}
-use Rattle.model.specs.Answers.{findRefused}
-use Rattle.model.specs.Common.{namedBy, isNone, placeOr, pathOf}
+use Rattle.model.specs.Common.{namedBy, isNone}
 use Rattle.model.specs.Calls.Find.{findIn, findOf, findCall}
 use Rattle.model.specs.declared.FindAnswer.{FindAnswer}
 use Rattle.theory_calls.specs.Lowest.{accept-number, lowest-given}

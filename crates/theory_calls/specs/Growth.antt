@@ -11,13 +11,12 @@ use Rattle.model.specs.Tree.{Tree, shown, Node, named, New, insertAt}
 use Rattle.model.specs.Common.{entries, namedIf, namedBy, orEmpty, pathOf, isNone}
 use Rattle.model.specs.Calls.Insert.{isLiteral, childrenBelow, grown}
 use Rattle.model.specs.Claims.{look, Growth}
-use Rattle.theory_rows.specs.Laws.{shown-grow}
-use Rattle.theory_rows.specs.Store.{NewFits, valid-grow}
-use Rattle.theory_rows.specs.Lean.{lean-grow}
+use Rattle.theory_growth.specs.Store.{NewFits, grow-shows, grow-good, grow-valid}
 use Rattle.theory_decoding.specs.Valid.{bytes-say, valid-says, valid-holds}
 use Rattle.theory_places.specs.Named.{named-place}
 use Rattle.theory_calls.specs.Paths.{path-length}
-use Rattle.theory_calls.specs.Insert.{accepted}
+use Rattle.theory_calls.specs.Tests.{accepted}
+use Rattle.theory_calls.specs.Spot.{spot-accepted}
 use Rattle.theory_calls.specs.Added.{Names, Parent, Added, insert-named, one-more}
 
 parent-says : (k : ℕ) (o : Option Node) → isNone o ≡ false → isLiteral o ≡ false → childrenBelow k o ≡ false → Names (Parent k) o
@@ -43,12 +42,13 @@ growth st root path k x passes head byte z =
     let new : NewFits x = record { head = record { label = ltb-true _ _ head }; long = a .small; byte = bytes-say (x .content) byte } in
     let short : length entry ≤ 22 = omega (arith, path-length path, a .short) in
     let parent = by-entries (Parent k) t (entries path) (parent-says k (namedBy t path) (a .named) (a .aggregate) (a .within)) in
-    let shows = shown-grow st x root entry k in
+    let (spot, e) = spot-accepted root path k x (o .1 .full) a in
+    let shows = grow-shows st x root entry k spot e in
     let (n, at, looks, childless) = the-added x (named (insertAt x k 0 entry t) (entry ++ k ∷ [])) (insert-named x (a .kind) k 0 entry t parent) in
     let names : named (shown (o .0)) (entry ++ k ∷ []) ≡ some n = rw shows at in
-    let lean = lean-grow st x new root entry k v short in
+    let lean = grow-good st x root entry k spot e new v short .2 in
     record {
-      keeps = valid-holds st (o .0) (valid-grow st x new root entry k v short (a .room));
+      keeps = valid-holds st (o .0) (grow-valid st x root entry k spot e new v short (a .room));
       shows = shows;
       named = (n, names, looks, childless);
       placed = named-place (o .0) (entry ++ k ∷ []) n names;

@@ -3,84 +3,28 @@ use mathlib.Core.Path.{_≡_, refl, sym, ap, subst, _∙_}
 use mathlib.Core.Logic.{_↔_}
 use mathlib.Core.Bool.{Bool, true, false, cond}
 use mathlib.Core.List.{List, [], _∷_, _++_}
-use Prim.Native.Nat.{ℕ, _+_, _≤_}
+use Prim.Native.Nat.{ℕ}
 use native.Mathlib.Omega.{arith}
-use borrow.Author.Tests.{eqb-true, ltb-false}
-use lib.ListN.{length}
-use lib.Dec.{ltb, eqb}
-use Rattle.model.specs.Limits.{mostContent, longestParent}
+use borrow.Author.Tests.{eqb-true}
+use lib.Dec.{eqb}
 use Rattle.model.specs.Row.{Row, Config, image}
-use Rattle.model.specs.Tree.{Tree, shown, New, insertAt, placeOf}
+use Rattle.model.specs.Tree.{shown, New, insertAt, placeOf}
 use Rattle.model.specs.Growth.{Work, Out}
 use Rattle.model.specs.Reading.{Reads}
 use Rattle.model.specs.Answers.{insertRefused}
-use Rattle.model.specs.Common.{accept, pathOf, placeOr, namedBy, isNone, placesOn}
+use Rattle.model.specs.Common.{accept, pathOf, placeOr, placesOn}
 use Rattle.model.specs.Claims.{Matches, CallHolds}
-use Rattle.model.specs.Calls.Insert.{kindBad, isLiteral, childrenBelow, insertNumber, newOf, grown, insertOf, insertWork, insertCall}
+use Rattle.model.specs.Calls.Insert.{insertNumber, newOf, grown, insertOf, insertWork, insertCall}
 use Rattle.model.specs.declared.InsertAnswer.{InsertAnswer}
-use Rattle.theory_rows.specs.Laws.{shown-grow}
-use Rattle.theory_rows.specs.Store.{NewFits, valid-grow}
+use Rattle.theory_growth.specs.Store.{NewFits, grow-shows, grow-valid}
 use Rattle.theory_decoding.specs.Valid.{bytes-say, valid-holds}
 use Rattle.theory_decoding.specs.Reading.{reads-valid}
 use Rattle.theory_calls.specs.Open.{opens}
 use Rattle.theory_calls.specs.Paths.{path-length}
-use Rattle.theory_calls.specs.Lowest.{Without, accept-number, lowest-clear, last-unasked, last-false, last-exactly}
+use Rattle.theory_calls.specs.Lowest.{accept-number}
+use Rattle.theory_calls.specs.Tests.{full-last, accepted}
+use Rattle.theory_calls.specs.Spot.{spot-accepted}
 use Rattle.theory_calls.specs.Matches.{image-matches}
-
--- ── the tests of an insert ──
-
--- All but the last, which is for a full store.
-abbrev pub insertTests : Tree → (path : List ℕ) → (k : ℕ) → New → List (ℕ × Bool)
-insertTests t path k x =
-    let parent = namedBy t path in
-    (4, ltb longestParent (length path)) ∷ (5, kindBad x) ∷ (6, ltb mostContent (length (x .content)))
-    ∷ (7, isNone parent) ∷ (8, isLiteral parent) ∷ (9, childrenBelow k parent) ∷ []
-
-module _ (t : Tree) (path : List ℕ) (k : ℕ) (x : New) where
-  abbrev tests : List (ℕ × Bool)
-  tests = insertTests t path k x
-
-  -- None has the number 0 or 12.
-  not-0 : Without 0 tests
-  not-0 = (omega arith, (omega arith, (omega arith, (omega arith, (omega arith, (omega arith, tt))))))
-
-  not-12 : Without 12 tests
-  not-12 = (omega arith, (omega arith, (omega arith, (omega arith, (omega arith, (omega arith, tt))))))
-
-  -- 12 comes exactly where no other test applies and the store is full.
-  pub full-last : (full : Bool) → (insertNumber t path k x full ≡ 12) ↔ ((insertNumber t path k x false ≡ 0) × (full ≡ true))
-  unfolding insertNumber
-  full-last full = last-exactly tests 12 full not-0 not-12 (omega arith)
-
-  -- Where another applies it does not matter.
-  pub full-unasked : (full : Bool) → (insertNumber t path k x false ≡ 0 → ⊥) → insertNumber t path k x false ≡ insertNumber t path k x full
-  unfolding insertNumber
-  full-unasked full z = let e = last-false tests 12 in e ∙ sym (last-unasked tests 12 full (λ y. z (e ∙ y)))
-
--- No test of an accepted insert applies.
-pub record Accepted (t : Tree) (path : List ℕ) (k : ℕ) (x : New) (full : Bool) : Type 0 where
-  pub short : length path ≤ longestParent
-  pub kind : kindBad x ≡ false
-  pub small : length (x .content) ≤ mostContent
-  pub named : isNone (namedBy t path) ≡ false
-  pub aggregate : isLiteral (namedBy t path) ≡ false
-  pub within : childrenBelow k (namedBy t path) ≡ false
-  pub room : full ≡ false
-
-pub accepted : (t : Tree) (path : List ℕ) (k : ℕ) (x : New) (full : Bool) → insertNumber t path k x full ≡ 0 → Accepted t path k x full
-unfolding insertNumber
-accepted t path k x full z =
-    let u = lowest-clear (insertTests t path k x ++ (12, full) ∷ [])
-    (omega arith, (omega arith, (omega arith, (omega arith, (omega arith, (omega arith, (omega arith, tt))))))) z in
-    record {
-      short = ltb-false _ _ (u .0);
-      kind = u .1 .0;
-      small = ltb-false _ _ (u .1 .1 .0);
-      named = u .1 .1 .1 .0;
-      aggregate = u .1 .1 .1 .1 .0;
-      within = u .1 .1 .1 .1 .1 .0;
-      room = u .1 .1 .1 .1 .1 .1 .0;
-    }
 
 -- ── an insert ──
 
@@ -101,7 +45,8 @@ module _ (order : (img buffer : List ℕ) → List ℕ) (img : List ℕ) (st : C
   new-reads z =
       let a = accepted (shown root) path child x (o .1 .full) z in
       let fit : NewFits x = record { head = record { label = typed .0 }; long = a .small; byte = bytes-say content (typed .1) } in
-      let v = valid-grow st x fit root (pathOf path) child (reads-valid img st root r) (omega (arith, path-length path, a .short)) (a .room) in
+      let (t, e) = spot-accepted root path child x (o .1 .full) a in
+      let v = grow-valid st x root (pathOf path) child t e fit (reads-valid img st root r) (omega (arith, path-length path, a .short)) (a .room) in
       record { passes = valid-holds st (o .0) v; same = refl }
 
   new-answer : InsertAnswer
@@ -161,7 +106,8 @@ module _ (order : (img buffer : List ℕ) → List ℕ) (img : List ℕ) (st : C
     where
       go : (b : Bool) → eqb n 0 ≡ b → Matches (outcome b .1) (cond b (insertAt x child 0 (pathOf path) (shown root)) (shown root))
       go true e =
-          subst (Matches (image st (o .0))) (shown-grow st x root (pathOf path) child)
+          let (t, s) = spot-accepted root path child x (o .1 .full) (accepted (shown root) path child x (o .1 .full) (eqb-true n 0 e)) in
+          subst (Matches (image st (o .0))) (grow-shows st x root (pathOf path) child t s)
           (image-matches (image st (o .0)) st (o .0) (new-reads (eqb-true n 0 e)))
       go false e = image-matches img st root r
 

@@ -6,6 +6,8 @@ pub mod Matches
 pub mod Asking
 pub mod Format
 pub mod Check
+pub mod Tests
+pub mod Spot
 pub mod Insert
 pub mod Find
 pub mod Climb

@@ -1,9 +1,7 @@
 -- Records in a list of calls.
-use mathlib.Core.Path.{_≡_, refl, sym, ap, _∙_}
-use mathlib.Core.Bool.{cond}
-use Prim.Native.Nat.{_+_, _*_, ℕ}
+use mathlib.Core.Path.{_≡_, refl, ap, _∙_}
+use Prim.Native.Nat.{_*_, ℕ}
 use lib.ListN.{length}
-use lib.Dec.{ltb}
 use mathlib.Core.List.{List, [], _∷_}
 use native.Mathlib.Omega.{arith}
 use Rattle.model.specs.Row.{Row, Config}
@@ -12,8 +10,8 @@ use Rattle.model.specs.Reading.{Reads}
 use Rattle.model.specs.Claims.{CallHolds, Orders}
 use Rattle.theory_calls.specs.Open.{opens}
 use Rattle.theory_calls.specs.Asking.{asked}
-use Rattle.model.specs.Common.{recordPages, write}
-use Rattle.model.specs.Calls.Records.{pageBytes, IsOrder, recordsOf, plainRecords, recordsCall}
+use Rattle.model.specs.Common.{recordPages}
+use Rattle.model.specs.Calls.Records.{pageBytes, recordsOf, recordsCall}
 use Rattle.model.specs.declared.WriteAnswer.{WriteAnswer}
 use Rattle.theory_calls.specs.Lowest.{write-number}
 use Rattle.theory_calls.specs.Pieces.{same-length}

@@ -11,7 +11,7 @@ use Rattle.model.specs.Limits.{pageSize, markBytes}
 use Rattle.model.specs.Row.{Row, store, Held, records, settingsPage, pagesFrom, image, lone, byTable, mayStand, standing, Config, recordOn, inRange, valid}
 use Rattle.model.specs.Reading.{Reads, pageOf}
 use Rattle.theory_rows.specs.Fits.{Valid}
-use Rattle.theory_rows.specs.Store.{settled-lone}
+use Rattle.theory_growth.specs.Store.{settled-lone}
 use Rattle.theory_rows.specs.Image.{length-settings, once}
 use Rattle.theory_decoding.specs.Valid.{both, by-table, valid-holds}
 use Rattle.theory_decoding.specs.Steps.{recordCount}

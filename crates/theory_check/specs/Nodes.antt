@@ -8,7 +8,7 @@ use lib.ListN.{length, length-append}
 use lib.Seq.{take-at, drop-at, take-length, drop-length}
 use borrow.Author.Tests.{le-ltb, lt-ltb, le-leb, eq-eqb, ne-eqb}
 use Rattle.model.specs.Limits.{capacity, mostContent, mostNode, mostLevels}
-use Rattle.model.specs.Row.{Row, nil, agg, lit, rec, _⊹_, size, lone, nodeCount, two, header, bytes, recordBytes, mayStand, standing, byTable, noHead, Head}
+use Rattle.model.specs.Row.{Row, nil, agg, lit, rec, size, lone, nodeCount, two, header, bytes, recordBytes, mayStand, standing, byTable, noHead, Head}
 use Rattle.model.specs.Reading.{twoAt, sizeAt}
 use Rattle.theory_rows.specs.Laws.{length-bytes, isNil-nil, ⊹-nil}
 use Rattle.theory_rows.specs.Fits.{Shape, one, more, RecordFits, HeadFits}

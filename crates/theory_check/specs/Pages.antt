@@ -12,7 +12,7 @@ use Rattle.model.specs.Limits.{mostPages, pageSize, capacity, settingsSize, mat
 use Rattle.model.specs.Row.{Row, nil, agg, lit, rec, lone, recordSize, recordBytes, two, trailer, Held, recordPage, Config, settingsPage, isAgg, inRange}
 use Rattle.model.specs.Reading.{twoAt, pageOf, backAt, settledAt, configOn}
 use Rattle.theory_rows.specs.Fits.{Shape, RecordFits, Ranges}
-use Rattle.theory_rows.specs.Store.{settled-lone}
+use Rattle.theory_growth.specs.Store.{settled-lone}
 use Rattle.theory_rows.specs.Image.{length-record}
 use Rattle.theory_decoding.specs.Valid.{ranges-say}
 use Rattle.theory_decoding.specs.Decode.{two-bytes, getD-past, in-trailer, settled-page, used-page, take-page}

@@ -12,7 +12,7 @@ use Rattle.model.specs.Limits.{mostPages}
 use Rattle.model.specs.Row.{Row, nil, agg, lit, rec, _⊹_, count}
 use Rattle.model.specs.Tree.{width}
 use Rattle.theory_decoding.specs.Valid.{names-own}
-use Rattle.theory_places.specs.Widths.{Told}
+use Rattle.theory_places.specs.Widths.{Told, told-same}
 
 unfoldable pub widthsAfter : Row → List ℕ → List ℕ
 widthsAfter nil c = c
@@ -20,7 +20,7 @@ widthsAfter (agg h cs rest) c = widthsAfter rest (widthsAfter cs c)
 widthsAfter (lit h b rest) c = widthsAfter rest c
 widthsAfter (rec p s r rest) c = widthsAfter rest (set (widthsAfter r c) p (width r))
 
-widths-length : (row : Row) (c : List ℕ) → length (widthsAfter row c) ≡ length c
+pub widths-length : (row : Row) (c : List ℕ) → length (widthsAfter row c) ≡ length c
 unfolding widthsAfter
 widths-length nil c = refl
 widths-length (agg h cs rest) c = widths-length rest (widthsAfter cs c) ∙ widths-length cs c
@@ -38,7 +38,7 @@ widths-⊹ (rec p s r rest) b c = widths-⊹ rest b (set (widthsAfter r c) p (wi
 -- ── the table is right ──
 
 -- a page that the row does not name keeps its entry
-kept : (row : Row) (c : List ℕ) (q : ℕ) → count q row ≡ 0 → getD (widthsAfter row c) q 0 ≡ getD c q 0
+pub kept : (row : Row) (c : List ℕ) (q : ℕ) → count q row ≡ 0 → getD (widthsAfter row c) q 0 ≡ getD c q 0
 unfolding widthsAfter
 kept nil c q z = refl
 kept (agg h cs rest) c q z = kept rest (widthsAfter cs c) q (omega arith) ∙ kept cs c q (omega arith)
@@ -46,14 +46,6 @@ kept (lit h b rest) c q z = kept rest c q z
 kept (rec p s r rest) c q z =
     let other : q ≡ p → ⊥ = λ e. omega (arith, names-own p s r rest, ap (λ n. count n (rec p s r rest)) (sym e) ∙ z) in
     kept rest (set (widthsAfter r c) p (width r)) q (omega arith) ∙ getD-set-other (widthsAfter r c) p q (width r) 0 other ∙ kept r c q (omega arith)
-
--- and a table with the same entries on a row's pages is as right for it
-told-same : (a b : List ℕ) (row : Row) → ((q : ℕ) → 1 ≤ count q row → getD b q 0 ≡ getD a q 0) → Told a row → Told b row
-told-same a b nil e t = tt
-told-same a b (agg h cs rest) e t = (told-same a b cs (λ q g. e q (omega arith)) (t .0), told-same a b rest (λ q g. e q (omega arith)) (t .1))
-told-same a b (lit h x rest) e t = told-same a b rest e t
-told-same a b (rec p s r rest) e t =
-    (e p (names-own p s r rest) ∙ t .0, told-same a b r (λ q g. e q (omega arith)) (t .1), told-same a b rest (λ q g. e q (omega arith)) (t .2))
 
 -- The table is right for a row that names no page twice.
 pub widths-told : (row : Row) (c : List ℕ) → length c ≡ mostPages → ((q : ℕ) → count q row ≤ 1) → ((q : ℕ) → 1 ≤ count q row → q < mostPages)

@@ -9,6 +9,7 @@ use Rattle.model.specs.Limits.{pageSize, capacity}
 use Rattle.model.specs.Row.{Row, nil, agg, lit, rec, store, size, count, outside, Config}
 use Rattle.theory_rows.specs.Fits.{Fits, Valid}
 use Rattle.theory_rows.specs.Image.{once}
+use Rattle.theory_rows.specs.Population.{population}
 use Rattle.theory_decoding.specs.Valid.{names-own}
 
 -- The nodes of a row and of the records below it: as many steps as decoding takes.
@@ -17,6 +18,13 @@ steps nil = 0
 steps (agg l cs rest) = 1 + steps cs + steps rest
 steps (lit l c rest) = 1 + steps rest
 steps (rec p s r rest) = 1 + steps r + steps rest
+
+-- Each node that a row shows takes one.
+pub population-steps : (r : Row) → population r ≤ steps r
+population-steps nil = omega arith
+population-steps (agg l cs rest) = omega (arith, population-steps cs, population-steps rest)
+population-steps (lit l c rest) = omega (arith, population-steps rest)
+population-steps (rec p s r rest) = omega (arith, population-steps r, population-steps rest)
 
 -- The records below a row.
 abbrev pub recordCount : Row → ℕ
@@ -92,3 +100,6 @@ module _ (st : Config) (root : Row) (v : Valid st root) where
   pub few-steps : steps root ≤ pageSize * st .pages
   few-steps =
       omega (arith, steps-bound (store root) (v .rows), few-records, v .ranges .few)
+
+  pub few-nodes : population root ≤ pageSize * st .pages
+  few-nodes = omega (arith, population-steps root, few-steps)

@@ -13,13 +13,14 @@ use Rattle.theory_rows.specs.Image.{Stored}
 use Rattle.theory_decoding.specs.Decode.{stored-image}
 use Rattle.theory_decoding.specs.Reading.{reads-valid}
 use Rattle.theory_layout.specs.Here.{Here, OnPage, view, root-page}
-use Rattle.theory_insert_point.specs.Chain.{Spot, here, inside, fill, before, Chain, top, below, lastPage, lastSettled, lastHolder, whole}
-use Rattle.theory_insert_point.specs.Taking.{Taking, taking, taking-whole}
+use Rattle.model.specs.Spot.{Position, here, inside, fill, Chain, top, below, lastPage, Spot, spotOf}
+use Rattle.theory_growth.specs.Chain.{before, lastSettled, lastHolder, whole}
+use Rattle.theory_growth.specs.Gap.{spot-whole}
 
 -- ── the records of a chain ──
 
 -- Where the record above the last of `below c s q b rest` has the proxy, if the last record holds `row`.
-abbrev pub proxyAt : (c : Chain) → (s : Spot) → (q : ℕ) → (b : Bool) → (rest row : Row) → ℕ
+abbrev pub proxyAt : (c : Chain) → (s : Position) → (q : ℕ) → (b : Bool) → (rest row : Row) → ℕ
 proxyAt c s q b rest row = pageSize * lastPage c + base (fill s (rec q b row rest)) + before s
 
 -- The last record, as its page holds it.
@@ -41,15 +42,15 @@ module _ (img : List ℕ) where
       let z : pos + 8 + size rest ≡ pos + (8 + size rest) = omega arith in
       subst (λ (n : ℕ). Here img page n b) z (here-⊹ page (pos + 8) rest b (view v (omega arith) .after))
 
-  -- What fills a spot stands there,
-  pub here-fill : (page pos : ℕ) (s : Spot) (x : Row) → Here img page pos (fill s x) → Here img page (pos + before s) x
+  -- What fills a position stands there,
+  pub here-fill : (page pos : ℕ) (s : Position) (x : Row) → Here img page pos (fill s x) → Here img page (pos + before s) x
   here-fill page pos (here left) x v = here-⊹ page pos left x v
   here-fill page pos (inside left h rest s) x v =
       let g = view (here-⊹ page pos left (agg h (fill s x) rest) v) (omega arith) in
       let z : pos + size left + 6 + before s ≡ pos + (size left + 6 + before s) = omega arith in
       subst (λ (n : ℕ). Here img page n x) z (here-fill page (pos + size left + 6) s x (g .children))
 
-  proxy-in : (c : Chain) (s : Spot) (q : ℕ) (b : Bool) (rest row : Row) → OnPage img (lastPage c) (lastHolder c) (fill s (rec q b row rest))
+  proxy-in : (c : Chain) (s : Position) (q : ℕ) (b : Bool) (rest row : Row) → OnPage img (lastPage c) (lastHolder c) (fill s (rec q b row rest))
       → Here img (lastPage c) (proxyAt c s q b rest row) (rec q b row rest)
   proxy-in c s q b rest row v = here-fill (lastPage c) (pageSize * lastPage c + base (fill s (rec q b row rest))) s (rec q b row rest) (v .here)
 
@@ -64,7 +65,7 @@ module _ (img : List ℕ) where
     chain-page c row e = page-in c row (subst (OnPage img 1 0) (sym e) (root-page img st root r))
 
     -- and the proxy to it in the record above.
-    pub chain-here : (c : Chain) (s : Spot) (q : ℕ) (b : Bool) (rest row : Row) → whole (below c s q b rest) row ≡ root
+    pub chain-here : (c : Chain) (s : Position) (q : ℕ) (b : Bool) (rest row : Row) → whole (below c s q b rest) row ≡ root
         → Here img (lastPage c) (proxyAt c s q b rest row) (rec q b row rest)
     chain-here c s q b rest row e = proxy-in c s q b rest row (chain-page c (fill s (rec q b row rest)) e)
 
@@ -76,9 +77,9 @@ module _ (img : List ℕ) where
     chain-bytes (below c s q b rest) row e = chain-here c s q b rest row e .stored .0
 
     -- Where the new node goes, the row that follows it stands now.
-    pub taking-here : (path : List ℕ) (k : ℕ) (t : Taking) → taking root path k ≡ some t
-        → Here img (lastPage (t .chain)) (pageSize * lastPage (t .chain) + base (fill (t .spot) (t .rest)) + before (t .spot)) (t .rest)
-    taking-here path k t e =
-        let row = fill (t .spot) (t .rest) in
-        here-fill (lastPage (t .chain)) (pageSize * lastPage (t .chain) + base row) (t .spot) (t .rest)
-        (chain-page (t .chain) row (taking-whole root path k t e) .here)
+    pub spot-here : (path : List ℕ) (k : ℕ) (t : Spot) → spotOf root path k ≡ some t
+        → Here img (lastPage (t .chain)) (pageSize * lastPage (t .chain) + base (fill (t .position) (t .rest)) + before (t .position)) (t .rest)
+    spot-here path k t e =
+        let row = fill (t .position) (t .rest) in
+        here-fill (lastPage (t .chain)) (pageSize * lastPage (t .chain) + base row) (t .position) (t .rest)
+        (chain-page (t .chain) row (spot-whole root path k t e) .here)

@@ -1,10 +1,2 @@
-pub mod Chain
-pub mod Taking
-pub mod Exists
-pub mod Beside
-pub mod Fit
-pub mod Steady
+pub mod Nesting
 pub mod Bytes
-pub mod Levels
-pub mod Full
-pub mod Parts

@@ -4,23 +4,24 @@ use mathlib.Core.Bool.{Bool, true, false, cond}
 use mathlib.Core.List.{List}
 use Prim.Native.Nat.{ℕ, _+_, _*_, _≤_, _<_}
 use native.Mathlib.Omega.{arith}
-use borrow.Author.Tests.{eqb-true, leb-true, leb-false}
+use borrow.Author.Tests.{eqb-true}
 use lib.ListN.{length, getD}
-use lib.Dec.{leb, eqb}
+use lib.Dec.{eqb}
 use Rattle.model.specs.Limits.{pageSize}
 use Rattle.model.specs.Row.{Row, nil, agg, lit, rec, size, base, recordSize, count, Config}
 use Rattle.model.specs.Reading.{Reads}
 use Rattle.model.specs.Tree.{width}
-use Rattle.theory_decoding.specs.Reading.{reads-length}
+use Rattle.theory_decoding.specs.Reading.{reads-length, unique}
 use Rattle.theory_places.specs.Pages.{pages-count}
 use Rattle.theory_places.specs.Marks.{mark-times}
-use Rattle.theory_places.specs.Widths.{Told}
+use Rattle.theory_places.specs.Widths.{Told, Table, either}
 use Rattle.theory_row_bytes.specs.RowAt.{kindOf, sizeOf, restOf, size-first}
 use Rattle.theory_layout.specs.Here.{Here, OnPage, view, root-page, root-here}
 
--- It is right for each record that a proxy in another record names.
+-- It is right for each record that a proxy in another record names, and it is the table of the store that the image reads as.
 pub record Widths (img c : List ℕ) : Type 0 where
   pub told : (p holder : ℕ) (r : Row) → 1 ≤ holder → OnPage img p holder r → getD c p 0 ≡ width r
+  pub store : (st : Config) (root : Row) → Reads img st root → Table st root c
 
 -- ── what stands at one place shows as many nodes ──
 
@@ -104,14 +105,6 @@ page-width img p holder holder₁ a b = one-page img p holder holder₁ a b (λ 
 
 -- ── the table of a root record ──
 
--- What is counted in two parts is in one of them.
-either : {A : Type 0} (x y : ℕ) → 1 ≤ x + y → (1 ≤ x → A) → (1 ≤ y → A) → A
-either {A = A} x y h f g = go (leb 1 x) refl
-  where
-    go : (b : Bool) → leb 1 x ≡ b → A
-    go true e = f (leb-true 1 x e)
-    go false e = g (omega (arith, leb-false 1 x e))
-
 -- For each page named in a row that stands: the record there, with the table's entry.
 told-at : (img c : List ℕ) (page pos : ℕ) (row : Row) → Here img page pos row → Told c row → (q : ℕ) → 1 ≤ count q row
     → (holder : ℕ) × (r : Row) × OnPage img q holder r × (getD c q 0 ≡ width r)
@@ -137,10 +130,13 @@ told-at img c page pos (rec p s r rest) x t q k =
         (page, r, subst (λ (n : ℕ). OnPage img n page r) (sym z) u, ap (λ (n : ℕ). getD c n 0) z ∙ t .0)
     go u false e k inner after = either (count q r) (count q rest) (omega arith) inner after
 
--- A table that is right for the root record's row is right for the image.
-pub widths : (img c : List ℕ) (st : Config) (root : Row) → Reads img st root → Told c root → Widths img c
-widths img c st root x t = record { told = told }
+-- The table of the store that an image reads as is right for the image: there is one such store.
+pub widths : (img c : List ℕ) (st : Config) (root : Row) → Reads img st root → Table st root c → Widths img c
+widths img c st root x t = record { told = told; store = λ a b y. one a b (unique img (st, root) (a, b) x y) }
   where
+    one : (a : Config) (b : Row) → _≡_ {A = Config × Row} (st, root) (a, b) → Table a b c
+    one a b e = subst (λ (z : Config × Row). Table (z .0) (z .1) c) e t
+
     told : (p holder : ℕ) (r : Row) → 1 ≤ holder → OnPage img p holder r → getD c p 0 ≡ width r
     told p holder r h o =
         let g = o .here .on in
@@ -154,5 +150,5 @@ widths img c st root x t = record { told = told }
             let w = subst (λ (n : ℕ). OnPage img n holder r) z o in
             absurd (omega (arith, w .back, root-page img st root x .back))
         go false e n =
-            let f = told-at img c 1 pageSize root (root-here img st root x) t p (omega arith) in
+            let f = told-at img c 1 pageSize root (root-here img st root x) (t .told) p (omega arith) in
             f .3 ∙ page-width img p (f .0) holder (f .1) r (f .2) o

@@ -3,8 +3,7 @@
 use mathlib.Core.Path.{_≡_, refl, sym, ap, subst, _∙_}
 use mathlib.Core.Bool.{false}
 use mathlib.Core.List.{List, [], _++_, append-assoc}
-use mathlib.Core.Option.{some}
-use Prim.Native.Nat.{ℕ, _+_, _-_, _*_, _≤_, _<_}
+use Prim.Native.Nat.{ℕ, _-_, _*_, _≤_, _<_}
 use native.Mathlib.Omega.{arith}
 use borrow.Author.Tests.{ne-eqb, eq-eqb, leb-false, ltb-false, lt-leb}
 use lib.ListN.{length}
@@ -14,15 +13,15 @@ use Rattle.model.specs.Limits.{pageSize}
 use Rattle.model.specs.Row.{Row, nil, agg, lit, rec, store, count, outside, Held, records, settingsPage, pageAt, pagesFrom, image, Config}
 use Rattle.model.specs.Reading.{pageOf}
 use Rattle.model.specs.Tree.{New}
-use Rattle.model.specs.Growth.{Out, atRest, grow}
-use Rattle.theory_rows.specs.Fits.{Fits, Valid}
+use Rattle.model.specs.Growth.{Out, atRest, risen}
+use Rattle.theory_growth.specs.Gap.{Gap}
+use Rattle.theory_rows.specs.Fits.{Valid}
 use Rattle.theory_rows.specs.Image.{Stored, image-page, length-settings}
 use Rattle.theory_rows.specs.Pages.{bit, or-left, or-right}
-use Rattle.theory_rows.specs.Store.{NewFits, valid-grow}
+use Rattle.theory_growth.specs.Store.{NewFits, received-growing}
 use Rattle.theory_decoding.specs.Decode.{stored-image}
 use Rattle.theory_check.specs.Images.{image-is}
-use Rattle.theory_insert_point.specs.Chain.{lastPage}
-use Rattle.theory_insert_point.specs.Taking.{Taking, taking, taking-whole, grow-rises}
+use Rattle.model.specs.Spot.{lastPage, Spot}
 use Rattle.theory_page_memory.specs.Memory.{Mem, MemState, blank, riseMem}
 use Rattle.theory_page_memory.specs.Links.{not-bit}
 use Rattle.theory_page_memory.specs.Kept.{Done, placeM, insert-kept}
@@ -71,28 +70,27 @@ done-free st first root w m d q a b z =
     d .free q (not-bit _ (omega (arith, z, d .tally q, inside-free (st .pages) q (omega (arith, far)) b)))
 
 module _ (st : Config) (x : New) (fits : NewFits x) (root : Row) (v : Valid st root) (path : List ℕ) (k : ℕ) (short : length path ≤ 22)
-    (t : Taking) (e : taking root path k ≡ some t) where
-  -- The state once the new node is at its place,
+    (t : Spot) (g : Gap root path k t) where
+  -- The state once the new node is at its spot, any of the gap,
   abbrev pub begun : MemState
-  begun = placeM st x (t .parent) (lastPage (t .chain)) (t .spot) (t .rest) (atRest st root) (before st root v)
+  begun = placeM st x (t .parent) (lastPage (t .chain)) (t .position) (t .rest) (atRest st root) (before st root v)
 
   -- and the memory once growth is done.
   abbrev pub after : Mem
   after = riseMem st (t .chain) (begun .row) (begun .work) (begun .mem)
 
   abbrev new : Out
-  new = grow st root path k x
+  new = risen st x t (atRest st root)
+
+  pub insert-done : new .1 .full ≡ false → Done st (before st root v 0) (new .0) (new .1) after
+  insert-done full =
+      insert-kept st root v (before st root v) (stored-image st root v) (before-free st root v) (t .chain) (t .position) (t .rest) (g .held) x (t .parent)
+      (received-growing st x root path k t g fits v short) full
 
   -- Bytes with these pages are the image of the new store, if no page was taken where none was free.
   pub insert-image : (img : List ℕ) → length img ≡ pageSize * st .pages → pageOf img ≡ after → new .1 .full ≡ false → img ≡ image st (new .0)
   insert-image img long same full =
-      let g = grow-rises st x root path k t e in
-      let ok = valid-grow st x fits root path k v short full in
-      let d : Done st (before st root v 0) (new .0) (new .1) after =
-      subst (λ (o : Out). Fits (o .0) → o .1 .full ≡ false → Done st (before st root v 0) (o .0) (o .1) after) (sym g)
-      (insert-kept st root v (before st root v) (stored-image st root v) (before-free st root v) (t .chain) (t .spot) (t .rest) (taking-whole root path k t e)
-      x (t .parent))
-      (ok .rows .1) full in
+      let d = insert-done full in
       image-is img st (new .0) (omega (arith, v .ranges .few)) long (ap (λ (m : Mem). m 0) same ∙ d .settings ∙ before-settings st root v)
       (subst (λ (m : Mem). Stored m 0 (store (new .0))) (sym same) (d .stored))
       (λ q a b z. ap (λ (m : Mem). m q) same ∙ done-free st (before st root v 0) (new .0) new after d q a b z)

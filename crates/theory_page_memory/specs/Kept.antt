@@ -1,27 +1,28 @@
 -- After growth every record of the new store stands on its page, and the free pages are blank.
 use mathlib.Core.Path.{_≡_, refl, sym, ap, subst, _∙_}
-use mathlib.Core.Bool.{Bool, true, false, cond}
+use mathlib.Core.Bool.{Bool, true, false, cond, _||_}
 use mathlib.Core.List.{List}
-use Prim.Native.Nat.{ℕ, _+_, _<_}
+use Prim.Native.Nat.{ℕ, _+_, _≤_, _<_}
 use native.Mathlib.Omega.{arith}
+use borrow.Author.Tests.{leb-false}
 use lib.Dec.{eqb, leb}
 use Rattle.model.specs.Limits.{capacity}
 use Rattle.model.specs.Row.{Head, Row, nil, agg, lit, rec, store, _⊹_, recordSize, recordPage, count, Config}
 use Rattle.model.specs.Tree.{New}
-use Rattle.model.specs.Growth.{Work, Out, mark, freeFrom, taken, separator, counted, freed, kept, apart, place, atRest}
-use Rattle.theory_rows.specs.Bound.{fits-parts}
-use Rattle.theory_rows.specs.Fits.{Fits, Valid}
+use Rattle.model.specs.Growth.{Work, Out, onRow, mark, freeFrom, taken, separator, counted, freed, kept, apart, place, atRest, rise}
+use Rattle.theory_rows.specs.Fits.{Ranges, Fits, Valid}
 use Rattle.theory_rows.specs.Image.{Stored}
-use Rattle.theory_rows.specs.Pages.{bit, reserved, tally-freed, tally-rest}
-use Rattle.theory_insert_point.specs.Chain.{Spot, fill, Chain, top, below, lastPage, lastSettled, lastHolder, whole, rise}
-use Rattle.theory_page_memory.specs.Memory.{Mem, blank, setMem, putMem, keptMem, riseMem, placeMem, MemState, separatorM}
-use Rattle.theory_page_memory.specs.Links.{Loose, self, stored-loose, loose-agree, set-other, put-other, put-same, put-stored}
-use Rattle.theory_page_memory.specs.Steps.{Now, StepKeeps, bit-le, bit-false, step-own, step-separator}
-use Rattle.theory_insert_point.specs.Fit.{fits-fill}
+use Rattle.theory_rows.specs.Lean.{Splittable}
+use Rattle.theory_rows.specs.Pages.{bit, or-right, reserved, tally-freed, tally-rest}
+use Rattle.model.specs.Spot.{Position, fill, Chain, top, below, lastPage}
+use Rattle.theory_growth.specs.Chain.{lastSettled, lastHolder, whole, fits-fill, count-chain}
+use Rattle.theory_growth.specs.Keeps.{Growing, growing-splits, split-able, growing-goes}
+use Rattle.theory_page_memory.specs.Memory.{Mem, blank, setMem, putMem, separatorMem, keptMem, riseMem, placeMem, MemState, separatorM}
+use Rattle.theory_page_memory.specs.Links.{self, stored-loose, loose-agree, set-other, put-other, put-same, put-stored}
+use Rattle.theory_page_memory.specs.Steps.{Now, StepLeaves, StepKeeps, bit-le, bit-false, now-in, stay, step-own, step-separator}
 use Rattle.theory_insert_point.specs.Bytes.{lastHeld}
-use Rattle.theory_page_memory.specs.Back.{fits-whole, fits-rise}
-use Rattle.theory_page_memory.specs.Around.{count-fill, loose-fill, Around, assemble, disassemble, own, beyond, around-agree, beyond-first, count-whole}
-use Rattle.theory_page_memory.specs.Around.{Low, rise-stays, rise-goes, chain-low}
+use Rattle.theory_page_memory.specs.Around.{Around, assemble, disassemble, elsewhere, beyond, beyond-own, own-first, around-agree, rise-stays}
+use Rattle.theory_page_memory.specs.Around.{mem-stays, rise-goes, mem-goes}
 
 -- A page that is left is blank.
 cleared : (p q : ℕ) (used : ℕ → Bool) (m : Mem) → ((p : ℕ) → used p ≡ false → m p ≡ blank) → mark false q used p ≡ false → setMem q blank m p ≡ blank
@@ -32,13 +33,10 @@ cleared p q used m free = go (eqb p q)
     go false z = free p z
 
 module _ (st : Config) (first : List ℕ) where
-  abbrev elsewhere : Chain → ℕ → ℕ
-  elsewhere c q = beyond st c q + own c q
-
   -- The last record of the chain, which held `old`, has a new row that is not written yet: its records stand on their pages, with whatever holders.
   pub record Ready (c : Chain) (old : Row) (r : Row) (w : Work) (m : Mem) : Type 0 where
     pub around : Around m c old
-    pub now : Now (elsewhere c) r w m
+    pub now : Now (elsewhere st c) r w m
     pub settings : m 0 ≡ first
 
   -- Every record of the store stands on its page; a page is used if it is named or outside, and blank if not; page 0 is as it was.
@@ -53,27 +51,29 @@ module _ (st : Config) (first : List ℕ) where
       → Done (whole c r) w (putMem (lastPage c) (lastSettled c) (lastHolder c) r m)
   finish c old r w m f k =
       let q = lastPage c in
-      let t = k .now .tally in
+      let t : (p : ℕ) → (beyond st c p + bit (eqb p q) + count p r ≤ bit (w .used p)) × (bit (w .used p) ≤ 1) =
+      λ p. (omega (arith, k .now .tally p, beyond-own st c p), bit-le (w .used p)) in
       let m′ = putMem q (lastSettled c) (lastHolder c) r m in
       let other : (p : ℕ) → bit (eqb p q) + count p r ≡ 0 → m′ p ≡ m p = put-other q (lastSettled c) (lastHolder c) r m in
       record {
         stored =
-            assemble m′ c old r (around-agree st m m′ c old (λ p z. other p (omega (arith, t p, bit-le (w .used p)))) (k .around))
-            (put-same q (lastSettled c) (lastHolder c) r m (omega (arith, t q, bit-le (w .used q), self q)))
-            (put-stored q (lastSettled c) (lastHolder c) r m (λ p. omega (arith, t p, bit-le (w .used p))) f (k .now .loose));
-        tally = λ p. omega (arith, t p, count-whole st p c r);
+            assemble m′ c old r (around-agree st m m′ c old (λ p z. other p (omega (arith, t p))) (k .around))
+            (put-same q (lastSettled c) (lastHolder c) r m (omega (arith, t q, self q)))
+            (put-stored q (lastSettled c) (lastHolder c) r m (λ p. omega (arith, t p)) f (k .now .loose));
+        tally = λ p. omega (arith, k .now .tally p, count-chain p c r);
         free = λ p z. other p (omega (arith, t p, bit-false (w .used p) z)) ∙ k .now .free p z;
-        settings = other 0 (omega (arith, t 0, bit-le (w .used 0), beyond-first st c)) ∙ k .settings;
+        settings = other 0 (omega (arith, k .now .tally 0, t 0, own-first st c)) ∙ k .settings;
       }
 
-  abbrev DoneBy : (c : Chain) → Out → Mem → Type 0
-  DoneBy c o m = Fits (o .0) → o .1 .full ≡ false → Done (whole c (o .0)) (o .1) m
+  done-by : {o u : Out} {m n : Mem} → o ≡ u → m ≡ n → Done (o .0) (o .1) m → Done (u .0) (u .1) n
+  done-by e f d = subst (λ (z : Out × Mem). Done (z .0 .0) (z .0 .1) (z .1)) (λ i. (e i, f i)) d
 
   -- a record that stays on its page
-  kept-done : (c : Chain) (old r : Row) (w : Work) (m : Mem) → (w .full ≡ false → Ready c old r w m)
-      → DoneBy c (kept st (lastPage c) (r, w)) (keptMem st (lastPage c) (lastSettled c) (lastHolder c) r w m)
+  kept-done : (c : Chain) (old r : Row) (w : Work) (m : Mem) → Ranges st → Splittable st r → (w .full ≡ false → Ready c old r w m)
+      → let o = kept st (lastPage c) (r, w) in
+      o .1 .full ≡ false → Done (whole c (o .0)) (o .1) (keptMem st (lastPage c) (lastSettled c) (lastHolder c) r w m)
   unfolding kept keptMem
-  kept-done c old r w m ready = go (leb (recordSize r) capacity)
+  kept-done c old r w m range able ready = go (leb (recordSize r) capacity) refl
     where
       q : ℕ
       q = lastPage c
@@ -84,21 +84,31 @@ module _ (st : Config) (first : List ℕ) where
       sep : MemState
       sep = separatorM st q r v m
 
-      go : (b : Bool) → DoneBy c (cond b (r, w) (separator st q r v))
+      go : (b : Bool) → leb (recordSize r) capacity ≡ b → let o = cond {A = Out} b (r, w) (separator st q r v) in
+          o .1 .full ≡ false → Done (whole c (o .0)) (o .1)
           (cond b (putMem q (lastSettled c) (lastHolder c) r m) (putMem q (lastSettled c) (lastHolder c) (sep .row) (sep .mem)))
-      go true f full = finish c old r w m f (ready full)
-      go false f full =
-          let k = step-separator st q (elsewhere c) r v m f
+      go true z full = finish c old r w m (able .fits) (ready full)
+      go false z full =
+          let f = split-able st range q r v able (leb-false (recordSize r) capacity z) .fits in
+          let k = step-separator st q (elsewhere st c) r v m f
           (λ z. record { tally = ready z .now .tally; free = ready z .now .free; loose = ready z .now .loose }) full in
           let a = ready (k .was) in
           finish c old (sep .row) (sep .work) (sep .mem) f (record {
-            around = around-agree st m (sep .mem) c old (λ p z. k .frame p (omega arith)) (a .around);
+            around = around-agree st m (sep .mem) c old (λ p z. k .frame p (omega (arith, beyond-own st c p))) (a .around);
             now = k .now;
-            settings = k .frame 0 (omega (arith, beyond-first st c)) ∙ a .settings;
+            settings = k .frame 0 (omega arith) ∙ a .settings;
           })
 
+  stays-done : (c : Chain) (old r : Row) (w : Work) (m : Mem) → Ranges st → Growing c old (r, w) → (w .full ≡ false → Ready c old r w m)
+      → lastSettled c || leb (recordSize r) capacity ≡ true → rise st c (r, w) .1 .full ≡ false
+      → Done (rise st c (r, w) .0) (rise st c (r, w) .1) (riseMem st c r w m)
+  stays-done c old r w m range g ready e full =
+      let y = rise-stays st c old (r, w) (g .fits) e in
+      done-by (sym y) (sym (mem-stays st c r w m e))
+      (kept-done c old r w m range (growing-splits st range c old (r, w) g .1) ready (subst (λ (o : Out). o .1 .full ≡ false) y full))
+
   -- An unsettled record leaves its page, and the record above is ready; its page is as it was.
-  pub goes-up : (c : Chain) (s : Spot) (q : ℕ) (b : Bool) (rest old r : Row) (w : Work) (m : Mem) → (w .full ≡ false → Ready (below c s q b rest) old r w m)
+  pub goes-up : (c : Chain) (s : Position) (q : ℕ) (b : Bool) (rest old r : Row) (w : Work) (m : Mem) → (w .full ≡ false → Ready (below c s q b rest) old r w m)
       → let sep = separatorM st q r (freed st q (counted st r w)) (setMem q blank m) in
       Fits (sep .row) → sep .work .full ≡ false
       → Ready c (fill s (rec q b old rest)) (fill s (sep .row ⊹ rest)) (sep .work) (sep .mem) ×
@@ -124,59 +134,42 @@ module _ (st : Config) (first : List ℕ) where
       let around = around-agree st m (sep .mem) c′ old same (a .around) in (
         record {
           around = around .2;
-          now = record {
-            tally = λ p. omega (arith, k .now .tally p, count-fill p s (sep .row) rest);
-            free = k .now .free;
-            loose = loose-fill (sep .mem) s (sep .row) rest (stored-loose (sep .mem) (lastPage c) (fill s rest) (around .0)) (k .now .loose);
-          };
-          settings = same 0 (beyond-first st c′) ∙ a .settings;
+          now = now-in (elsewhere st c) s (sep .row) rest (sep .work) (sep .mem) (k .now) (stored-loose (sep .mem) (lastPage c) (fill s rest) (around .0));
+          settings = same 0 (omega arith) ∙ a .settings;
         },
         around .1,
       )
 
   -- Growth from the last record of a chain upwards.
-  pub rise-done : (c : Chain) (old r : Row) (w : Work) (m : Mem) → Low c old → (w .full ≡ false → Ready c old r w m)
-      → Fits (rise st c (r, w) .0) → rise st c (r, w) .1 .full ≡ false → Done (rise st c (r, w) .0) (rise st c (r, w) .1) (riseMem st c r w m)
-  unfolding rise riseMem
-  rise-done top old r w m low ready f full = kept-done top old r w m ready f full
-  rise-done (below c s q true rest) old r w m low ready f full =
-      let e = rise-stays st c s q true rest old (r, w) refl low in
-      let c′ = below c s q true rest in
-      let u = kept st q (r, w) in
-      subst (λ (o : Out). Done (o .0) (o .1) (keptMem st q true (lastPage c) r w m)) (sym e)
-      (kept-done c′ old r w m ready (fits-whole c′ (u .0) (subst (λ (o : Out). Fits (o .0)) e f)) (subst (λ (o : Out). o .1 .full ≡ false) e full))
-  rise-done (below c s q false rest) old r w m low ready f full = go (leb (recordSize r) capacity) refl (rise-done c)
+  pub rise-done : (c : Chain) (old r : Row) (w : Work) (m : Mem) → Ranges st → Growing c old (r, w) → (w .full ≡ false → Ready c old r w m)
+      → rise st c (r, w) .1 .full ≡ false → Done (rise st c (r, w) .0) (rise st c (r, w) .1) (riseMem st c r w m)
+  rise-done top old r w m range g ready full = stays-done top old r w m range g ready refl full
+  rise-done (below c s q b rest) old r w m range g ready full = go (b || leb (recordSize r) capacity) refl (rise-done c)
     where
-      c′ : Chain
-      c′ = below c s q false rest
+      up : Out
+      up = onRow (λ x. fill s (x ⊹ rest)) (separator st q r (freed st q (counted st r w)))
 
-      sep : MemState
-      sep = separatorM st q r (freed st q (counted st r w)) (setMem q blank m)
+      mem : Mem
+      mem = separatorMem st q r (freed st q (counted st r w)) (setMem q blank m)
 
-      up : Row
-      up = fill s (sep .row ⊹ rest)
-
-      go : (b : Bool) → leb (recordSize r) capacity ≡ b
-          → ((old r : Row) (w : Work) (m : Mem) → Low c old → (w .full ≡ false → Ready c old r w m)
-          → Fits (rise st c (r, w) .0) → rise st c (r, w) .1 .full ≡ false → Done (rise st c (r, w) .0) (rise st c (r, w) .1) (riseMem st c r w m))
-          → Done (rise st c′ (r, w) .0) (rise st c′ (r, w) .1) (cond b (keptMem st q false (lastPage c) r w m) (riseMem st c up (sep .work) (sep .mem)))
-      go true z ih =
-          let e = rise-stays st c s q false rest old (r, w) z low in
-          let u = kept st q (r, w) in
-          subst (λ (o : Out). Done (o .0) (o .1) (keptMem st q false (lastPage c) r w m)) (sym e)
-          (kept-done c′ old r w m ready (fits-whole c′ (u .0) (subst (λ (o : Out). Fits (o .0)) e f)) (subst (λ (o : Out). o .1 .full ≡ false) e full))
-      go false z ih =
-          let e = rise-goes st c s q rest (r, w) z in
-          let f′ : Fits (rise st c (up, sep .work) .0) = subst (λ (o : Out). Fits (o .0)) e f in
-          let g = fits-parts (sep .row) rest (fits-fill s (sep .row ⊹ rest) (fits-rise st c (up, sep .work) f′)) .0 in
-          subst (λ (o : Out). Done (o .0) (o .1) (riseMem st c up (sep .work) (sep .mem))) (sym e)
-          (ih (fill s (rec q false old rest)) up (sep .work) (sep .mem) (low .1) (λ z. goes-up c s q false rest old r w m ready g z .0) f′
-          (subst (λ (o : Out). o .1 .full ≡ false) e full))
+      go : (x : Bool) → b || leb (recordSize r) capacity ≡ x
+          → ((old r : Row) (w : Work) (m : Mem) → Ranges st → Growing c old (r, w) → (w .full ≡ false → Ready c old r w m)
+          → rise st c (r, w) .1 .full ≡ false → Done (rise st c (r, w) .0) (rise st c (r, w) .1) (riseMem st c r w m))
+          → let o = rise st (below c s q b rest) (r, w) in
+          Done (o .0) (o .1) (riseMem st (below c s q b rest) r w m)
+      go true e ih = stays-done (below c s q b rest) old r w m range g ready e full
+      go false e ih =
+          let k = growing-splits st range (below c s q b rest) old (r, w) g .1 in
+          let y = rise-goes st c s q b rest r w e in
+          let f = split-able st range q r (freed st q (counted st r w)) k (leb-false (recordSize r) capacity (or-right b _ e)) .fits in
+          done-by (sym y) (sym (mem-goes st c s q b rest r w e m))
+          (ih (fill s (rec q b old rest)) (up .0) (up .1) mem range (growing-goes st range c s q b rest old (r, w) e g)
+          (λ z. goes-up c s q b rest old r w m ready f z .0) (subst (λ (o : Out). o .1 .full ≡ false) y full))
 
 -- ── the new node ──
 
-module _ (st : Config) (x : New) (parent : Head) (page : ℕ) (s : Spot) (rest : Row) where
-  -- The new node at a spot, itself or in a record of its own.
+module _ (st : Config) (x : New) (parent : Head) (page : ℕ) (s : Position) (rest : Row) where
+  -- The new node at a position, itself or in a record of its own.
   abbrev pub placeM : Work → Mem → MemState
   placeM w m = let o = place st x parent page rest w in record { row = fill s (o .0); work = o .1; mem = placeMem st x parent page w m }
 
@@ -189,45 +182,30 @@ module _ (st : Config) (x : New) (parent : Head) (page : ℕ) (s : Spot) (rest :
       new : Bool → Row → Row
       new k rest = cond k (agg (x .head) nil rest) (lit (x .head) (x .content) rest)
 
-      none : (k : Bool) (p : ℕ) → count p (new k nil) ≡ 0
-      none true p = refl
-      none false p = refl
-
-      bare : (k : Bool) → Loose m (new k nil)
-      bare true = (tt, tt)
-      bare false = tt
-
       out : Bool → Bool → Out
       out a k = cond {A = Out} a (rec q true (new k nil) rest, taken st q w) (new k rest, w)
 
-      here : (n : Row) → ((p : ℕ) → count p n ≡ 0) → Loose m n → StepKeeps e (fill s rest) w m (record { row = fill s (n ⊹ rest); work = w; mem = m })
-      here n z l now full =
-          let k = now full in
-          record {
-            was = full;
-            now = record { tally = λ p. omega (arith, k .tally p, z p, count-fill p s n rest); free = k .free; loose = loose-fill m s n rest (k .loose) l };
-            frame = λ p z. refl;
-          }
+      -- The new node holds no record.
+      bare : (k : Bool) → (w .full ≡ false → Now e (fill s rest) w m) → w .full ≡ false → Now (λ p. e p + count p (fill s rest)) (new k nil) w m
+      bare true now z = let n = now z in record { tally = λ p. omega (arith, n .tally p); free = n .free; loose = (tt, tt) }
+      bare false now z = let n = now z in record { tally = λ p. omega (arith, n .tally p); free = n .free; loose = tt }
+
+      put : (y : MemState) → (w .full ≡ false → Now e (fill s rest) w m) → StepLeaves (λ p. e p + count p (fill s rest)) w m y
+          → StepLeaves e w m (record { row = fill s (y .row ⊹ rest); work = y .work; mem = y .mem })
+      put y now l = record {
+        was = l .was;
+        now = now-in e s (y .row) rest (y .work) (y .mem) (l .now)
+            (loose-agree m (y .mem) (fill s rest) (λ p z. l .frame p (omega arith)) (now (l .was) .loose));
+        frame = λ p z. l .frame p (omega arith);
+      }
 
       go : (a k : Bool) → Fits (fill s (out a k .0))
           → StepKeeps e (fill s rest) w m (record { row = fill s (out a k .0); work = out a k .1; mem = cond a (putMem q true page (new k nil) m) m })
       go true k f now full =
-          let r = fill s rest in
-          let m′ = putMem q true page (new k nil) m in
-          let l = step-own st page (λ p. e p + count p r) true page (new k nil) w m (fits-fill s (rec q true (new k nil) rest) f .1)
-          (λ z. record { tally = λ p. omega (arith, now z .tally p, none k p); free = now z .free; loose = bare k }) full in
-          record {
-            was = l .was;
-            now = record {
-              tally = λ p. omega (arith, l .now .tally p, count-fill p s (rec q true (new k nil) nil) rest);
-              free = l .now .free;
-              loose = loose-fill m′ s (rec q true (new k nil) nil) rest (loose-agree m m′ r (λ p z. l .frame p (omega arith)) (now (l .was) .loose))
-                  (l .now .loose);
-            };
-            frame = λ p z. l .frame p (omega arith);
-          }
-      go false true f now full = here (new true nil) (none true) (bare true) now full
-      go false false f now full = here (new false nil) (none false) (bare false) now full
+          put (record { row = rec q true (new k nil) nil; work = taken st q w; mem = putMem q true page (new k nil) m }) now
+          (step-own st page _ true page (new k nil) w m (fits-fill s (rec q true (new k nil) rest) f .1) (bare k now) full)
+      go false true f now full = put (record { row = new true nil; work = w; mem = m }) now (stay _ (new true nil) w m (bare true now) full)
+      go false false f now full = put (record { row = new false nil; work = w; mem = m }) now (stay _ (new false nil) w m (bare false now) full)
 
 -- ── an insert ──
 
@@ -239,36 +217,35 @@ module _ (st : Config) (root : Row) (v : Valid st root) (m : Mem) (stored : Stor
       record {
         around = z .0;
         now = record {
-          tally = λ q. sym (count-whole st q c old) ∙ ap (λ (r : Row). reserved st q + count q r) e ∙ tally-rest st root (v .placed) refl q;
+          tally = λ q. omega (arith, count-chain q c old, ap (count q) e, tally-rest st root (v .placed) refl q);
           free = free;
           loose = stored-loose m (lastPage c) old (z .2);
         };
         settings = refl;
       }
 
-  -- The new node at a spot of the last record of a chain: the record is ready, and its page is as it was.
-  pub ready-place : (c : Chain) (s : Spot) (rest : Row) → whole c (fill s rest) ≡ root → (x : New) (parent : Head)
+  -- The new node at a position of the last record of a chain: the record is ready, and its page is as it was.
+  pub ready-place : (c : Chain) (s : Position) (rest : Row) → whole c (fill s rest) ≡ root → (x : New) (parent : Head)
       → let o = placeM st x parent (lastPage c) s rest (atRest st root) m in
       Fits (o .row) → o .work .full ≡ false → Ready st (m 0) c (fill s rest) (o .row) (o .work) (o .mem) × (o .mem (lastPage c) ≡ m (lastPage c))
   ready-place c s rest e x parent f full =
       let w = atRest st root in
       let o = placeM st x parent (lastPage c) s rest w m in
       let r = at-rest c (fill s rest) e in
-      let k = step-place st x parent (lastPage c) s rest (λ q. beyond st c q + own c q) w m f (λ _. r .now) full in (
+      let k = step-place st x parent (lastPage c) s rest (elsewhere st c) w m f (λ _. r .now) full in (
         record {
-          around = around-agree st m (o .mem) c (fill s rest) (λ q y. k .frame q (omega arith)) (r .around);
+          around = around-agree st m (o .mem) c (fill s rest) (λ q y. k .frame q (omega (arith, beyond-own st c q))) (r .around);
           now = k .now;
-          settings = k .frame 0 (omega (arith, beyond-first st c)) ∙ r .settings;
+          settings = k .frame 0 (omega arith) ∙ r .settings;
         },
-        k .frame (lastPage c) (omega (arith, self (lastPage c))),
+        k .frame (lastPage c) (omega (arith, self (lastPage c), beyond-own st c (lastPage c))),
       )
 
-  -- The new node at a spot of the last record of a chain, and growth from there upwards.
-  pub insert-kept : (c : Chain) (s : Spot) (rest : Row) → whole c (fill s rest) ≡ root → (x : New) (parent : Head)
+  -- The new node at a position of the last record of a chain, and growth from there upwards.
+  pub insert-kept : (c : Chain) (s : Position) (rest : Row) → whole c (fill s rest) ≡ root → (x : New) (parent : Head)
       → let o = placeM st x parent (lastPage c) s rest (atRest st root) m in
       let u = rise st c (o .row, o .work) in
-      Fits (u .0) → u .1 .full ≡ false → Done st (m 0) (u .0) (u .1) (riseMem st c (o .row) (o .work) (o .mem))
-  insert-kept c s rest e x parent f full =
+      Growing c (fill s rest) (o .row, o .work) → u .1 .full ≡ false → Done st (m 0) (u .0) (u .1) (riseMem st c (o .row) (o .work) (o .mem))
+  insert-kept c s rest e x parent g full =
       let o = placeM st x parent (lastPage c) s rest (atRest st root) m in
-      rise-done st (m 0) c (fill s rest) (o .row) (o .work) (o .mem) (chain-low c (fill s rest) (subst (λ (r : Row). Fits (store r)) (sym e) (v .rows)))
-      (λ z. ready-place c s rest e x parent (fits-rise st c (o .row, o .work) f) z .0) f full
+      rise-done st (m 0) c (fill s rest) (o .row) (o .work) (o .mem) (v .ranges) g (λ z. ready-place c s rest e x parent (g .grew .fits) z .0) full

@@ -1,7 +1,6 @@
 pub mod Memory
 pub mod Links
 pub mod Steps
-pub mod Back
 pub mod Around
 pub mod Kept
 pub mod Images

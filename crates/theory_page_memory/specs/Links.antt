@@ -14,46 +14,59 @@ use Rattle.theory_rows.specs.Fits.{Fits}
 use Rattle.theory_rows.specs.Image.{Stored, length-record}
 use Rattle.theory_rows.specs.Pages.{bit}
 use Rattle.theory_decoding.specs.Decode.{stored-same}
+use Rattle.theory_rows.specs.Works.{Parted}
 use Rattle.theory_page_memory.specs.Memory.{Mem, setMem, relink, linkMem, putMem}
 
--- Each record whose proxy stands in the row itself stands on its page, with whatever holder, and so does what it holds.
+-- ── what holds of each proxy that stands in the row itself ──
+
+abbrev pub All : (P : ℕ → Bool → Row → Type 0) → Row → Type 0
+All P nil = Unit {0}
+All P (agg h cs rest) = All P cs × All P rest
+All P (lit h c rest) = All P rest
+All P (rec p s r rest) = P p s r × All P rest
+
+module _ (P : ℕ → Bool → Row → Type 0) where
+  all-⊹ : (a b : Row) → All P a → All P b → All P (a ⊹ b)
+  all-⊹ nil b k l = l
+  all-⊹ (agg h cs rest) b k l = (k .0, all-⊹ rest b (k .1) l)
+  all-⊹ (lit h c rest) b k l = all-⊹ rest b k l
+  all-⊹ (rec p s r rest) b k l = (k .0, all-⊹ rest b (k .1) l)
+
+  all-parts : (a b : Row) → All P (a ⊹ b) → All P a × All P b
+  all-parts nil b k = (tt, k)
+  all-parts (agg h cs rest) b k = let z = all-parts rest b (k .1) in ((k .0, z .0), z .1)
+  all-parts (lit h c rest) b k = all-parts rest b k
+  all-parts (rec p s r rest) b k = let z = all-parts rest b (k .1) in ((k .0, z .0), z .1)
+
+  pub all-parted : Parted (All P)
+  all-parted = record { join = all-⊹; parts = all-parts; children = λ h cs rest k. k .0; anew = λ h cs cs′ rest k l. (l, k .1) }
+
+-- Its record stands on its page, with whatever holder, and so does what it holds.
 abbrev pub Loose : Mem → Row → Type 0
-Loose m nil = Unit {0}
-Loose m (agg l cs rest) = Loose m cs × Loose m rest
-Loose m (lit l c rest) = Loose m rest
-Loose m (rec p s r rest) = ((h : ℕ) × (m p ≡ recordPage (recordOn p s h r))) × Stored m p r × Loose m rest
+Loose m = All (λ p s r. ((h : ℕ) × (m p ≡ recordPage (recordOn p s h r))) × Stored m p r)
 
 pub stored-loose : (m : Mem) (h : ℕ) (r : Row) → Stored m h r → Loose m r
 stored-loose m h nil k = tt
 stored-loose m h (agg l cs rest) k = (stored-loose m h cs (k .0), stored-loose m h rest (k .1))
 stored-loose m h (lit l c rest) k = stored-loose m h rest k
-stored-loose m h (rec p s r rest) k = ((h, k .0), k .1, stored-loose m h rest (k .2))
+stored-loose m h (rec p s r rest) k = (((h, k .0), k .1), stored-loose m h rest (k .2))
 
 -- ── two rows ──
 
-pub loose-⊹ : (m : Mem) (a b : Row) → Loose m a → Loose m b → Loose m (a ⊹ b)
-loose-⊹ m nil b k l = l
-loose-⊹ m (agg h cs rest) b k l = (k .0, loose-⊹ m rest b (k .1) l)
-loose-⊹ m (lit h c rest) b k l = loose-⊹ m rest b k l
-loose-⊹ m (rec p s r rest) b k l = (k .0, k .1, loose-⊹ m rest b (k .2) l)
-
-pub loose-parts : (m : Mem) (a b : Row) → Loose m (a ⊹ b) → Loose m a × Loose m b
-loose-parts m nil b k = (tt, k)
-loose-parts m (agg h cs rest) b k = let z = loose-parts m rest b (k .1) in ((k .0, z .0), z .1)
-loose-parts m (lit h c rest) b k = loose-parts m rest b k
-loose-parts m (rec p s r rest) b k = let z = loose-parts m rest b (k .2) in ((k .0, k .1, z .0), z .1)
-
-pub stored-⊹ : (m : Mem) (h : ℕ) (a b : Row) → Stored m h a → Stored m h b → Stored m h (a ⊹ b)
+stored-⊹ : (m : Mem) (h : ℕ) (a b : Row) → Stored m h a → Stored m h b → Stored m h (a ⊹ b)
 stored-⊹ m h nil b k l = l
 stored-⊹ m h (agg x cs rest) b k l = (k .0, stored-⊹ m h rest b (k .1) l)
 stored-⊹ m h (lit x c rest) b k l = stored-⊹ m h rest b k l
 stored-⊹ m h (rec p s r rest) b k l = (k .0, k .1, stored-⊹ m h rest b (k .2) l)
 
-pub stored-parts : (m : Mem) (h : ℕ) (a b : Row) → Stored m h (a ⊹ b) → Stored m h a × Stored m h b
+stored-parts : (m : Mem) (h : ℕ) (a b : Row) → Stored m h (a ⊹ b) → Stored m h a × Stored m h b
 stored-parts m h nil b k = (tt, k)
 stored-parts m h (agg x cs rest) b k = let z = stored-parts m h rest b (k .1) in ((k .0, z .0), z .1)
 stored-parts m h (lit x c rest) b k = stored-parts m h rest b k
 stored-parts m h (rec p s r rest) b k = let z = stored-parts m h rest b (k .2) in ((k .0, k .1, z .0), z .1)
+
+pub stored-parted : (m : Mem) (h : ℕ) → Parted (Stored m h)
+stored-parted m h = record { join = stored-⊹ m h; parts = stored-parts m h; children = λ x cs rest k. k .0; anew = λ x cs cs′ rest k l. (l, k .1) }
 
 -- ── memories that agree on the pages that a row names ──
 
@@ -66,9 +79,8 @@ loose-agree m m′ (agg x cs rest) g k =
     (loose-agree m m′ cs (λ p z. g p (omega arith)) (k .0), loose-agree m m′ rest (λ p z. g p (omega arith)) (k .1))
 loose-agree m m′ (lit x c rest) g k = loose-agree m m′ rest g k
 loose-agree m m′ (rec p s r rest) g k = (
-  (k .0 .0, g p (omega (arith, self p)) ∙ k .0 .1),
-  stored-same m m′ p r (λ p z. g p (omega arith)) (k .1),
-  loose-agree m m′ rest (λ p z. g p (omega arith)) (k .2),
+  ((k .0 .0 .0, g p (omega (arith, self p)) ∙ k .0 .0 .1), stored-same m m′ p r (λ p z. g p (omega arith)) (k .0 .1)),
+  loose-agree m m′ rest (λ p z. g p (omega arith)) (k .1),
 )
 
 -- ── one page ──
@@ -124,9 +136,9 @@ link-stored q (rec p s r rest) m d f k =
     let v = relink q (m p) in
     let m₁ : Mem = setMem p v m in
     let once = d p in (
-      link-other q rest m₁ p (omega (arith, self p)) ∙ set-same p v m ∙ ap (relink q) (k .0 .1) ∙ relink-page p s (k .0 .0) q r (f .0 .fits),
-      stored-same m (linkMem q rest m₁) p r (λ x z. link-other q rest m₁ x (omega (arith, d x)) ∙ set-other p x v m (omega (arith, d x))) (k .1),
-      link-stored q rest m₁ (λ x. omega (arith, d x)) (f .2) (loose-agree m m₁ rest (λ x z. set-other p x v m (omega (arith, d x))) (k .2)),
+      link-other q rest m₁ p (omega (arith, self p)) ∙ set-same p v m ∙ ap (relink q) (k .0 .0 .1) ∙ relink-page p s (k .0 .0 .0) q r (f .0 .fits),
+      stored-same m (linkMem q rest m₁) p r (λ x z. link-other q rest m₁ x (omega (arith, d x)) ∙ set-other p x v m (omega (arith, d x))) (k .0 .1),
+      link-stored q rest m₁ (λ x. omega (arith, d x)) (f .2) (loose-agree m m₁ rest (λ x z. set-other p x v m (omega (arith, d x))) (k .1)),
     )
 
 -- ── a record ──

@@ -1,14 +1,15 @@
 -- What the page writes of an insert make of a memory, which has the bytes of each page.
 use mathlib.Core.Bool.{Bool, true, false, cond, _||_}
 use mathlib.Core.List.{List, _++_}
-use Prim.Native.Nat.{ℕ, _+_}
-use lib.ListN.{length, take, drop, replicate}
+use Prim.Native.Nat.{ℕ}
+use lib.ListN.{take, drop, replicate}
 use lib.Dec.{leb, eqb}
 use Rattle.model.specs.Limits.{pageSize, capacity}
 use Rattle.model.specs.Tree.{New}
-use Rattle.model.specs.Row.{Head, Row, nil, agg, lit, rec, _⊹_, size, isNil, lone, loneRec, recordSize, two, recordPage, Config, recordOn}
-use Rattle.model.specs.Growth.{Work, freeFrom, group, twoGroups, separate, goOn, stops, splitPoint, rootRow, separator, counted, freed, apart, asRow}
-use Rattle.theory_insert_point.specs.Chain.{fill, Chain, top, below, lastPage}
+use Rattle.model.specs.Row.{Head, Row, nil, agg, lit, rec, _⊹_, isNil, loneRec, recordSize, two, recordPage, Config, recordOn}
+use Rattle.model.specs.Growth.{Work, freeFrom, separator, counted, freed, apart, asRow}
+use Rattle.model.specs.Spot.{fill, Chain, top, below, lastPage}
+use Rattle.theory_rows.specs.Plan.{Plan, keep, grouped, under, both, follow, separatorPlan}
 
 abbrev pub Mem : Type 0
 Mem = ℕ → List ℕ
@@ -47,30 +48,14 @@ module _ (st : Config) where
       let own = putMem (freeFrom st (st .pages) (w .used) near) false 0 g m in
       cond (isNil g || loneRec g) m own
 
-  module _ (near p : ℕ) where
-    unfoldable pub twoMem : (left right : Row) → Work → Mem → Mem
-    twoMem left right w m = groupMem near right (group st near left w .1) (groupMem near left w m)
+  unfoldable pub followMem : (near : ℕ) → Plan → Work → Mem → Mem
+  followMem near (keep r) w m = m
+  followMem near (grouped r) w m = groupMem near r w m
+  followMem near (under h p) w m = followMem near p w m
+  followMem near (both p q) w m = followMem near q (follow st near p w .1) (followMem near p w m)
 
-    unfoldable pub separateMem : (at : ℕ) → (left row : Row) → Work → Mem → Mem
-    separateMem at left nil w m = groupMem near left w m
-    separateMem at left (agg h cs rest) w m =
-        let on = separateMem (at + (6 + size cs)) (left ⊹ agg h cs nil) rest w m in
-        let a = group st near left w in
-        let b = separate st near p (at + 6) nil cs (a .1) in
-        let down = groupMem near rest (b .1) (separateMem (at + 6) nil cs (a .1) (groupMem near left w m)) in
-        let here = twoMem left (agg h cs rest) w m in
-        cond (goOn st p at (6 + size cs) rest) on (cond (stops st cs) here down)
-    separateMem at left (lit h c rest) w m =
-        let on = separateMem (at + (6 + length c)) (left ⊹ lit h c nil) rest w m in
-        let here = twoMem left (lit h c rest) w m in
-        cond (goOn st p at (6 + length c) rest) on here
-    separateMem at left (rec q s r rest) w m =
-        let on = separateMem (at + 8) (left ⊹ rec q s r nil) rest w m in
-        let here = twoMem left (rec q s r rest) w m in
-        cond (goOn st p at 8 rest) on here
-
-  unfoldable pub separatorMem : (near : ℕ) → Row → Work → Mem → Mem
-  separatorMem near r w m = separateMem near (splitPoint st (recordSize r)) 6 nil (rootRow st (lone r) r) w m
+  abbrev pub separatorMem : (near : ℕ) → Row → Work → Mem → Mem
+  separatorMem near r w m = followMem near (separatorPlan st r) w m
 
   -- ── from the last record of a chain upwards ──
 
@@ -106,15 +91,8 @@ pub record MemState : Type 0 where
   pub mem : Mem
 
 module _ (st : Config) where
-  abbrev pub groupM : (near : ℕ) → Row → Work → Mem → MemState
-  groupM near g w m = record { row = group st near g w .0; work = group st near g w .1; mem = groupMem st near g w m }
-
-  abbrev pub twoGroupsM : (near p : ℕ) → (left right : Row) → Work → Mem → MemState
-  twoGroupsM near p a b w m = record { row = twoGroups st near p a b w .0; work = twoGroups st near p a b w .1; mem = twoMem st near p a b w m }
-
-  abbrev pub separateM : (near p at : ℕ) → (left row : Row) → Work → Mem → MemState
-  separateM near p at left row w m =
-      record { row = separate st near p at left row w .0; work = separate st near p at left row w .1; mem = separateMem st near p at left row w m }
+  abbrev pub followM : (near : ℕ) → Plan → Work → Mem → MemState
+  followM near p w m = record { row = follow st near p w .0; work = follow st near p w .1; mem = followMem st near p w m }
 
   abbrev pub separatorM : (near : ℕ) → Row → Work → Mem → MemState
   separatorM near r w m = record { row = separator st near r w .0; work = separator st near r w .1; mem = separatorMem st near r w m }

@@ -1,7 +1,7 @@
 -- One split of a record suffices: what a split makes fits into pages, for every target and tolerance.
-use mathlib.Core.Path.{_≡_, refl, sym, ap, subst}
+use mathlib.Core.Path.{_≡_, refl, sym, ap, subst, _∙_}
 use mathlib.Core.Bool.{Bool, true, false, cond, _||_, false≢true, true≢false}
-use Prim.Native.Nat.{ℕ, _+_, _*_, _-_, _≤_, _<_, max}
+use Prim.Native.Nat.{ℕ, _+_, _*_, _≤_, _<_, max}
 use native.Mathlib.Omega.{arith}
 use native.Mathlib.Nat.{mul-le-mul-right}
 use borrow.Author.Tests.{ltb-true, ltb-false, leb-true, leb-false}
@@ -13,7 +13,9 @@ use Rattle.model.specs.Row.{Row, base, nil, agg, lit, rec, _⊹_, size, isNil, 
 use Rattle.theory_rows.specs.Fits.{Ranges, Fits, Shape, one, more}
 use Rattle.model.specs.Growth.{Work, Out, group, twoGroups, separate, goOn, stops, startOf, startOfD, rootRow, withRow, splitPoint, separator}
 use Rattle.model.specs.Claims.{InLean}
-use Rattle.theory_rows.specs.Laws.{size-⊹, cond-case, isNil-nil}
+use Rattle.theory_rows.specs.Laws.{size-⊹, cond-case, isNil-nil, breadth-shown}
+use Rattle.theory_rows.specs.Shows.{nodeCount-some, nodes-shown, shown-separator}
+use Rattle.model.specs.Tree.{width, breadth}
 
 -- ── the tests of step 3 ──
 
@@ -189,34 +191,6 @@ isNil-⊹ (agg l cs rest) b e = refl
 isNil-⊹ (lit l c rest) b e = refl
 isNil-⊹ (rec p s r rest) b e = refl
 
--- A separator is not empty.
-module _ (st : Config) (near p : ℕ) where
-  group-some : (g : Row) (w : Work) → isNil g ≡ false → isNil (group st near g w .0) ≡ false
-  unfolding group
-  group-some g w h = cond-case (λ (o : Out). isNil (o .0) ≡ false) (isNil g || loneRec g) (λ e. h) (λ e. refl)
-
-  two-some : (a b : Row) (w : Work) → isNil b ≡ false → isNil (twoGroups st near p a b w .0) ≡ false
-  unfolding twoGroups
-  two-some a b w h = isNil-⊹ (group st near a w .0) (group st near b (group st near a w .1) .0) (group-some b (group st near a w .1) h)
-
-  separate-some : (at : ℕ) (left row : Row) (w : Work) → isNil row ≡ false → isNil (separate st near p at left row w .0) ≡ false
-  unfolding separate
-  separate-some at left nil w h = absurd (true≢false h)
-  separate-some at left (agg l cs rest) w h =
-      cond-case (λ (o : Out). isNil (o .0) ≡ false) (goOn st p at (6 + size cs) rest)
-      (λ e. separate-some (at + (6 + size cs)) (left ⊹ agg l cs nil) rest w (goOn-more st p at (6 + size cs) rest e))
-      (λ e. cond-case (λ (o : Out). isNil (o .0) ≡ false) (stops st cs)
-      (λ g. two-some left (agg l cs rest) w refl)
-      (λ g. isNil-⊹ (group st near left w .0) _ refl))
-  separate-some at left (lit l c rest) w h =
-      cond-case (λ (o : Out). isNil (o .0) ≡ false) (goOn st p at (6 + length c) rest)
-      (λ e. separate-some (at + (6 + length c)) (left ⊹ lit l c nil) rest w (goOn-more st p at (6 + length c) rest e))
-      (λ e. two-some left (lit l c rest) w refl)
-  separate-some at left (rec q s r rest) w h =
-      cond-case (λ (o : Out). isNil (o .0) ≡ false) (goOn st p at 8 rest)
-      (λ e. separate-some (at + 8) (left ⊹ rec q s r nil) rest w (goOn-more st p at 8 rest e))
-      (λ e. two-some left (rec q s r rest) w refl)
-
 -- Every record that a split makes fits: S is the size of the record that is split.
 module _ (st : Config) (near p S : ℕ) (tol : st .tolerance ≤ 512) (left-room : p + 6 ≤ capacity) (right-room : S + 531 ≤ p + capacity) where
   pub separate-fits : (at : ℕ) (left row : Row) (w : Work) → Fits left → Fits row
@@ -305,9 +279,6 @@ module _ (st : Config) (k : Ranges st) (near : ℕ) where
     row-size : size (separate st near (splitPoint st S) 6 nil row w .0) ≤ 500
     row-size = omega (arith, separate-size st near (splitPoint st S) 6 nil row w (not-nil row (omega arith)))
 
-    row-some : isNil (separate st near (splitPoint st S) 6 nil row w .0) ≡ false
-    row-some = separate-some st near (splitPoint st S) 6 nil row w (not-nil row (omega arith))
-
     row-lean : InLean (subℕ (startOf st (splitPoint st S) 6 row) (splitPoint st S))
     row-lean =
         let lo = p-low st k S over most in
@@ -316,51 +287,47 @@ module _ (st : Config) (k : Ranges st) (near : ℕ) where
         (omega (arith, start-high st (splitPoint st S) (k .tol) 6 row (not-nil row (omega arith))))
         (omega (arith, start-low st (splitPoint st S) (k .tol) 6 row f (omega arith)))
 
-  pub split-good : (r : Row) (w : Work) → Fits r → capacity < recordSize r → recordSize r ≤ (capacity + mostNode) → depth (rootRow st (lone r) r) ≤ 23
-      → SplitGood (separator st near r w .0) (splitPoint st (recordSize r)) (startOfD st r)
-  unfolding separator
-  split-good r w f = go (lone r) r refl f
-    where
-      go : (b : Bool) (r : Row) → lone r ≡ b → Fits r → capacity < cond b 0 6 + size r → cond b 0 6 + size r ≤ (capacity + mostNode)
-          → depth (rootRow st b r) ≤ 23
-          → SplitGood (withRow st b r (separate st near (splitPoint st (cond b 0 6 + size r)) 6 nil (rootRow st b r) w .0))
-          (splitPoint st (cond b 0 6 + size r))
-          (startOf st (splitPoint st (cond b 0 6 + size r)) 6 (rootRow st b r))
-      go false r e f over most deep = record {
-        fits = row-fits r w (6 + size r) refl f over most deep;
-        small = omega (arith, row-size r w (6 + size r) refl f over most deep);
-        some = row-some r w (6 + size r) refl f over most deep;
-        lean = row-lean r w (6 + size r) refl f over most deep;
-      }
-      go true nil e f over most deep = absurd (omega arith)
-      go true (agg l cs rest) e f over most deep =
-          let z = ap size (isNil-nil rest e) in
-          let S = 0 + (6 + size cs + size rest) in
-          let whole : 6 + size cs ≡ S = omega arith in
-          record {
-            fits = (f .0, row-fits cs w S whole (f .1) over most deep, f .2);
-            small = omega (arith, row-size cs w S whole (f .1) over most deep);
-            some = refl;
-            lean = row-lean cs w S whole (f .1) over most deep;
-          }
-      go true (lit l c rest) e f over most deep = absurd (omega (arith, ap size (isNil-nil rest e), f .1))
-      go true (rec q s x rest) e f over most deep = absurd (false≢true e)
+  -- What a split makes; its size is with the root's header, also a helper's, which is dropped.
+  split : (w : Work) (b : Bool) (r : Row) → lone r ≡ b → Fits r → let S = cond b 0 6 + size r in
+      capacity < S → S ≤ (capacity + mostNode) → depth (rootRow st b r) ≤ 23
+      → let sep = withRow st b r (separate st near (splitPoint st S) 6 nil (rootRow st b r) w .0) in
+      Fits sep × (cond b 0 6 + size sep ≤ 506) × InLean (subℕ (startOf st (splitPoint st S) 6 (rootRow st b r)) (splitPoint st S))
+  split w false r e f over most deep =
+      let S = 6 + size r in
+      (row-fits r w S refl f over most deep, omega (arith, row-size r w S refl f over most deep), row-lean r w S refl f over most deep)
+  split w true nil e f over most deep = absurd (omega arith)
+  split w true (agg l cs rest) e f over most deep =
+      let z = ap size (isNil-nil rest e) in
+      let S = 0 + (6 + size cs + size rest) in
+      let whole : 6 + size cs ≡ S = omega arith in (
+        (f .0, row-fits cs w S whole (f .1) over most deep, f .2),
+        omega (arith, row-size cs w S whole (f .1) over most deep),
+        row-lean cs w S whole (f .1) over most deep,
+      )
+  split w true (lit l c rest) e f over most deep = absurd (omega (arith, ap size (isNil-nil rest e), f .1))
+  split w true (rec q s x rest) e f over most deep = absurd (false≢true e)
 
-  -- The separator with its root's header, also a helper's, which is dropped.
-  pub split-whole : (r : Row) (w : Work) → Fits r → capacity < recordSize r → recordSize r ≤ (capacity + mostNode) → depth (rootRow st (lone r) r) ≤ 23
-      → base r + size (separator st near r w .0) ≤ 506
-  unfolding separator
-  split-whole r w f = go (lone r) r refl f
+  -- A separator is not empty, since it shows what its record did.
+  separator-some : (r : Row) (w : Work) → Fits r → 0 < size r → isNil (separator st near r w .0) ≡ false
+  separator-some r w f h = go (isNil sep) refl
     where
-      go : (b : Bool) (r : Row) → lone r ≡ b → Fits r → capacity < cond b 0 6 + size r → cond b 0 6 + size r ≤ (capacity + mostNode)
-          → depth (rootRow st b r) ≤ 23
-          → cond b 0 6 + size (withRow st b r (separate st near (splitPoint st (cond b 0 6 + size r)) 6 nil (rootRow st b r) w .0)) ≤ 506
-      go false r e f over most deep = omega (arith, row-size r w (6 + size r) refl f over most deep)
-      go true nil e f over most deep = absurd (omega arith)
-      go true (agg l cs rest) e f over most deep =
-          let z = ap size (isNil-nil rest e) in
-          let S = 0 + (6 + size cs + size rest) in
-          let whole : 6 + size cs ≡ S = omega arith in
-          omega (arith, row-size cs w S whole (f .1) over most deep)
-      go true (lit l c rest) e f over most deep = absurd (omega (arith, ap size (isNil-nil rest e), f .1))
-      go true (rec q s x rest) e f over most deep = absurd (false≢true e)
+      sep : Row
+      sep = separator st near r w .0
+
+      go : (b : Bool) → isNil sep ≡ b → b ≡ false
+      go true e =
+          let same = sym (breadth-shown sep) ∙ ap breadth (shown-separator st near r w) ∙ breadth-shown r in
+          absurd (omega (arith, ap width (isNil-nil sep e), nodes-shown r f, nodeCount-some r (not-nil r h)))
+      go false e = refl
+
+  module _ (r : Row) (w : Work) (f : Fits r) (over : capacity < recordSize r) (most : recordSize r ≤ (capacity + mostNode))
+      (deep : depth (rootRow st (lone r) r) ≤ 23) where
+    pub split-good : SplitGood (separator st near r w .0) (splitPoint st (recordSize r)) (startOfD st r)
+    unfolding separator
+    split-good =
+        let z = split w (lone r) r refl f over most deep in
+        record { fits = z .0; small = omega (arith, z .1); some = separator-some r w f (omega (arith, base-le r)); lean = z .2 }
+
+    pub split-whole : base r + size (separator st near r w .0) ≤ 506
+    unfolding separator
+    split-whole = split w (lone r) r refl f over most deep .1

@@ -1,18 +1,19 @@
 -- Growth keeps the rules: every record of the new row fits its page and has the shape of a record.
-use mathlib.Core.Path.{_≡_, refl, sym, ap, _∙_}
-use mathlib.Core.Bool.{Bool, true, false, cond, false≢true, true≢false}
+use mathlib.Core.Path.{_≡_, refl, ap}
+use mathlib.Core.Bool.{Bool, true, false, cond, false≢true}
 use mathlib.Core.List.{List, [], _∷_}
-use Prim.Native.Nat.{ℕ, zero, suc, _+_, _-_, _≤_, max}
+use Prim.Native.Nat.{ℕ, zero, suc, _+_, _≤_, max}
 use native.Mathlib.Omega.{arith}
 use borrow.Author.Tests.{leb-true, leb-false}
 use lib.ListN.{length}
-use lib.Dec.{leb, ltb, eqb}
+use lib.Dec.{leb, eqb}
 use Rattle.model.specs.Limits.{capacity, mostContent, mostNode}
-use Rattle.model.specs.Row.{Head, Row, nil, agg, lit, rec, _⊹_, size, isNil, lone, base, recordSize, Config, nodeCount, height}
-use Rattle.theory_rows.specs.Fits.{Ranges, HeadFits, Fits, RecordFits, Shape, one, more, IsByte}
-use Rattle.model.specs.Tree.{Tree, end, branch, leaf, _⊞_, shown, width, New, newNode, putAt, insertAt}
-use Rattle.model.specs.Growth.{Work, Out, onRow, rootRow, separator, kept, close, counted, freed, asRow, place, apart, after, child, inserted, atRest, grow}
-use Rattle.theory_rows.specs.Laws.{size-⊹, cond-case, isNil-nil, shown-after, shown-child, shown-inserted}
+use Rattle.model.specs.Row.{Head, Row, nil, agg, lit, rec, _⊹_, size, lone, base, recordSize, Config, nodeCount, height}
+use Rattle.theory_rows.specs.Fits.{Ranges, HeadFits, Fits, Shape, one, more, IsByte}
+use Rattle.model.specs.Tree.{Tree, end, branch, leaf, _⊞_, shown, New, newNode, putAt, insertAt}
+use Rattle.model.specs.Growth.{Work, Out, onRow, rootRow, separator, kept, close, counted, freed, asRow, place, apart}
+use Rattle.theory_rows.specs.Laws.{size-⊹, cond-case, isNil-nil}
+use Rattle.theory_rows.specs.Shows.{shape-nodeCount, nodeCount-some}
 use Rattle.theory_rows.specs.Bound.{depth, split-good, Fits-⊹}
 
 -- ── levels ──
@@ -50,16 +51,6 @@ levels-insertAt x k (suc i) path (branch l cs rest) = omega (arith, levels-inser
 levels-insertAt x k zero path (leaf l c rest) = omega arith
 levels-insertAt x k (suc i) path (leaf l c rest) = omega (arith, levels-insertAt x k i path rest)
 
-lone-nodeCount : (r : Row) → lone r ≡ true → 1 ≤ nodeCount r
-lone-nodeCount nil e = absurd (false≢true e)
-lone-nodeCount (agg l cs rest) e = omega arith
-lone-nodeCount (lit l c rest) e = omega arith
-lone-nodeCount (rec p s r rest) e = omega arith
-
-shape-nodeCount : {s : Bool} {r : Row} → Shape s r → 1 ≤ nodeCount r
-shape-nodeCount {r = r} (one e) = lone-nodeCount r e
-shape-nodeCount (more r h) = omega arith
-
 tall : (r : Row) → Fits r → 1 ≤ nodeCount r → 1 ≤ height r
 tall nil f h = absurd (omega arith)
 tall (agg l cs rest) f h = omega arith
@@ -72,13 +63,6 @@ depth-height (agg l cs rest) f = omega (arith, depth-height cs (f .1), depth-hei
 depth-height (lit l c rest) f = omega (arith, depth-height rest (f .3))
 depth-height (rec p s r rest) f = omega (arith, tall r (f .1) (shape-nodeCount (f .0 .shape)), depth-height rest (f .2))
 
-pub depth-root : (st : Config) (b : Bool) (r : Row) → depth (rootRow st b r) ≤ depth r
-depth-root st false r = omega arith
-depth-root st true nil = omega arith
-depth-root st true (agg l cs rest) = omega arith
-depth-root st true (lit l c rest) = omega arith
-depth-root st true (rec p s r rest) = omega arith
-
 -- ── the shape of a record's row ──
 
 pub nodeCount-⊹ : (a b : Row) → nodeCount (a ⊹ b) ≡ nodeCount a + nodeCount b
@@ -86,12 +70,6 @@ nodeCount-⊹ nil b = omega arith
 nodeCount-⊹ (agg l cs rest) b = rw (nodeCount-⊹ rest b) (omega arith)
 nodeCount-⊹ (lit l c rest) b = rw (nodeCount-⊹ rest b) (omega arith)
 nodeCount-⊹ (rec p s r rest) b = rw (nodeCount-⊹ rest b) (omega arith)
-
-nodeCount-some : (r : Row) → isNil r ≡ false → 1 ≤ nodeCount r
-nodeCount-some nil e = absurd (true≢false e)
-nodeCount-some (agg l cs rest) e = omega arith
-nodeCount-some (lit l c rest) e = omega arith
-nodeCount-some (rec p s r rest) e = omega arith
 
 lone-one : (r : Row) → lone r ≡ true → nodeCount r ≤ 1
 lone-one nil e = absurd (false≢true e)
@@ -107,7 +85,7 @@ pub record Grew (row : Row) (o : Out) : Type 0 where
   pub root : lone row ≡ true → lone (o .0) ≡ true
 
 -- a record's row after growth: its shape and its size
-shape-kept : {s : Bool} (r r′ : Row) → Shape s r → nodeCount r ≤ nodeCount r′ → (lone r ≡ true → lone r′ ≡ true) → Shape s r′
+pub shape-kept : {s : Bool} (r r′ : Row) → Shape s r → nodeCount r ≤ nodeCount r′ → (lone r ≡ true → lone r′ ≡ true) → Shape s r′
 shape-kept r r′ (one e) n k = one (k e)
 shape-kept r r′ (more r₁ h) n k = more r′ (omega arith)
 
@@ -135,12 +113,12 @@ separator-lone st near (rec p s r rest) w e = absurd (false≢true e)
 
 module _ (st : Config) (k : Ranges st) where
   -- what stands where a record's proxy stood
-  record Closed (rest : Row) (o : Out) : Type 0 where
-    fits : Fits (o .0)
-    grown : size (o .0) ≤ size rest + 506
-    keeps : suc (nodeCount rest) ≤ nodeCount (o .0)
+  pub record Closed (rest : Row) (o : Out) : Type 0 where
+    pub fits : Fits (o .0)
+    pub grown : size (o .0) ≤ size rest + 506
+    pub keeps : suc (nodeCount rest) ≤ nodeCount (o .0)
 
-  close-good : (q : ℕ) (s : Bool) (rest : Row) (o : Out) → Fits rest → Fits (o .0) → Shape s (o .0) → depth (rootRow st (lone (o .0)) (o .0)) ≤ 23
+  pub close-good : (q : ℕ) (s : Bool) (rest : Row) (o : Out) → Fits rest → Fits (o .0) → Shape s (o .0) → depth (rootRow st (lone (o .0)) (o .0)) ≤ 23
       → recordSize (o .0) ≤ (capacity + mostNode)
       → Closed rest (close st q s rest o)
   unfolding close kept
@@ -165,19 +143,12 @@ module _ (st : Config) (k : Ranges st) where
         keeps = omega (arith, nodeCount-⊹ sep rest, nodeCount-some sep (b .some));
       })
 
-  -- a record whose row grew, closed
-  grown-closed : (q : ℕ) (s : Bool) (r rest : Row) (o : Out) → RecordFits s r → Fits rest → Grew r o → height (o .0) ≤ 23 → Closed rest (close st q s rest o)
-  grown-closed q s r rest o a g b h =
-      close-good q s rest o g (b .fits) (shape-kept r (o .0) (a .shape) (b .keeps) (b .root))
-      (omega (arith, depth-root st (lone (o .0)) (o .0), depth-height (o .0) (b .fits)))
-      (omega (arith, base-kept r (o .0) (a .shape) (b .keeps) (b .root), a .fits, b .grown))
-
   module _ (x : New) (label : HeadFits (x .head)) (long : length (x .content) ≤ mostContent) (byte : IsByte (x .content)) where
     -- the new node in front of a row
-    record Placed (rest : Row) (o : Out) : Type 0 where
-      fits : Fits (o .0)
-      grown : size (o .0) ≤ size rest + mostNode
-      keeps : suc (nodeCount rest) ≤ nodeCount (o .0)
+    pub record Placed (rest : Row) (o : Out) : Type 0 where
+      pub fits : Fits (o .0)
+      pub grown : size (o .0) ≤ size rest + mostNode
+      pub keeps : suc (nodeCount rest) ≤ nodeCount (o .0)
 
     asRow-good : (rest : Row) (w : Work) → Fits rest → Placed rest (asRow st x rest, w)
     asRow-good rest w f =
@@ -188,7 +159,7 @@ module _ (st : Config) (k : Ranges st) where
     asRow-lone : lone (asRow st x nil) ≡ true
     asRow-lone = cond-case (λ (r : Row). lone r ≡ true) (eqb (x .kind) 1) (λ _. refl) (λ _. refl)
 
-    place-good : (l : Head) (page : ℕ) (rest : Row) (w : Work) → Fits rest → Placed rest (place st x l page rest w)
+    pub place-good : (l : Head) (page : ℕ) (rest : Row) (w : Work) → Fits rest → Placed rest (place st x l page rest w)
     place-good l page rest w f =
         cond-case (Placed rest) (apart st l (x .head))
         (λ _.
@@ -196,110 +167,3 @@ module _ (st : Config) (k : Ranges st) where
         let e : base (asRow st x nil) ≡ 0 = rw asRow-lone in
         record { fits = (record { fits = omega (arith, a .grown); shape = one asRow-lone }, a .fits, f); grown = omega arith; keeps = omega arith })
         (λ _. asRow-good rest w f)
-
-    -- a row that grew by a node, or in one of its records
-    pub record Longer (row : Row) (o : Out) : Type 0 where
-      pub fits : Fits (o .0)
-      pub grown : size (o .0) ≤ size row + mostNode
-      pub keeps : nodeCount row ≤ nodeCount (o .0)
-
-    pub after-height : (l : Head) (page i : ℕ) (row : Row) (w : Work) → height row ≤ 23 → height (after st x l page i row w .0) ≤ 23
-    after-height l page i row w h =
-        let o = after st x l page i row w .0 in
-        omega (arith, height-shown o, ap levels (shown-after st x l page i row w), levels-putAt x (suc i) (shown row), height-shown row)
-
-    pub after-good : (l : Head) (page i : ℕ) (row : Row) (w : Work) → Fits row → height row ≤ 23 → Longer row (after st x l page i row w)
-    unfolding after
-    after-good l page i nil w f h = record { fits = tt; grown = omega arith; keeps = omega arith }
-    after-good l page zero (agg m cs rest) w f h =
-        let a = place-good l page rest w (f .2) in
-        record { fits = (f .0, f .1, a .fits); grown = omega arith; keeps = omega arith }
-    after-good l page (suc i) (agg m cs rest) w f h =
-        let a = after-good l page i rest w (f .2) (omega arith) in
-        record { fits = (f .0, f .1, a .fits); grown = omega arith; keeps = omega arith }
-    after-good l page zero (lit m c rest) w f h =
-        let a = place-good l page rest w (f .3) in
-        record { fits = (f .0, f .1, f .2, a .fits); grown = omega arith; keeps = omega arith }
-    after-good l page (suc i) (lit m c rest) w f h =
-        let a = after-good l page i rest w (f .3) (omega arith) in
-        record { fits = (f .0, f .1, f .2, a .fits); grown = omega arith; keeps = omega arith }
-    after-good l page i (rec q s r rest) w f h =
-        cond-case (Longer (rec q s r rest)) (ltb i (width r))
-        (λ _. cond-case (Longer (rec q s r rest)) (lone r)
-        (λ _.
-        let a = place-good l page rest w (f .2) in
-        record { fits = (f .0, f .1, a .fits); grown = omega arith; keeps = omega arith })
-        (λ e.
-        let a = after-good l q i r w (f .1) (omega arith) in
-        let b : Grew r (after st x l q i r w) = record { fits = a .fits; grown = a .grown; keeps = a .keeps; root = λ t. absurd (true≢false (sym t ∙ e)) } in
-        let c = grown-closed q s r rest (after st x l q i r w) (f .0) (f .2) b (after-height l q i r w (omega arith)) in
-        record { fits = c .fits; grown = omega arith; keeps = omega arith }))
-        (λ _.
-        let a = after-good l page (i - width r) rest w (f .2) (omega arith) in
-        record { fits = (f .0, f .1, a .fits); grown = omega arith; keeps = omega arith })
-
-    pub child-good : (l : Head) (page n : ℕ) (row : Row) (w : Work) → Fits row → height row ≤ 23 → Longer row (child st x l page n row w)
-    child-good l page zero row w f h = let a = place-good l page row w f in record { fits = a .fits; grown = a .grown; keeps = omega arith }
-    child-good l page (suc i) row w f h = after-good l page i row w f h
-
-    pub child-height : (l : Head) (page n : ℕ) (row : Row) (w : Work) → height row ≤ 23 → height (child st x l page n row w .0) ≤ 23
-    child-height l page n row w h =
-        let o = child st x l page n row w .0 in
-        omega (arith, height-shown o, ap levels (shown-child st x l page n row w), levels-putAt x n (shown row), height-shown row)
-
-    pub inserted-height : (n page i : ℕ) (path : List ℕ) (row : Row) (w : Work) → height row ≤ 23 → length path ≤ 21
-        → height (inserted st x n page i path row w .0) ≤ 23
-    inserted-height n page i path row w h p =
-        let o = inserted st x n page i path row w .0 in
-        omega (arith, height-shown o, ap levels (shown-inserted st x n page i path row w), levels-insertAt x n i path (shown row), height-shown row)
-
-    pub inserted-good : (n page i : ℕ) (path : List ℕ) (row : Row) (w : Work) → Fits row → height row ≤ 23 → length path ≤ 21
-        → Grew row (inserted st x n page i path row w)
-    unfolding inserted
-    inserted-good n page i path nil w f h p = record { fits = tt; grown = omega arith; keeps = omega arith; root = λ t. t }
-    inserted-good n page zero [] (agg m cs rest) w f h p =
-        let a = child-good m page n cs w (f .1) (omega arith) in
-        record { fits = (f .0, a .fits, f .2); grown = omega arith; keeps = omega arith; root = λ t. t }
-    inserted-good n page zero (j ∷ path) (agg m cs rest) w f h p =
-        let a = inserted-good n page j path cs w (f .1) (omega arith) (omega arith) in
-        record { fits = (f .0, a .fits, f .2); grown = omega arith; keeps = omega arith; root = λ t. t }
-    inserted-good n page (suc i) path (agg m cs rest) w f h p =
-        let a = inserted-good n page i path rest w (f .2) (omega arith) p in
-        record { fits = (f .0, f .1, a .fits); grown = omega arith; keeps = omega arith; root = λ t. rw (isNil-nil rest t) }
-    inserted-good n page zero path (lit m c rest) w f h p = record { fits = f; grown = omega arith; keeps = omega arith; root = λ t. t }
-    inserted-good n page (suc i) path (lit m c rest) w f h p =
-        let a = inserted-good n page i path rest w (f .3) (omega arith) p in
-        record { fits = (f .0, f .1, f .2, a .fits); grown = omega arith; keeps = omega arith; root = λ t. rw (isNil-nil rest t) }
-    inserted-good n page i path (rec q s r rest) w f h p =
-        cond-case (Grew (rec q s r rest)) (ltb i (width r))
-        (λ _.
-        let a = inserted-good n q i path r w (f .1) (omega arith) p in
-        let c = grown-closed q s r rest (inserted st x n q i path r w) (f .0) (f .2) a (inserted-height n q i path r w (omega arith) p) in
-        record { fits = c .fits; grown = omega arith; keeps = omega arith; root = λ t. absurd (false≢true t) })
-        (λ _.
-        let a = inserted-good n page (i - width r) path rest w (f .2) (omega arith) p in
-        record { fits = (f .0, f .1, a .fits); grown = omega arith; keeps = omega arith; root = λ t. absurd (false≢true t) })
-
-    -- ── the whole store ──
-
-    -- the root record: an aggregate whose children grew
-    root-good : (m : Head) (cs cs′ : Row) (w : Work) → HeadFits m → Fits cs′ → recordSize (agg m cs nil) ≤ capacity → size cs′ ≤ size cs + mostNode
-        → height cs′ ≤ 23
-        → Fits (close st 1 true nil (agg m cs′ nil, w) .0)
-    root-good m cs cs′ w lm f fit s h =
-        close-good 1 true nil (agg m cs′ nil, w) tt (lm, f, tt) (one refl) (omega (arith, depth-height cs′ f)) (omega arith) .fits
-
-    -- An insert keeps the rules for records: in a root aggregate of at most 24 levels, under a path of at most 22 entries.
-    pub grow-fits : (m : Head) (cs : Row) (path : List ℕ) (n : ℕ) → HeadFits m → Fits cs → recordSize (agg m cs nil) ≤ capacity → height cs ≤ 23
-        → length path ≤ 22
-        → Fits (rec 1 true (grow st (agg m cs nil) path n x .0) nil)
-    unfolding grow inserted close
-    grow-fits m cs [] n lm f fit h p =
-        let w = atRest st (agg m cs nil) in
-        let a = child-good m 1 n cs w f h in
-        root-good m cs (child st x m 1 n cs w .0) (child st x m 1 n cs w .1) lm (a .fits) fit (a .grown) (child-height m 1 n cs w h)
-    grow-fits m cs (j ∷ path) n lm f fit h p =
-        let w = atRest st (agg m cs nil) in
-        let a = inserted-good n 1 j path cs w f h (omega arith) in
-        root-good m cs (inserted st x n 1 j path cs w .0) (inserted st x n 1 j path cs w .1) lm (a .fits) fit (a .grown)
-        (inserted-height n 1 j path cs w h (omega arith))

@@ -1,8 +1,11 @@
 pub mod Fits
 pub mod Laws
+pub mod Plan
+pub mod Works
+pub mod Shows
 pub mod Bound
 pub mod Pages
 pub mod Keeps
-pub mod Store
 pub mod Image
 pub mod Lean
+pub mod Population

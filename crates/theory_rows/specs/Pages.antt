@@ -1,18 +1,16 @@
 -- Growth names each page at most one time: what it carries along as used is what the rows name.
-use mathlib.Core.Path.{_≡_, refl, ap, _∙_}
+use mathlib.Core.Path.{_≡_, refl, sym, ap, subst, _∙_}
 use mathlib.Core.Bool.{Bool, true, false, cond, _||_, true≢false}
-use mathlib.Core.List.{List, [], _∷_}
-use Prim.Native.Nat.{ℕ, zero, suc, _+_, _-_, _≤_}
+use Prim.Native.Nat.{ℕ, zero, suc, _+_, _≤_}
 use native.Mathlib.Omega.{arith}
 use borrow.Author.Tests.{eqb-true, lt-ltb}
-use lib.ListN.{length}
 use lib.Dec.{leb, ltb, eqb}
 use Rattle.model.specs.Limits.{capacity}
-use Rattle.model.specs.Row.{Head, Row, nil, agg, lit, rec, _⊹_, size, isNil, lone, loneRec, recordSize, count, outside, Config}
-use Rattle.model.specs.Tree.{width, New}
-use Rattle.model.specs.Growth.{Work, Out, onRow, freeFrom, taken, ownRecord, group, twoGroups, separate, goOn, stops, rootRow, withRow, splitPoint, separator}
-use Rattle.model.specs.Growth.{kept, close, counted, freed, asRow, place, apart, after, child, inserted, atRest, grow}
+use Rattle.model.specs.Row.{Head, Row, nil, agg, lit, rec, _⊹_, isNil, loneRec, recordSize, count, outside, Config}
+use Rattle.model.specs.Tree.{New}
+use Rattle.model.specs.Growth.{Work, Out, freeFrom, taken, ownRecord, group, separator, kept, close, counted, freed, asRow, place, apart, atRest}
 use Rattle.theory_rows.specs.Laws.{cond-case}
+use Rattle.theory_rows.specs.Plan.{Plan, keep, grouped, under, both, planned, follow, separatorPlan, planned-separator, separator-plan}
 
 pub count-⊹ : (q : ℕ) (a b : Row) → count q (a ⊹ b) ≡ count q a + count q b
 count-⊹ q nil b = omega arith
@@ -24,10 +22,10 @@ abbrev pub bit : Bool → ℕ
 bit b = cond b 1 0
 
 -- Unless growth ran out of pages, a page is used exactly if it is named: `n q` times in the rows at hand, `e q` times elsewhere.
-abbrev Tally : (e n : ℕ → ℕ) → Work → Type 0
+abbrev pub Tally : (e n : ℕ → ℕ) → Work → Type 0
 Tally e n w = w .full ≡ false → (q : ℕ) → e q + n q ≡ bit (w .used q)
 
-abbrev names : Row → ℕ → ℕ
+abbrev pub names : Row → ℕ → ℕ
 names r q = count q r
 
 pub or-left : (a b : Bool) → a || b ≡ false → a ≡ false
@@ -72,71 +70,35 @@ module _ (st : Config) where
   tally-own e near s r rest w t full q =
       omega (arith, tally-taken e (λ q. count q r + count q rest) (freeFrom st (st .pages) (w .used) near) w t (free-found (st .pages) (w .used) near) full q)
 
-  abbrev Tallies : (ℕ → ℕ) → Out → Type 0
+  abbrev pub Tallies : (ℕ → ℕ) → Out → Type 0
   Tallies e o = Tally e (names (o .0)) (o .1)
 
-  module _ (near p : ℕ) where
-    tally-group : (e : ℕ → ℕ) (g : Row) (w : Work) → Tally e (names g) w → Tallies e (group st near g w)
-    unfolding group
-    tally-group e g w t = cond-case (Tallies e) (isNil g || loneRec g) (λ _. t) (λ _. tally-own e near false g nil w (λ full q. omega (arith, t full q)))
-
-    tally-two : (e : ℕ → ℕ) (a b : Row) (w : Work) → Tally e (λ q. count q a + count q b) w → Tallies e (twoGroups st near p a b w)
-    unfolding twoGroups
-    tally-two e a b w t =
-        let x = group st near a w in
-        let y = group st near b (x .1) in
-        let u = tally-group (λ q. e q + count q b) a w (λ full q. omega (arith, t full q)) in
-        let v = tally-group (λ q. e q + count q (x .0)) b (x .1) (λ full q. omega (arith, u full q)) in
-        λ full q. omega (arith, v full q, count-⊹ q (x .0) (y .0))
-
-    tally-separate : (e : ℕ → ℕ) (at : ℕ) (left row : Row) (w : Work) → Tally e (λ q. count q left + count q row) w
-        → Tallies e (separate st near p at left row w)
-    unfolding separate
-    tally-separate e at left nil w t = tally-group e left w (λ full q. omega (arith, t full q))
-    tally-separate e at left (agg l cs rest) w t =
-        cond-case (Tallies e) (goOn st p at (6 + size cs) rest)
-        (λ _. tally-separate e (at + (6 + size cs)) (left ⊹ agg l cs nil) rest w (λ full q. omega (arith, t full q, count-⊹ q left (agg l cs nil))))
-        (λ _. cond-case (Tallies e) (stops st cs)
-        (λ _. tally-two e left (agg l cs rest) w t)
-        (λ _.
-        let a = group st near left w in
-        let b = separate st near p (at + 6) nil cs (a .1) in
-        let c = group st near rest (b .1) in
-        let u = tally-group (λ q. e q + count q cs + count q rest) left w (λ full q. omega (arith, t full q)) in
-        let v = tally-separate (λ q. e q + count q (a .0) + count q rest) (at + 6) nil cs (a .1) (λ full q. omega (arith, u full q)) in
-        let x = tally-group (λ q. e q + count q (a .0) + count q (b .0)) rest (b .1) (λ full q. omega (arith, v full q)) in
-        λ full q. omega (arith, x full q, count-⊹ q (a .0) (agg l (b .0) (c .0)))))
-    tally-separate e at left (lit l c rest) w t =
-        cond-case (Tallies e) (goOn st p at (6 + length c) rest)
-        (λ _. tally-separate e (at + (6 + length c)) (left ⊹ lit l c nil) rest w (λ full q. omega (arith, t full q, count-⊹ q left (lit l c nil))))
-        (λ _. tally-two e left (lit l c rest) w t)
-    tally-separate e at left (rec k s r rest) w t =
-        cond-case (Tallies e) (goOn st p at 8 rest)
-        (λ _. tally-separate e (at + 8) (left ⊹ rec k s r nil) rest w (λ full q. omega (arith, t full q, count-⊹ q left (rec k s r nil))))
-        (λ _. tally-two e left (rec k s r rest) w t)
+  tally-follow : (e : ℕ → ℕ) (near : ℕ) (x : Plan) (w : Work) → Tally e (names (planned x)) w → Tallies e (follow st near x w)
+  unfolding follow group
+  tally-follow e near (keep r) w t = t
+  tally-follow e near (grouped r) w t =
+      cond-case (Tallies e) (isNil r || loneRec r) (λ _. t) (λ _. tally-own e near false r nil w (λ full q. omega (arith, t full q)))
+  tally-follow e near (under h x) w t =
+      let u = tally-follow e near x w (λ full q. omega (arith, t full q)) in
+      λ full q. omega (arith, u full q)
+  tally-follow e near (both x y) w t =
+      let a = follow st near x w in
+      let b = follow st near y (a .1) in
+      let u = tally-follow (λ q. e q + count q (planned y)) near x w (λ full q. omega (arith, t full q, count-⊹ q (planned x) (planned y))) in
+      let v = tally-follow (λ q. e q + count q (a .0)) near y (a .1) (λ full q. omega (arith, u full q)) in
+      λ full q. omega (arith, v full q, count-⊹ q (a .0) (b .0))
 
   tally-separator : (e : ℕ → ℕ) (near : ℕ) (r : Row) (w : Work) → Tally e (names r) w → Tallies e (separator st near r w)
-  unfolding separator separate group
-  tally-separator e near r w t = go (lone r) r t
-    where
-      S : ℕ
-      S = splitPoint st (recordSize r)
+  tally-separator e near r w t =
+      subst (Tallies e) (separator-plan st near r w)
+      (tally-follow e near (separatorPlan st r) w (subst (λ (r : Row). Tally e (names r) w) (sym (planned-separator st r)) t))
 
-      go : (b : Bool) (r : Row) → Tally e (names r) w → Tallies e (onRow (withRow st b r) (separate st near S 6 nil (rootRow st b r) w))
-      go false r t = tally-separate near S e 6 nil r w (λ full q. omega (arith, t full q))
-      go true nil t = t
-      go true (agg l cs rest) t =
-          let u = tally-separate near S (λ q. e q + count q rest) 6 nil cs w (λ full q. omega (arith, t full q)) in
-          λ full q. omega (arith, u full q)
-      go true (lit l c rest) t = t
-      go true (rec k s x rest) t = t
-
-  tally-kept : (e : ℕ → ℕ) (q : ℕ) (o : Out) → Tallies e o → Tallies e (kept st q o)
+  pub tally-kept : (e : ℕ → ℕ) (q : ℕ) (o : Out) → Tallies e o → Tallies e (kept st q o)
   unfolding kept
   tally-kept e q o t = cond-case (Tallies e) (leb (recordSize (o .0)) capacity) (λ _. t) (λ _. tally-separator e q (o .0) (counted st (o .0) (o .1)) t)
 
   -- e counts the record's own page, which its proxy names
-  tally-close : (e : ℕ → ℕ) (k : ℕ) (s : Bool) (rest : Row) (o : Out) → Tally e (λ q. cond (eqb q k) 1 0 + (count q (o .0) + count q rest)) (o .1)
+  pub tally-close : (e : ℕ → ℕ) (k : ℕ) (s : Bool) (rest : Row) (o : Out) → Tally e (λ q. cond (eqb q k) 1 0 + (count q (o .0) + count q rest)) (o .1)
       → Tallies e (close st k s rest o)
   unfolding close
   tally-close e k true rest o t =
@@ -155,70 +117,14 @@ module _ (st : Config) where
     count-asRow : (q : ℕ) (rest : Row) → count q (asRow st x rest) ≡ count q rest
     count-asRow q rest = cond-case (λ r. count q r ≡ count q rest) (eqb (x .kind) 1) (λ _. omega arith) (λ _. refl)
 
-    tally-place : (e : ℕ → ℕ) (l : Head) (page : ℕ) (rest : Row) (w : Work) → Tally e (names rest) w → Tallies e (place st x l page rest w)
+    pub tally-place : (e : ℕ → ℕ) (l : Head) (page : ℕ) (rest : Row) (w : Work) → Tally e (names rest) w → Tallies e (place st x l page rest w)
     tally-place e l page rest w t =
         cond-case (Tallies e) (apart st l (x .head))
         (λ _. tally-own e page true (asRow st x nil) rest w (λ full q. omega (arith, t full q, count-asRow q nil)))
         (λ _ full q. omega (arith, t full q, count-asRow q rest))
 
-    tally-after : (e : ℕ → ℕ) (l : Head) (page i : ℕ) (row : Row) (w : Work) → Tally e (names row) w → Tallies e (after st x l page i row w)
-    unfolding after
-    tally-after e l page i nil w t = t
-    tally-after e l page zero (agg m cs rest) w t =
-        let u = tally-place (λ q. e q + count q cs) l page rest w (λ full q. omega (arith, t full q)) in
-        λ full q. omega (arith, u full q)
-    tally-after e l page (suc i) (agg m cs rest) w t =
-        let u = tally-after (λ q. e q + count q cs) l page i rest w (λ full q. omega (arith, t full q)) in
-        λ full q. omega (arith, u full q)
-    tally-after e l page zero (lit m c rest) w t = tally-place e l page rest w t
-    tally-after e l page (suc i) (lit m c rest) w t = tally-after e l page i rest w t
-    tally-after e l page i (rec k s r rest) w t =
-        cond-case (Tallies e) (ltb i (width r))
-        (λ _. cond-case (Tallies e) (lone r)
-        (λ _.
-        let u = tally-place (λ q. e q + (cond (eqb q k) 1 0 + count q r)) l page rest w (λ full q. omega (arith, t full q)) in
-        λ full q. omega (arith, u full q))
-        (λ _.
-        let u = tally-after (λ q. e q + (cond (eqb q k) 1 0 + count q rest)) l k i r w (λ full q. omega (arith, t full q)) in
-        tally-close e k s rest (after st x l k i r w) (λ full q. omega (arith, u full q))))
-        (λ _.
-        let u = tally-after (λ q. e q + (cond (eqb q k) 1 0 + count q r)) l page (i - width r) rest w (λ full q. omega (arith, t full q)) in
-        λ full q. omega (arith, u full q))
-
-    tally-child : (e : ℕ → ℕ) (l : Head) (page k : ℕ) (row : Row) (w : Work) → Tally e (names row) w → Tallies e (child st x l page k row w)
-    tally-child e l page zero row w t = tally-place e l page row w t
-    tally-child e l page (suc i) row w t = tally-after e l page i row w t
-
-    tally-inserted : (e : ℕ → ℕ) (n page i : ℕ) (path : List ℕ) (row : Row) (w : Work) → Tally e (names row) w → Tallies e (inserted st x n page i path row w)
-    unfolding inserted
-    tally-inserted e n page i path nil w t = t
-    tally-inserted e n page zero [] (agg m cs rest) w t =
-        let u = tally-child (λ q. e q + count q rest) m page n cs w (λ full q. omega (arith, t full q)) in
-        λ full q. omega (arith, u full q)
-    tally-inserted e n page zero (j ∷ path) (agg m cs rest) w t =
-        let u = tally-inserted (λ q. e q + count q rest) n page j path cs w (λ full q. omega (arith, t full q)) in
-        λ full q. omega (arith, u full q)
-    tally-inserted e n page (suc i) path (agg m cs rest) w t =
-        let u = tally-inserted (λ q. e q + count q cs) n page i path rest w (λ full q. omega (arith, t full q)) in
-        λ full q. omega (arith, u full q)
-    tally-inserted e n page zero path (lit m c rest) w t = t
-    tally-inserted e n page (suc i) path (lit m c rest) w t = tally-inserted e n page i path rest w t
-    tally-inserted e n page i path (rec k s r rest) w t =
-        cond-case (Tallies e) (ltb i (width r))
-        (λ _.
-        let u = tally-inserted (λ q. e q + (cond (eqb q k) 1 0 + count q rest)) n k i path r w (λ full q. omega (arith, t full q)) in
-        tally-close e k s rest (inserted st x n k i path r w) (λ full q. omega (arith, u full q)))
-        (λ _.
-        let u = tally-inserted (λ q. e q + (cond (eqb q k) 1 0 + count q r)) n page (i - width r) path rest w (λ full q. omega (arith, t full q)) in
-        λ full q. omega (arith, u full q))
-
   abbrev pub reserved : ℕ → ℕ
   reserved q = bit (outside (st .pages) q)
-
-  tally-grow : (x : New) (root : Row) (path : List ℕ) (k : ℕ) → Tally reserved (names root) (atRest st root) → Tallies reserved (grow st root path k x)
-  unfolding grow
-  tally-grow x root path k t =
-      tally-kept reserved 1 (inserted st x k 1 0 path root (atRest st root)) (tally-inserted x reserved k 1 0 path root (atRest st root) t)
 
   pub tally-rest : (root : Row) → ((q : ℕ) → count q root ≤ cond (outside (st .pages) q) 0 1) → Tally reserved (names root) (atRest st root)
   tally-rest root h full q = go (outside (st .pages) q) (count q root) (h q)
@@ -227,14 +133,3 @@ module _ (st : Config) where
       go true n h = omega arith
       go false zero h = refl
       go false (suc n) h = rw (lt-ltb 0 (suc n) (omega arith)) (omega arith)
-
-  -- Growth names each page at most one time, and none outside.
-  pub placed-grow : (x : New) (root : Row) (path : List ℕ) (k : ℕ) → ((q : ℕ) → count q root ≤ cond (outside (st .pages) q) 0 1)
-      → grow st root path k x .1 .full ≡ false → (q : ℕ) → count q (grow st root path k x .0) ≤ cond (outside (st .pages) q) 0 1
-  placed-grow x root path k h full q = go (outside (st .pages) q) (grow st root path k x .1 .used q) (tally-grow x root path k (tally-rest root h) full q)
-    where
-      go : (b c : Bool) → bit b + count q (grow st root path k x .0) ≡ bit c → count q (grow st root path k x .0) ≤ cond b 0 1
-      go true true e = omega arith
-      go true false e = omega arith
-      go false true e = omega arith
-      go false false e = omega arith

@@ -2,13 +2,15 @@
 use mathlib.Core.Path.{_≡_, refl, sym, ap, _∙_}
 use mathlib.Core.Bool.{false}
 use mathlib.Core.List.{List, [], _∷_, _++_}
+use mathlib.Core.Option.{Option, none, some}
 use Prim.Native.Nat.{ℕ, zero, suc, _+_, _*_}
 use lib.ListN.{take, replicate}
 use lib.IntN.{ℤ, pos, negsuc}
 use Rattle.model.specs.Limits.{pageSize, capacity, mostContent, mostNode, longestPath}
 use Rattle.model.specs.Row.{Row, nil, agg, lit, rec, _⊹_, recordSize, header, bytes, two, Config, image, inRange, valid, noHead}
-use Rattle.model.specs.Tree.{shown, placeAt, placeOf}
-use Rattle.model.specs.Growth.{Out, atRest, grow, inserted, after, kept, close, separator, separate, group, twoGroups, freeFrom, startOf, startOfD}
+use Rattle.model.specs.Tree.{shown, New, placeAt, placeOf}
+use Rattle.model.specs.Spot.{Spot, spotAfter, spotIn, spotOf}
+use Rattle.model.specs.Growth.{received, rise, fromSpot, Out, atRest, grow, kept, close, separator, separate, group, twoGroups, freeFrom, startOf, startOfD}
 use Rattle.model.specs.Growth.{splitPoint}
 use Rattle.model.specs.Reading.{lengthOk, twoAt, pageOf, nodesIn, sameBytes, reading, usedAt}
 use Rattle.model.specs.Answers.{usualSettings, findRefused, insertRefused}
@@ -69,20 +71,28 @@ abbrev lits : ℕ → Row
 lits zero = nil
 lits (suc n) = lit (record { label = 9 }) (replicate mostContent 0) (lits n)
 
--- The root record as the coming in of the literal of `put` leaves it: what growth looks at in step 3.
-abbrev joined : Config → Row → (k n : ℕ) → Out
-joined st root k n = inserted st (newOf 2 9 (replicate n 0)) k 1 0 [] root (atRest st root)
+-- The literal of `put`, and what growth makes of it from a spot on.
+abbrev literal : (n : ℕ) → New
+literal n = newOf 2 9 (replicate n 0)
 
--- The answer and the image of `put`, from what growth makes of that record.
+abbrev grownFrom : Config → Row → (n : ℕ) → Option Spot → Out
+grownFrom st root n t = fromSpot st (literal n) root t
+
+-- The answer and the image of `put`, from what growth makes of it.
 abbrev ended : (img : List ℕ) → Config → Row → (k n : ℕ) → Out → InsertAnswer × List ℕ
 ended img st root k n o =
-    let m = insertNumber (shown root) [] k (newOf 2 9 (replicate n 0)) (o .1 .full) in
+    let m = insertNumber (shown root) [] k (literal n) (o .1 .full) in
     let place = placeOr (placeOf (o .0) (k ∷ [])) in
     accept m (record { number = 0; place = place; splits = o .1 .splits; lean = o .1 .lean }, image st (o .0)) (insertRefused m, img)
 
+-- Of the record that takes the literal, with it, which is what growth looks at in step 3.
+abbrev ofReceived : (Config → Row → ℕ) → Config → (root : Row) → (n : ℕ) → Option Spot → ℕ
+ofReceived f st root n none = 0
+ofReceived f st root n (some t) = f st (received st (literal n) t (atRest st root) .0)
+
 -- S, p and the start of d of that record, in the image that `put` is called on.
 abbrev ofJoined : (Config → Row → ℕ) → (img : List ℕ) → (k n : ℕ) → ℕ
-ofJoined f img k n = onStore (opened img) (λ m. 0) (λ st root. f st (joined st root k n .0))
+ofJoined f img k n = onStore (opened img) (λ m. 0) (λ st root. ofReceived f st root n (spotOf root [] k))
 
 abbrev sizeS : (img : List ℕ) → (k n : ℕ) → ℕ
 sizeS = ofJoined (λ st r. recordSize r)
@@ -125,7 +135,7 @@ pub record BenchSheet : Type 0 where
   -- In every image, what the call keeps or splits at the end is the root record as the literal's coming in leaves it. Where no other record stands,
   -- as in the two lines below, that is the record with the literal in it, and S, p and d are its.
   pub splitting : (img : List ℕ) (k n : ℕ)
-      → put img k n ≡ onStore (opened img) (λ m. (insertRefused m, img)) (λ st root. ended img st root k n (kept st 1 (joined st root k n)))
+      → put img k n ≡ onStore (opened img) (λ m. (insertRefused m, img)) (λ st root. ended img st root k n (grownFrom st root n (spotOf root [] k)))
   -- With 387 bytes instead: S 4,081, p 2,040, d starts at 1,584, lean -456.
   pub last387S : sizeS seven 7 387 ≡ 4081
   pub last387p : pointP seven 7 387 ≡ 2040
@@ -157,7 +167,7 @@ pub record BenchSheet : Type 0 where
 
 -- Naming this unfolds every definition that the calls compute with.
 computed : Unit {0}
-unfolding image inRange valid placeAt twoAt grow inserted after kept close separator separate group twoGroups freeFrom startOf lengthOk nodesIn sameBytes
+unfolding image inRange valid placeAt twoAt grow spotIn spotAfter rise kept close separator separate group twoGroups freeFrom startOf lengthOk nodesIn sameBytes
     reading insertNumber findIn formatNumber opened formatOf insertOf findOf
 computed = tt
 
@@ -220,7 +230,7 @@ chain-is = refl
 -- ── the lines on them ──
 
 splitting-is : (img : List ℕ) (k n : ℕ)
-    → put img k n ≡ onStore (opened img) (λ m. (insertRefused m, img)) (λ st root. ended img st root k n (kept st 1 (joined st root k n)))
+    → put img k n ≡ onStore (opened img) (λ m. (insertRefused m, img)) (λ st root. ended img st root k n (grownFrom st root n (spotOf root [] k)))
 unfolding insertOf grow
 splitting-is img k n = refl
 

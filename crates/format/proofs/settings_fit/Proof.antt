@@ -1,5 +1,4 @@
 -- `format::settings_fit`: the page count is tested first.
-use mathlib.Core.Path.{sym, _∙_}
 use mathlib.Core.Bool.{and-true, and-false}
 use borrow.Author.Needs.{needs}
 use borrow.Author.Tests.{eq-eqb, ne-eqb}

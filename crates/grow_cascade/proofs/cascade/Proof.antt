@@ -15,24 +15,24 @@ use Rattle.model.specs.Limits.{mostPages, capacity}
 use Rattle.model.specs.Row.{recordSize}
 use Rattle.base_layout.specs.Growing.{bufferSize, separatorSize, nearTo}
 use Rattle.grow_split_point.specs.Lean.{lean-signed}
-use Rattle.theory_insert_point.specs.Chain.{lastSettled}
+use Rattle.theory_growth.specs.Chain.{lastSettled}
 use Rattle.grow_groups.specs.Used.{Past}
 use Rattle.grow_write_back.specs.Off.{leaves, SplitOff}
-use Rattle.grow_cascade.specs.Rising.{inside, long-image, settled-is, settled-most, holder-is, holder-high, env, leaning, good, off}
-use Rattle.grow_cascade.specs.Low.{content, low-done}
-use Rattle.grow_cascade.specs.Settled.{leanNow, leaning-in, lean-in, severed-long, severed-content, settled-done}
-use Rattle.grow_cascade.specs.Cascade.{Cascade, goalOf, memOf, Onward, onward-start, onward-end, bit-stays, bit-goes, severed-end, Upward, upward}
+use Rattle.grow_cascade.specs.Rising.{inside, long-image, settled-is, settled-most, holder-is, holder-high, able, range, env, leaning, good, off}
+use Rattle.grow_cascade.specs.Stops.{leanNow, leaning-in, lean-in, content, low-done, severed-long, severed-content, settled-done}
+use Rattle.grow_split.specs.Severed.{is-one, is-other}
+use Rattle.grow_cascade.specs.Cascade.{Cascade, goalOf, memOf, Onward, onward-start, onward-end, severed-end, Upward, upward}
 use Rattle.grow_cascade.proofs.cascade.Statement.{statement}
 use Rattle.grow_cascade.proofs.cascade.Tie as tie
 
 abbrev Inv-loop : tie.InvT-loop
-Inv-loop image₀ used₀ buf₀ len₀ full₀ setup dry near₀ splits₀ lean₀ image used buf len full near splits lean =
-    ((w : Cascade (record { setup = setup; near = near₀; dry = dry }) len₀ full₀ 0 (pos 0) buf₀ used₀ image₀)
-    → Onward (goalOf w) (memOf w) image₀ (record { setup = setup; near = near; dry = dry }) len full splits (toZ w32 lean) buf used image)
+Inv-loop image₀ widths₀ buf₀ len₀ full₀ setup dry near₀ splits₀ lean₀ image widths buf len full near splits lean =
+    ((w : Cascade (record { setup = setup; near = near₀; dry = dry }) len₀ full₀ 0 (pos 0) buf₀ widths₀ image₀)
+    → Onward (goalOf w) (memOf w) image₀ (record { setup = setup; near = near; dry = dry }) len full splits (toZ w32 lean) buf widths image)
     × (length buf ≡ bufferSize)
 
 abbrev μ-loop : tie.MeasureT-loop
-μ-loop image₀ used₀ buf₀ len₀ full₀ setup dry near₀ splits₀ lean₀ image used buf len full near splits lean = mostPages - splits
+μ-loop image₀ widths₀ buf₀ len₀ full₀ setup dry near₀ splits₀ lean₀ image widths buf len full near splits lean = mostPages - splits
 
 loop-holds : tie.Need-loop-holds Inv-loop μ-loop
 loop-holds c = (λ w. onward-start w, c .before .before .before .pre .0)
@@ -41,7 +41,7 @@ loop-holds c = (λ w. onward-start w, c .before .before .before .pre .0)
 abbrev Given : tie.Start Inv-loop μ-loop → Type 0
 Given s =
     let a = s .args in
-    Cascade (a .start) (a .len) (a .full) 0 (pos 0) (a .buf .now) (a .used .now) (a .image .now)
+    Cascade (a .start) (a .len) (a .full) 0 (pos 0) (a .buf .now) (a .widths .now) (a .image .now)
 
 abbrev at-start : tie.At-loop Inv-loop μ-loop → tie.Start Inv-loop μ-loop
 at-start c = c .before .before .before .before
@@ -49,7 +49,7 @@ at-start c = c .before .before .before .before
 -- the record that the loop is at
 here : (c : tie.At-loop Inv-loop μ-loop) → let s = c .before .before .before .before in let w = s .pre .1 in let l = c .loop in
     Onward (goalOf w) (memOf w) (s .args .image .now) (nearTo (s .args .start) (l .near)) (l .len) (l .full) (l .splits) (toZ w32 (l .lean))
-    (l .buf) (l .used) (l .image)
+    (l .buf) (l .widths) (l .image)
 here c = c .loop .inv .0 (c .before .before .before .before .pre .1)
 
 mul-settled-at : tie.Need-mul-settled-at Inv-loop μ-loop
@@ -66,7 +66,7 @@ back-at-requires c κs = omega (arith, inside (here (c .before .before .before) 
 
 -- the length of the new content
 fits-buffer : (c : tie.At-loop Inv-loop μ-loop) → c .loop .len ≤ length (c .loop .buf)
-fits-buffer c = let r = here c .now .rising in omega (arith, r .long, r .most, c .loop .inv .1)
+fits-buffer c = let r = here c .now .rising in omega (arith, r .long, able r .most, c .loop .inv .1)
 
 taken-length : (c : tie.At-loop Inv-loop μ-loop) → c .loop .len ≡ length (take (c .loop .len) (c .loop .buf))
 taken-length c = sym (length-take-le (c .loop .len) (c .loop .buf) (fits-buffer c))
@@ -127,7 +127,7 @@ slice-aggregate-lean-now c = taken-length (c .before .before .before .before .be
 lean-now-requires : tie.Need-lean-now-requires Inv-loop μ-loop
 lean-now-requires c κs =
     let r = here (c .before .before .before .before .before .before) .now .rising in
-    (r .range, leaning r (omega (arith, r .long, c .before .if1 .left)))
+    (range r, leaning r (omega (arith, r .long, c .before .if1 .left)))
 
 add-splits : tie.Need-add-splits Inv-loop μ-loop
 add-splits c = omega (arith, here (c .before .before .before .before .before .before .before) .now .rising .short)
@@ -159,7 +159,7 @@ large x w = omega (arith, at-loop x .loop .inv .0 w .now .rising .long, x .befor
 cut-of : (x : tie.After-split-off Inv-loop μ-loop) → let l = at-loop x in let s = at-start l in (w : Given s)
     → let k = l .loop .inv .0 w .now in let z = x .split-off .last .1 in
     SplitOff (k .st) (nearTo (s .args .start) (l .loop .near)) (k .row) (k .work) (lastSettled (k .chain)) (x .split-off .result)
-    (z .1 .0) (l .loop .image) (z .0) (replicate separatorSize 0) (z .1 .1 .1 .1 .0) × Past (s .args .start .setup .pages) (z .1 .0)
+    (l .loop .widths) (z .1 .0) (l .loop .image) (z .0) (replicate separatorSize 0) (z .1 .1 .1 .1 .0) × Past (s .args .start .setup .pages) (z .1 .0)
 cut-of x w =
     let x₁ = x .before .before .before .before .before .before .before in
     let l = at-loop x in
@@ -174,7 +174,7 @@ lean-of x w =
     let k = l .inv .0 w .now in
     let t = leaning (k .rising) (large x w) in
     let e = x .before .before .before .before .before .lean-now .ensures t in
-    toZ-ofZ {w = w32} (lean-signed _ (rw e (lean-in (k .st) (k .row) (l .splits) (toZ w32 (l .lean)) (k .rising .range) (leaning-in t)))) ∙ e
+    toZ-ofZ {w = w32} (lean-signed _ (rw e (lean-in (k .st) (k .row) (l .splits) (toZ w32 (l .lean)) (range (k .rising)) (leaning-in t)))) ∙ e
 
 -- the separator is within its array
 ends : (x : tie.After-split-off Inv-loop μ-loop) → x .split-off .result .end ≤ length (x .split-off .last .1 .1 .1 .1 .1 .0)
@@ -200,7 +200,7 @@ stays-of : (x : tie.After-split-off Inv-loop μ-loop)
     a .settled-at .result ≡ 1 → (w : Given (at-start l)) → lastSettled (l .loop .inv .0 w .now .chain) ≡ true
 stays-of x e w =
     let b = x .before .before .before .before .before .before .before .before in
-    bit-stays (lastSettled (at-loop x .loop .inv .0 w .now .chain)) _ (bit-of b w) e
+    is-one (lastSettled (at-loop x .loop .inv .0 w .now .chain)) _ 0 (bit-of b w) (λ z. omega arith) e
 
 keep-requires-2 : tie.Need-keep-requires-2 Inv-loop μ-loop
 keep-requires-2 c κs =
@@ -251,7 +251,7 @@ above x e w =
     let b = x .before .before .before .before .before .before .before .before in
     let o = at-loop x .loop .inv .0 w in
     let v = cut-of x w in
-    upward o (large x w) (bit-goes (lastSettled (o .now .chain)) _ (bit-of b w) e) (b .back-at .ensures .0 ∙ holder-is (o .now .rising)) (v .0) (v .1)
+    upward o (large x w) (is-other (lastSettled (o .now .chain)) _ 0 (bit-of b w) e) (b .back-at .ensures .0 ∙ holder-is (o .now .rising)) (v .0) (v .1)
     (lean-of x w)
 
 lift-requires : tie.Need-lift-requires Inv-loop μ-loop

@@ -4,7 +4,7 @@ use borrow.Author.Tests.{eq-eqb, ne-eqb}
 use mir.Syntax.{w32}
 use mir.Facts.{toZ-ofZ}
 use Rattle.grow_split_point.specs.Lean.{lean-signed}
-use Rattle.grow_cascade.specs.Settled.{leaning-in}
+use Rattle.grow_cascade.specs.Stops.{leaning-in}
 use Rattle.grow_cascade.proofs.lean_now.Statement.{statement}
 use Rattle.grow_cascade.proofs.lean_now.Tie as tie
 

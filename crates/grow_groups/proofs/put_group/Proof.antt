@@ -7,7 +7,7 @@ use lib.ListN.{length}
 use Rattle.grow_pages.specs.Relinked.{written}
 use Rattle.base_layout.specs.Growing.{pages-of}
 use Rattle.grow_groups.specs.Used.{found-inside}
-use Rattle.grow_groups.specs.Group.{kept-room, group-kept, group-record, proxy-room, group-moved, wet, still}
+use Rattle.grow_groups.specs.Group.{kept-room, group-kept, group-record, group-linked, proxy-room, group-moved, wet, still}
 use borrow.Author.Needs.{needs}
 use Rattle.grow_groups.proofs.put_group.Statement.{statement}
 use Rattle.grow_groups.proofs.put_group.Tie as tie
@@ -35,29 +35,43 @@ returns c =
 first-free-requires : tie.Need-first-free-requires
 first-free-requires c κs = search needs
 
-element-write-used : tie.Need-element-write-used
-element-write-used c =
-    let v = c .before .before .before .before .before .before .before .pre .0 in
-    omega (arith, v .few, found-inside v _ (c .first-free .ensures))
+number-requires : tie.Need-number-requires
+number-requires c κs =
+    let s = c .before .before .before .before .before .before .before .before in
+    let w = s .pre .1 .1 in
+    let h = sym (c .before .before .before .if1 .left) ∙ c .before .before .before .before .stays .ensures (w .row) (w .is) in
+    group-linked w h (s .pre .0 .few)
+
+mul-widths : tie.Need-mul-widths
+mul-widths c =
+    let v = c .before .before .before .before .before .before .before .before .before .pre .0 in
+    omega (arith, v .few, found-inside v _ (c .before .before .first-free .ensures))
+
+element-write-widths : tie.Need-element-write-widths
+element-write-widths c =
+    let v = c .before .before .before .before .before .before .before .before .before .pre .0 in
+    omega (arith, v .few, found-inside v _ (c .before .before .first-free .ensures))
 
 put-nodes-requires : tie.Need-put-nodes-requires
 put-nodes-requires c κs =
-    let s = c .before .before .before .before .before .before .before .before .before in
+    let f = c .before .before .before .before in
+    let s = f .before .before .before .before .before .before .before in
     let v = s .pre .0 in
     let w = s .pre .1 .1 in
-    let h = sym (c .before .before .before .before .if1 .left) ∙ c .before .before .before .before .before .stays .ensures (w .row) (w .is) in
-    (v .few, (v .image, (found-inside v _ (c .before .before .first-free .ensures), group-record w h)))
+    let h = sym (f .before .before .if1 .left) ∙ f .before .before .before .stays .ensures (w .row) (w .is) in
+    (v .few, (v .image, (found-inside v _ (f .first-free .ensures), group-record w h)))
 
 put-proxy-requires : tie.Need-put-proxy-requires
 put-proxy-requires c κs =
-    let s = c .before .before .before .before .before .before .before .before .before in
+    let f = c .before .before .before .before in
+    let s = f .before .before .before .before .before .before .before in
     let v = s .pre .0 in
     let w = s .pre .1 .1 in
-    let h = sym (c .before .before .before .before .if1 .left) ∙ c .before .before .before .before .before .stays .ensures (w .row) (w .is) in
-    omega (arith, v .few, s .pre .1 .0, proxy-room w h, found-inside v _ (c .before .before .first-free .ensures))
+    let h = sym (f .before .before .if1 .left) ∙ f .before .before .before .stays .ensures (w .row) (w .is) in
+    omega (arith, v .few, s .pre .1 .0, proxy-room w h, found-inside v _ (f .first-free .ensures))
 
-add-t26 : tie.Need-add-t26
-add-t26 c = search needs
+add-t19 : tie.Need-add-t19
+add-t19 c = search needs
 
 same-length-2 : tie.Need-same-length-2
 same-length-2 c =
@@ -68,19 +82,20 @@ same-length-3 c = search needs
 
 returns-2 : tie.Need-returns-2
 returns-2 c =
-    let c₁ = c .before .before .before .before .before .before .before in
+    let n = c .before .before .before .before .before in
+    let f = n .before .before in
+    let c₁ = f .before .before in
     λ w.
     let s = c₁ .before .before .before .before .before in
     let d = s .args .g .dry in
     let i = s .args .image .now in
     let h = sym (c₁ .if1 .left) ∙ c₁ .before .stays .ensures (w .row) (w .is) in
-    let f = c .before .before .before .before .before .first-free in
-    group-moved w h _ _ _ _ _ (f .ensures (w .st) (pages-of (w .setup)))
+    group-moved w h _ _ _ _ _ _ (f .first-free .ensures (w .st) (pages-of (w .setup))) (n .number .ensures (group-linked w h (s .pre .0 .few)))
     (⊎-elim (λ v. wet d _ i _ (v .0 .taken) (v .5 ∙ v .2 .ensures (group-record w h)))
-    (λ v. still d _ _ (written (f .result) false 0 (w .row) i) (v .0 .left) (v .1)) (c .before .before .before .before .if2 .came))
+    (λ v. still d _ _ (written (f .first-free .result) false 0 (w .row) i) (v .0 .left) (v .1)) (c .before .before .before .before .if2 .came))
     (c .before .before .put-proxy .ensures)
 
 pub put-group-spec : {M : Type 1} → statement M
 put-group-spec =
-    tie.close (tie.spec stays-requires copy-in-requires add-t15 same-length returns first-free-requires element-write-used put-nodes-requires
-    put-proxy-requires add-t26 same-length-2 same-length-3 returns-2)
+    tie.close (tie.spec stays-requires copy-in-requires add-t15 same-length returns first-free-requires number-requires mul-widths
+    element-write-widths put-nodes-requires put-proxy-requires add-t19 same-length-2 same-length-3 returns-2)

@@ -11,14 +11,17 @@ use Rattle.grow_pages.proofs.first_free.Statement.{statement}
 use Rattle.grow_pages.proofs.first_free.Tie as tie
 
 abbrev Inv-loop : tie.InvT-loop
-Inv-loop used pages from q₀ left₀ q left =
-    ((st : Config) → st .pages ≡ pages → freeFrom st left (usedBy used) q ≡ freeFrom st pages (usedBy used) from) × (q < mostPages)
+Inv-loop widths pages from q₀ left₀ q left =
+    ((st : Config) → st .pages ≡ pages → freeFrom st left (usedBy widths) q ≡ freeFrom st pages (usedBy widths) from) × (q < mostPages)
 
 abbrev μ-loop : tie.MeasureT-loop
-μ-loop used pages from q₀ left₀ q left = left
+μ-loop widths pages from q₀ left₀ q left = left
 
 loop-holds : tie.Need-loop-holds Inv-loop μ-loop
 loop-holds c = (λ st e. refl, omega arith)
+
+mul-if1 : tie.Need-mul-if1 Inv-loop μ-loop
+mul-if1 c = omega arith
 
 element-copy-out-if1 : tie.Need-element-copy-out-if1 Inv-loop μ-loop
 element-copy-out-if1 c = omega arith
@@ -53,4 +56,4 @@ returns-2 c = λ st e. free-spent st _ _ _ (c .loop-test .left) ∙ c .before .l
 pub first-free-spec : {M : Type 1} → statement M
 first-free-spec =
     tie.close
-    (tie.spec Inv-loop μ-loop loop-holds element-copy-out-if1 returns add-if2 add-q sub-left loop-less loop-again returns-2)
+    (tie.spec Inv-loop μ-loop loop-holds mul-if1 element-copy-out-if1 returns add-if2 add-q sub-left loop-less loop-again returns-2)

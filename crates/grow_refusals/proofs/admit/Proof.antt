@@ -7,8 +7,8 @@ use Rattle.model.specs.Limits.{pageSize}
 use Rattle.model.specs.Tree.{Node}
 use Rattle.theory_layout.specs.Nodes.{ReadAt}
 use Rattle.theory_calls.specs.Open.{passing}
-use Rattle.grow_refusals.specs.Parent.{read-room}
-use Rattle.grow_refusals.specs.Admit.{Formed, foundAt, refuses, too-long, wrong-kind, long-content, no-node, parent-is, parent-read, by-parent}
+use Rattle.grow_refusals.specs.Admit.{read-room, Formed, foundAt, refuses, too-long, wrong-kind, long-content, no-node}
+use Rattle.grow_refusals.specs.Admit.{parent-is, parent-read, by-parent}
 use Rattle.grow_refusals.proofs.admit.Statement.{statement}
 use Rattle.grow_refusals.proofs.admit.Tie as tie
 
@@ -86,7 +86,7 @@ returns-5 c =
     let f = c .before .before .before .before .before .before in
     let z = c .before .before .before .before .if4 .left in (
       by-parent _ _ _ _ _ (formed (f .before)) _ (f .find-in .ensures) z _ (parent-at f z) (c .try-parent .ensures .0),
-      (λ _. parent-at f z, c .try-parent .ensures .1),
+      (λ y. c .try-parent .ensures .1 .0 y ∙ parent-at f z, c .try-parent .ensures .1 .1),
     )
 
 pub admit-spec : {M : Type 1} → statement M

@@ -4,7 +4,7 @@ use native.Mathlib.Omega.{arith}
 use borrow.Author.Needs.{needs}
 use denote.Ref.{now}
 use Rattle.model.specs.Row.{base}
-use Rattle.grow_splice.specs.Spot.{at, parent}
+use Rattle.grow_splice.specs.Position.{at, parent}
 use Rattle.grow_replace_proxy.specs.Lift.{Lift, before, used, part, sep-least, sep-most, long, names-once, filled, place}
 use Rattle.grow_replace_proxy.proofs.lift.Statement.{statement}
 use Rattle.grow_replace_proxy.proofs.lift.Tie as tie
@@ -34,20 +34,20 @@ proxy-in-requires c κs =
     let w = c .before .before .before .before .before .pre .0 in names-once _ _ _ _ w _ (part _ _ _ _ w _ (c .before .used-at .ensures .0))
 
 -- where the proxy stands
-spot-is : (c : tie.After-proxy-in) → let s = c .before .before .before .before .before .before in
-    (w : Lift (now (s .args .image)) (s .args .holder) (s .args .page) (now (s .args .sep))) → c .proxy-in .result ≡ at (base (before _ _ _ _ w)) (w .spot)
-spot-is c w = c .proxy-in .ensures (names-once _ _ _ _ w _ (part _ _ _ _ w _ (c .before .before .used-at .ensures .0)))
+position-is : (c : tie.After-proxy-in) → let s = c .before .before .before .before .before .before in
+    (w : Lift (now (s .args .image)) (s .args .holder) (s .args .page) (now (s .args .sep))) → c .proxy-in .result ≡ at (base (before _ _ _ _ w)) (w .position)
+position-is c w = c .proxy-in .ensures (names-once _ _ _ _ w _ (part _ _ _ _ w _ (c .before .before .used-at .ensures .0)))
 
 enclosing-requires : tie.Need-enclosing-requires
 enclosing-requires c κs =
     let w = c .before .before .before .before .before .before .pre .0 in
-    filled _ _ _ _ w _ (part _ _ _ _ w _ (c .before .before .used-at .ensures .0)) _ (spot-is c w)
+    filled _ _ _ _ w _ (part _ _ _ _ w _ (c .before .before .used-at .ensures .0)) _ (position-is c w)
 
 -- and in which node
 parent-is : (c : tie.After-enclosing) → let s = c .before .before .before .before .before .before .before in
     (w : Lift (now (s .args .image)) (s .args .holder) (s .args .page) (now (s .args .sep))) → c .enclosing .result ≡ parent 0 (base (before _ _ _ _ w))
-    (w .spot)
-parent-is c w = c .enclosing .ensures (filled _ _ _ _ w _ (part _ _ _ _ w _ (c .before .before .before .used-at .ensures .0)) _ (spot-is (c .before) w))
+    (w .position)
+parent-is c w = c .enclosing .ensures (filled _ _ _ _ w _ (part _ _ _ _ w _ (c .before .before .before .used-at .ensures .0)) _ (position-is (c .before) w))
 
 splice-requires : tie.Need-splice-requires
 splice-requires c κs =
@@ -56,7 +56,7 @@ splice-requires c κs =
     let e = part _ _ _ _ w _ (c .before .before .before .before .used-at .ensures .0) in
     let n = long _ _ _ _ w _ e in
     let z = sep-most _ _ _ _ w in
-    let p = place _ _ _ _ w _ e _ _ (spot-is (c .before .before) w) (parent-is (c .before) w) in
+    let p = place _ _ _ _ w _ e _ _ (position-is (c .before .before) w) (parent-is (c .before) w) in
     (p, (sep-least _ _ _ _ w, (omega (arith, n, z, w .small, s .pre .1), omega (arith, n, z, w .small))))
 
 same-length : tie.Need-same-length
@@ -66,7 +66,7 @@ returns : tie.Need-returns
 returns c = λ w.
     let p = c .before .before in
     let e = part _ _ _ _ w _ (p .before .before .before .before .before .used-at .ensures .0) in
-    p .splice .ensures (place _ _ _ _ w _ e _ _ (spot-is (p .before .before .before) w) (parent-is (p .before .before) w))
+    p .splice .ensures (place _ _ _ _ w _ e _ _ (position-is (p .before .before .before) w) (parent-is (p .before .before) w))
 
 pub lift-spec : {M : Type 1} → statement M
 lift-spec =

@@ -3,7 +3,7 @@ use Prim.Native.Nat.{ℕ, _-_}
 use native.Mathlib.Omega.{arith}
 use mathlib.Core.Path.{sym, _∙_}
 use lib.ListN.{length}
-use Rattle.grow_replace_proxy.specs.Seek.{Seek, SeekStep, seek-step, proxySpot, seek-start}
+use Rattle.grow_replace_proxy.specs.Seek.{Seek, SeekStep, seek-step, proxyPosition, seek-start}
 use Rattle.grow_replace_proxy.proofs.proxy_in.Statement.{statement}
 use Rattle.grow_replace_proxy.proofs.proxy_in.Tie as tie
 
@@ -17,7 +17,7 @@ loop-holds : tie.Need-loop-holds Inv-loop μ-loop
 loop-holds c = λ g s. s
 
 -- what stands at pos
-seen : (c : tie.At-loop Inv-loop μ-loop) → let s = c .before .before in SeekStep (s .args .rec .now) (s .args .page) (c .loop .pos) (proxySpot _ _ (s .pre))
+seen : (c : tie.At-loop Inv-loop μ-loop) → let s = c .before .before in SeekStep (s .args .rec .now) (s .args .page) (c .loop .pos) (proxyPosition _ _ (s .pre))
 seen c = seek-step _ _ _ _ (c .loop .inv _ (seek-start _ _ (c .before .before .pre)))
 
 shared-slice-read-kind : tie.Need-shared-slice-read-kind Inv-loop μ-loop

@@ -1,11 +1,11 @@
--- `grow_splice::enlarge`: from pos on, the nodes that contain the spot have not grown yet.
+-- `grow_splice::enlarge`: from pos on, the nodes that contain the position have not grown yet.
 use mathlib.Core.Path.{_≡_, refl, _∙_}
 use mathlib.Core.List.{List}
 use Prim.Native.Nat.{ℕ, _+_, _-_}
 use native.Mathlib.Omega.{arith}
 use lib.ListN.{length}
 use denote.Ref.{now}
-use Rattle.grow_splice.specs.Bump.{Mid, Look, look, mid-end, mid-enter, mid-skip, Cut, grown, cut-length, cut-small, cut-start}
+use Rattle.grow_splice.specs.Bump.{Mid, Look, look, mid-end, Cut, grown, cut-length, cut-small, cut-start}
 use Rattle.grow_splice.proofs.enlarge.Statement.{statement}
 use Rattle.grow_splice.proofs.enlarge.Tie as tie
 
@@ -58,7 +58,7 @@ add-put16-3 c = let v = seen (c .before .before .before .before) in omega (arith
 put16-requires-2 : tie.Need-put16-requires-2 Inv-loop μ-loop
 put16-requires-2 c κs =
     let v = seen (c .before .before .before .before) in
-    (omega (arith, v .fits), omega (arith, v .small, v .is, c .before .before .size-at2 .ensures .0))
+    (omega (arith, v .fits), omega (arith, v .small, c .before .before .size-at2 .ensures .0))
 
 add-pos : tie.Need-add-pos Inv-loop μ-loop
 add-pos c = let v = seen (c .before .before .before .before .before .before .before) in omega (arith, v .fits)
@@ -70,8 +70,9 @@ loop-again : tie.Need-loop-again Inv-loop μ-loop
 loop-again c =
     let p = c .before .before in
     let i = p .before .before .before .before .before in (
-      λ g m. mid-enter _ _ _ _ _ _ _ (i .before .loop .inv .0 g m) (i .loop-test .taken) (p .before .before .before .size-at2 .ensures .0)
-          (p .before .before .if1 .taken) (p .put162 .ensures),
+      λ g m. rw (p .put162 .ensures, p .before .before .before .size-at2 .ensures .0)
+          (look _ _ _ _ _ (i .before .loop .inv .0 g m) (i .loop-test .taken) .enter
+          (omega (arith, p .before .before .if1 .taken, p .before .before .before .size-at2 .ensures .0))),
       p .put162 .kept .0 ∙ i .before .loop .inv .1,
     )
 
@@ -80,12 +81,13 @@ add-pos-2 c = omega (arith, c .before .size-at2 .ensures .1, c .if1 .left)
 
 loop-less-2 : tie.Need-loop-less-2 Inv-loop μ-loop
 loop-less-2 c =
-    let v = seen (c .before .before .before) in omega (arith, v .is, v .more, c .before .size-at2 .ensures .0, c .before .before .before .loop-test .taken)
+    let v = seen (c .before .before .before) in omega (arith, v .more, c .before .size-at2 .ensures .0, c .before .before .before .loop-test .taken)
 
 loop-again-2 : tie.Need-loop-again-2 Inv-loop μ-loop
 loop-again-2 c =
     let i = c .before .before .before in (
-      λ g m. mid-skip _ _ _ _ _ _ (i .before .loop .inv .0 g m) (i .loop-test .taken) (c .before .size-at2 .ensures .0) (c .if1 .left),
+      λ g m. rw (c .before .size-at2 .ensures .0)
+          (look _ _ _ _ _ (i .before .loop .inv .0 g m) (i .loop-test .taken) .skip (omega (arith, c .if1 .left, c .before .size-at2 .ensures .0))),
       i .before .loop .inv .1,
     )
 

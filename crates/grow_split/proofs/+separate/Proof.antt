@@ -1,7 +1,8 @@
 -- `grow_split::separate`: a level of the separator. The measure is the length of the row.
 -- In each need: s the start, w the row that stands there, g, z, y, v, o the places after put_group, size_at, copy_in, separate and put16;
--- lf and ml are what the left group and the inner level leave, e whether the split goes on.
+-- ml and nd are what the inner level and the node around it leave.
 use mathlib.Core.Path.{_≡_, refl, sym, _∙_}
+use mathlib.Core.Bool.{true, false}
 use native.Mathlib.Omega.{arith}
 use lib.ListN.{length, length-take}
 use Prim.Native.Nat.{ℕ, _+_, _-_, _<_, _≤_}
@@ -10,8 +11,9 @@ use borrow.Fn.PlainCycle.{Measures, is, falls, and}
 use Rattle.base_layout.specs.Growing.{tolerance-of}
 use Rattle.grow_split_point.specs.Kids.{first-low}
 use Rattle.grow_split_point.specs.Level.{inner-fits}
-use Rattle.grow_split.specs.Separate.{at-x, x-fits, left-group, left-end, env-left, right-group, done-apart}
-use Rattle.grow_split.specs.Separate.{header-room, inner-sep, inner-room, env-inner, rest-group, done-inside}
+use Rattle.grow_split_point.specs.Chosen.{remains, goesInto}
+use Rattle.grow_split.specs.Separate.{Sep, Left, at-x, x-fits, left-group, left-end, env-left, right-group, done-apart}
+use Rattle.grow_split.specs.Separate.{header-room, inner-sep, inner-room, env-inner, node-done, rest-group, done-inside}
 use Rattle.grow_split.proofs.separate.Reads as separate
 use Rattle.grow_split.proofs.separate.Kinds as separate-kinds
 use Rattle.grow_split.proofs.+separate.Lts-separate as separate-lts
@@ -52,265 +54,252 @@ claims t = (
   put16-reads.Learnt,
 )
 
--- the chosen child is in the row
-x-in : (t : ℕ) → (c : separate-lts.After-child (claims t) (separate-at t) separate.Post) → let a = c .before .before .before .before .args in
-    (a .row .pos ≤ c .child .result) × ((c .child .result + 6 ≤ a .row .end) × (a .row .end ≤ length (a .buf .now)))
-x-in t c = let w = c .before .before .before .before .pre .1 .1 .1 .1 in x-fits w (c .child .ensures (w .kids))
+module _ (t : ℕ) where
+  -- where the code was before
+  abbrev to-start : separate-lts.After-child (claims t) (separate-at t) separate.Post → separate-lts.Start (claims t) (separate-at t) separate.Post
+  to-start c = c .before .before .before .before
 
-child-requires : (t : ℕ) → separate-lts.Need-child-requires (claims t) (separate-at t) separate.Post
-child-requires t c κs = c .before .before .before .pre .1 .1 .1 .1 .kids
+  abbrev to-child : separate-lts.After-put-group (claims t) (separate-at t) separate.Post → separate-lts.After-child (claims t) (separate-at t) separate.Post
+  to-child c = c .before .before .before .before .before
 
-sub-put-group : (t : ℕ) → separate-lts.Need-sub-put-group (claims t) (separate-at t) separate.Post
-sub-put-group t c = omega (arith, x-in t c)
+  abbrev to-group : separate-lts.After-size-at (claims t) (separate-at t) separate.Post → separate-lts.After-put-group (claims t) (separate-at t) separate.Post
+  to-group c = c .before .before .before .before .before .before .before
 
-part-put-group-start : (t : ℕ) → separate-lts.Need-part-put-group-start (claims t) (separate-at t) separate.Post
-part-put-group-start t c = omega (arith, x-in t c)
+  abbrev to-size : separate-lts.After-separate (claims t) (separate-at t) separate.Post → separate-lts.After-size-at (claims t) (separate-at t) separate.Post
+  to-size c = c .before .before .before .before .before .before .before .before .before .before
 
-part-put-group-end : (t : ℕ) → separate-lts.Need-part-put-group-end (claims t) (separate-at t) separate.Post
-part-put-group-end t c = omega (arith, x-in t c)
+  -- what separate requires of the row
+  abbrev Given : separate-lts.Start (claims t) (separate-at t) separate.Post → Type 0
+  Given s = let a = s .args in Sep (a .g) (a .row) (a .buf .now) (a .widths .now) (a .image .now) (length (a .out .now) - a .at)
 
-put-group-requires : (t : ℕ) → separate-lts.Need-put-group-requires (claims t) (separate-at t) separate.Post
-put-group-requires t c κs =
-    let s = c .before .before .before .before .before .before .before .before in
-    let w = s .pre .1 .1 .1 .1 in
-    let xe = c .before .before .before .before .child .ensures (w .kids) in
-    (s .pre .1 .0, (s .pre .1 .1 .0, left-group w xe))
+  -- the chosen child is in the row
+  x-in : (c : separate-lts.After-child (claims t) (separate-at t) separate.Post) → let a = to-start c .args in
+      (a .row .pos ≤ c .child .result) × ((c .child .result + 6 ≤ a .row .end) × (a .row .end ≤ length (a .buf .now)))
+  x-in c = let w = to-start c .pre .1 .1 .1 .1 in x-fits w (c .child .ensures (w .kids))
 
-enters-requires : (t : ℕ) → separate-lts.Need-enters-requires (claims t) (separate-at t) separate.Post
-enters-requires t c κs =
-    let s = c .before .before .before .before .before .before .before .before .before .before .before .before .before in
-    let w = s .pre .1 .1 .1 .1 in
-    let xe = c .before .before .before .before .before .before .before .before .before .child .ensures (w .kids) in
-    (omega (arith, x-fits w xe), first-low (at-x w xe))
+  child-requires : separate-lts.Need-child-requires (claims t) (separate-at t) separate.Post
+  child-requires c κs = c .before .before .before .pre .1 .1 .1 .1 .kids
 
-add-inner : (t : ℕ) → separate-lts.Need-add-inner (claims t) (separate-at t) separate.Post
-add-inner t c = omega (arith, x-in t (c .before .before .before .before .before .before .before .before .before .before .before))
+  sub-put-group : separate-lts.Need-sub-put-group (claims t) (separate-at t) separate.Post
+  sub-put-group c = omega (arith, x-in c)
 
-size-at-requires : (t : ℕ) → separate-lts.Need-size-at-requires (claims t) (separate-at t) separate.Post
-size-at-requires t c κs = omega (arith, x-in t (c .before .before .before .before .before .before .before .before .before .before .before))
+  part-put-group-start : separate-lts.Need-part-put-group-start (claims t) (separate-at t) separate.Post
+  part-put-group-start c = omega (arith, x-in c)
 
--- the child that is entered is in the row
-inner-in : (t : ℕ) → (c : separate-lts.After-size-at (claims t) (separate-at t) separate.Post)
-    → let d =
-    c .before .before .before .before .before .before .before .before .before .before .before .before in let a = d .before .before .before .before .args in
-    let x = d .child .result in let k = c .size-at .result in (x + 6 < x + k) × ((x + k ≤ a .row .end) × (a .row .end ≤ length (a .buf .now)))
-inner-in t c =
-    let s = c .before .before .before .before .before .before .before .before .before .before .before .before .before .before .before .before in
-    let w = s .pre .1 .1 .1 .1 in
-    let xe = c .before .before .before .before .before .before .before .before .before .before .before .before .child .ensures (w .kids) in
-    let e = sym (c .before .before .enters .ensures _ (at-x w xe) (w .st) (tolerance-of (w .setup))) ∙ c .before .if1 .taken in
-    inner-fits (at-x w xe) (w .st) e _ (c .size-at .ensures .0)
+  part-put-group-end : separate-lts.Need-part-put-group-end (claims t) (separate-at t) separate.Post
+  part-put-group-end c = omega (arith, x-in c)
 
-add-next : (t : ℕ) → separate-lts.Need-add-next (claims t) (separate-at t) separate.Post
-add-next t c = omega (arith, inner-in t c)
+  put-group-requires : separate-lts.Need-put-group-requires (claims t) (separate-at t) separate.Post
+  put-group-requires c κs =
+      let x = c .before .before .before .before in
+      let s = to-start x in
+      let w = s .pre .1 .1 .1 .1 in
+      (s .pre .1 .0, (s .pre .1 .1 .0, left-group w (x .child .ensures (w .kids))))
 
-sub-copy-in : (t : ℕ) → separate-lts.Need-sub-copy-in (claims t) (separate-at t) separate.Post
-sub-copy-in t c = omega arith
+  -- what the left group leaves
+  left : (c : separate-lts.After-put-group (claims t) (separate-at t) separate.Post)
+      → let a = to-start (to-child c) .args in let z = c .put-group .last .1 in (w : Given (to-start (to-child c)))
+      → Left w (a .at) (to-child c .child .result) (c .put-group .result) (z .1 .0) (z .0) (z .1 .1 .1 .0) (a .out .now)
+  left c w =
+      let is = to-child c .child .ensures (w .kids) in
+      record {
+        is = is;
+        enough = omega (arith, to-start (to-child c) .pre .1 .1 .0);
+        done = c .put-group .ensures (left-group w is);
+        same = c .put-group .kept .1 .1 .1 .1 .0;
+      }
 
-part-copy-in-start : (t : ℕ) → separate-lts.Need-part-copy-in-start (claims t) (separate-at t) separate.Post
-part-copy-in-start t c = omega arith
+  enters-requires : separate-lts.Need-enters-requires (claims t) (separate-at t) separate.Post
+  enters-requires c κs =
+      let x = to-child (c .before .before .before .before) in
+      let w = to-start x .pre .1 .1 .1 .1 in
+      (omega (arith, x-in x), first-low (at-x w (x .child .ensures (w .kids))))
 
-part-copy-in-end : (t : ℕ) → separate-lts.Need-part-copy-in-end (claims t) (separate-at t) separate.Post
-part-copy-in-end t c = omega (arith, x-in t (c .before .before .before .before .before .before .before .before .before .before .before .before))
+  add-inner : separate-lts.Need-add-inner (claims t) (separate-at t) separate.Post
+  add-inner c = omega (arith, x-in (to-child (c .before .before .before .before .before .before)))
 
-copy-in-requires : (t : ℕ) → separate-lts.Need-copy-in-requires (claims t) (separate-at t) separate.Post
-copy-in-requires t c κs =
-    let g = c .before .before .before .before .before .before .before .before .before in
-    let s = g .before .before .before .before .before .before .before .before .before in
-    let w = s .pre .1 .1 .1 .1 in
-    let xe = g .before .before .before .before .before .child .ensures (w .kids) in
-    let h : s .args .at + (length (s .args .out .now) - s .args .at) ≤ length (s .args .out .now) = omega (arith, s .pre .1 .1 .0) in
-    let lf = g .put-group .ensures (left-group w xe) in
-    let e = sym (c .before .before .before .before .enters .ensures _ (at-x w xe) (w .st) (tolerance-of (w .setup)))
-    ∙ c .before .before .before .if1 .taken in
-    simp length-take (omega (arith, header-room w xe e lf h, g .put-group .kept .1 .1 .1 .1 .0))
+  size-at-requires : separate-lts.Need-size-at-requires (claims t) (separate-at t) separate.Post
+  size-at-requires c κs = omega (arith, x-in (to-child (c .before .before .before .before .before .before)))
 
-add-separate : (t : ℕ) → separate-lts.Need-add-separate (claims t) (separate-at t) separate.Post
-add-separate t c =
-    let c₁ = c .before .before .before .before .before .before .before .before .before in
-    let c₂ = c₁ .before .before .before .before .before .before .before .before .before in
-    let g = c₁ .before .before .before .before .before .before .before in
-    let s = c₂ .before .before .before .before .before .before .before in
-    let w = s .pre .1 .1 .1 .1 in
-    let xe = c₂ .before .before .before .child .ensures (w .kids) in
-    let h : s .args .at + (length (s .args .out .now) - s .args .at) ≤ length (s .args .out .now) = omega (arith, s .pre .1 .1 .0) in
-    let lf = g .put-group .ensures (left-group w xe) in
-    let e = sym (c₁ .before .before .enters .ensures _ (at-x w xe) (w .st) (tolerance-of (w .setup))) ∙ c₁ .before .if1 .taken in
-    omega (arith, header-room w xe e lf h, s .pre .1 .1 .1 .0)
+  -- the split goes on in the chosen child,
+  into : (c : separate-lts.After-size-at (claims t) (separate-at t) separate.Post) → let s = to-start (to-child (to-group c)) in
+      (w : Given s) → goesInto (w .st) (remains (s .args .row .p) (s .args .row .pos) (w .kids .row)) ≡ true
+  into c w =
+      sym (c .before .before .enters .ensures _ (at-x w (left (to-group c) w .is)) (w .st) (tolerance-of (w .setup))) ∙ c .before .if1 .taken
 
-separate-requires : (t : ℕ) → separate-lts.Need-separate-requires (claims t) (separate-at t) separate.Post
-separate-requires t c κs =
-    let y = c .before .before .before .before .before .before in
-    let z = y .before .before .before in
-    let g = z .before .before .before .before .before .before .before in
-    let s = g .before .before .before .before .before .before .before .before .before in
-    let w = s .pre .1 .1 .1 .1 in
-    let xe = g .before .before .before .before .before .child .ensures (w .kids) in
-    let h : s .args .at + (length (s .args .out .now) - s .args .at) ≤ length (s .args .out .now) = omega (arith, s .pre .1 .1 .0) in
-    let lf = g .put-group .ensures (left-group w xe) in
-    let e = sym (z .before .before .enters .ensures _ (at-x w xe) (w .st) (tolerance-of (w .setup))) ∙ z .before .if1 .taken in
-    let k = y .copy-in .kept .1 .0 ∙ g .put-group .kept .1 .1 .1 .1 .0 in (
-      omega (arith, s .pre .0, x-in t (g .before .before .before .before .before), inner-in t z),
-      (
-        env-left w xe lf (s .pre .1 .0) (g .put-group .kept .1 .0),
-        (omega (arith, header-room w xe e lf h, k), (omega (arith, s .pre .1 .1 .1 .0, k), inner-sep w xe e lf h _ (z .size-at .ensures .0) _ k)),
-      ),
-    )
+  -- which is in the row
+  inner-in : (c : separate-lts.After-size-at (claims t) (separate-at t) separate.Post) → let x = to-child (to-group c) .child .result in
+      let a = to-start (to-child (to-group c)) .args in let k = c .size-at .result in
+      (x + 6 < x + k) × ((x + k ≤ a .row .end) × (a .row .end ≤ length (a .buf .now)))
+  inner-in c =
+      let w = to-start (to-child (to-group c)) .pre .1 .1 .1 .1 in
+      inner-fits (at-x w (left (to-group c) w .is)) (w .st) (into c w) _ (c .size-at .ensures .0)
 
--- what the inner level wrote is in out
-inner-out : (t : ℕ) → (c : separate-lts.After-separate (claims t) (separate-at t) separate.Post)
-    → let b =
-    c .before .before .before .before .before .before .before .before .before .before .before .before .before .before .before .before .before in let a =
-    b .before .before .before .before .before .before .before .before .before .args in
-    (b .put-group .result .end + 6 ≤ c .separate .result .end) × ((c .separate .result .end ≤ length (a .out .now))
-    × ((length (c .separate .last .1 .1 .1 .1 .1 .0) ≡ length (a .out .now)) × (length (a .out .now) < 65536)))
-inner-out t c =
-    let v = c in
-    let y = c .before .before .before .before .before .before .before in
-    let z = y .before .before .before in
-    let g = z .before .before .before .before .before .before .before in
-    let s = g .before .before .before .before .before .before .before .before .before in
-    let w = s .pre .1 .1 .1 .1 in
-    let xe = g .before .before .before .before .before .child .ensures (w .kids) in
-    let h : s .args .at + (length (s .args .out .now) - s .args .at) ≤ length (s .args .out .now) = omega (arith, s .pre .1 .1 .0) in
-    let lf = g .put-group .ensures (left-group w xe) in
-    let e = sym (z .before .before .enters .ensures _ (at-x w xe) (w .st) (tolerance-of (w .setup))) ∙ z .before .if1 .taken in
-    let k = y .copy-in .kept .1 .0 ∙ g .put-group .kept .1 .1 .1 .1 .0 in
-    let ml = v .separate .ensures (inner-sep w xe e lf h _ (z .size-at .ensures .0) (length (y .copy-in .last .1 .0)) k) in
-    omega (arith, inner-room w xe e lf h ml, s .pre .1 .1 .1 .0, v .separate .kept .1 .1 .1 .1 .1 .0, k)
+  add-next : separate-lts.Need-add-next (claims t) (separate-at t) separate.Post
+  add-next c = omega (arith, inner-in c)
 
-add-put16 : (t : ℕ) → separate-lts.Need-add-put16 (claims t) (separate-at t) separate.Post
-add-put16 t c = omega (arith, inner-out t (c .before .before .before .before .before .before))
+  sub-copy-in : separate-lts.Need-sub-copy-in (claims t) (separate-at t) separate.Post
+  sub-copy-in c = omega arith
 
-sub-put16 : (t : ℕ) → separate-lts.Need-sub-put16 (claims t) (separate-at t) separate.Post
-sub-put16 t c = omega (arith, inner-out t (c .before .before .before .before .before .before .before .before))
+  part-copy-in-start : separate-lts.Need-part-copy-in-start (claims t) (separate-at t) separate.Post
+  part-copy-in-start c = omega arith
 
-put16-requires : (t : ℕ) → separate-lts.Need-put16-requires (claims t) (separate-at t) separate.Post
-put16-requires t c κs = omega (arith, inner-out t (c .before .before .before .before .before .before .before .before))
+  part-copy-in-end : separate-lts.Need-part-copy-in-end (claims t) (separate-at t) separate.Post
+  part-copy-in-end c = omega (arith, x-in (to-child (to-group c)))
 
-sub-put-group-2 : (t : ℕ) → separate-lts.Need-sub-put-group-2 (claims t) (separate-at t) separate.Post
-sub-put-group-2 t c =
-    let c₁ = c .before .before .before .before .before .before .before .before .before .before .before .before .before .before .before .before .before in
-    omega (arith, inner-in t (c₁ .before .before .before .before))
+  -- its header has room in out
+  header-in : (c : separate-lts.After-size-at (claims t) (separate-at t) separate.Post) → let z = to-group c .put-group in
+      let n = length (to-start (to-child (to-group c)) .args .out .now) in
+      (z .result .end + 6 ≤ n) × ((length (z .last .1 .1 .1 .1 .0) ≡ n) × (n < 65536))
+  header-in c =
+      let g = to-group c in
+      let s = to-start (to-child g) in
+      let w = s .pre .1 .1 .1 .1 in
+      omega (arith, header-room (left g w) (into c w), g .put-group .kept .1 .1 .1 .1 .0, s .pre .1 .1 .1 .0)
 
-part-put-group-start-2 : (t : ℕ) → separate-lts.Need-part-put-group-start-2 (claims t) (separate-at t) separate.Post
-part-put-group-start-2 t c =
-    let c₁ = c .before .before .before .before .before .before .before .before .before .before .before .before .before .before .before .before .before in
-    omega (arith, inner-in t (c₁ .before .before .before .before))
+  copy-in-requires : separate-lts.Need-copy-in-requires (claims t) (separate-at t) separate.Post
+  copy-in-requires c κs = simp length-take (omega (arith, header-in (c .before .before)))
 
-part-put-group-end-2 : (t : ℕ) → separate-lts.Need-part-put-group-end-2 (claims t) (separate-at t) separate.Post
-part-put-group-end-2 t c =
-    let c₁ = c .before .before .before .before .before .before .before .before .before .before .before .before .before .before .before .before .before in
-    omega (arith, inner-in t (c₁ .before .before .before .before))
+  add-separate : separate-lts.Need-add-separate (claims t) (separate-at t) separate.Post
+  add-separate c = omega (arith, header-in (c .before .before .before .before .before .before .before .before .before))
 
-put-group-requires-2 : (t : ℕ) → separate-lts.Need-put-group-requires-2 (claims t) (separate-at t) separate.Post
-put-group-requires-2 t c κs =
-    let o = c .before .before .before .before .before .before in
-    let v = o .before .before .before .before .before .before .before .before .before in
-    let y = v .before .before .before .before .before .before .before in
-    let z = y .before .before .before in
-    let g = z .before .before .before .before .before .before .before in
-    let s = g .before .before .before .before .before .before .before .before .before in
-    let w = s .pre .1 .1 .1 .1 in
-    let xe = g .before .before .before .before .before .child .ensures (w .kids) in
-    let h : s .args .at + (length (s .args .out .now) - s .args .at) ≤ length (s .args .out .now) = omega (arith, s .pre .1 .1 .0) in
-    let lf = g .put-group .ensures (left-group w xe) in
-    let e = sym (z .before .before .enters .ensures _ (at-x w xe) (w .st) (tolerance-of (w .setup))) ∙ z .before .if1 .taken in
-    let k = y .copy-in .kept .1 .0 ∙ g .put-group .kept .1 .1 .1 .1 .0 in
-    let ml = v .separate .ensures (inner-sep w xe e lf h _ (z .size-at .ensures .0) (length (y .copy-in .last .1 .0)) k) in
-    let m = o .put16 .kept .0 ∙ v .separate .kept .1 .1 .1 .1 .1 .0 ∙ k in (
-      env-inner w xe e lf h ml (env-left w xe lf (s .pre .1 .0) (g .put-group .kept .1 .0)) (v .separate .kept .1 .1 .0),
-      (omega (arith, inner-out t v, m), rest-group w xe e lf h ml _ (z .size-at .ensures .0) _ m),
-    )
+  separate-requires : separate-lts.Need-separate-requires (claims t) (separate-at t) separate.Post
+  separate-requires c κs =
+      let y = c .before .before .before .before .before .before in
+      let z = y .before .before .before in
+      let g = to-group z in
+      let s = to-start (to-child g) in
+      let w = s .pre .1 .1 .1 .1 in
+      let k = y .copy-in .kept .1 .0 in (
+        omega (arith, s .pre .0, x-in (to-child g), inner-in z),
+        (
+          env-left (left g w) (s .pre .1 .0) (g .put-group .kept .1 .0),
+          (omega (arith, header-in z, k), (omega (arith, header-in z, k), inner-sep (left g w) (into z w) _ (z .size-at .ensures .0) _ k)),
+        ),
+      )
 
-same-length : (t : ℕ) → separate-lts.Need-same-length (claims t) (separate-at t) separate.Post
-same-length t c =
-    let o = c .before .before .before .before .before .before .before .before .before .before .before .before .before .before in
-    let v = o .before .before .before .before .before .before .before .before .before in
-    let y = v .before .before .before .before .before .before .before in
-    let g = y .before .before .before .before .before .before .before .before .before .before in
-    c .before .before .before .before .before .before .before .put-group2 .kept .1 .0 ∙ v .separate .kept .1 .1 .0 ∙ g .put-group .kept .1 .0
+  -- what the inner level wrote is in out
+  inner-out : (v : separate-lts.After-separate (claims t) (separate-at t) separate.Post) → let g = to-group (to-size v) in
+      let n = length (to-start (to-child g) .args .out .now) in (g .put-group .result .end + 6 ≤ v .separate .result .end) × ((v .separate .result .end ≤ n)
+      × ((length (v .separate .last .1 .1 .1 .1 .1 .0) ≡ n) × (n < 65536)))
+  inner-out v =
+      let y = v .before .before .before .before .before .before .before in
+      let z = y .before .before .before in
+      let g = to-group z in
+      let w = to-start (to-child g) .pre .1 .1 .1 .1 in
+      let k = y .copy-in .kept .1 .0 in
+      let ml = v .separate .ensures (inner-sep (left g w) (into z w) _ (z .size-at .ensures .0) (length (y .copy-in .last .1 .0)) k) in
+      omega (arith, inner-room (left g w) (into z w) ml, header-in z, v .separate .kept .1 .1 .1 .1 .1 .0, k)
 
-same-length-2 : (t : ℕ) → separate-lts.Need-same-length-2 (claims t) (separate-at t) separate.Post
-same-length-2 t c =
-    let o = c .before .before .before .before .before .before .before .before .before .before .before .before .before .before in
-    let v = o .before .before .before .before .before .before .before .before .before in
-    let y = v .before .before .before .before .before .before .before in
-    let g = y .before .before .before .before .before .before .before .before .before .before in
-    let k = y .copy-in .kept .1 .0 ∙ g .put-group .kept .1 .1 .1 .1 .0 in
-    let m = o .put16 .kept .0 ∙ v .separate .kept .1 .1 .1 .1 .1 .0 ∙ k in
-    c .before .before .before .before .before .before .before .put-group2 .kept .1 .1 .1 .1 .0 ∙ m
+  add-put16 : separate-lts.Need-add-put16 (claims t) (separate-at t) separate.Post
+  add-put16 c = omega (arith, inner-out (c .before .before .before .before .before .before))
 
-returns : (t : ℕ) → separate-lts.Need-returns (claims t) (separate-at t) separate.Post
-returns t c =
-    let c₁ = c .before .before .before .before .before .before .before in
-    let c₂ = c₁ .before .before .before .before .before .before .before in
-    let c₃ = c₂ .before .before .before .before .before .before .before in
-    let c₄ = c₃ .before .before .before .before .before .before .before in
-    let c₅ = c₄ .before .before .before .before .before .before .before in
-    let c₆ = c₅ .before .before .before .before .before .before .before in
-    λ w.
-    let o = c₂ in
-    let v = c₃ .before .before in
-    let y = c₄ .before .before in
-    let z = y .before .before .before in
-    let g = c₅ .before .before .before .before .before in
-    let s = c₆ .before .before .before .before .before .before .before in
-    let xe = c₆ .before .before .before .child .ensures (w .kids) in
-    let h : s .args .at + (length (s .args .out .now) - s .args .at) ≤ length (s .args .out .now) = omega (arith, s .pre .1 .1 .0) in
-    let lf = g .put-group .ensures (left-group w xe) in
-    let e = sym (c₅ .enters .ensures _ (at-x w xe) (w .st) (tolerance-of (w .setup))) ∙ z .before .if1 .taken in
-    let k = y .copy-in .kept .1 .0 ∙ g .put-group .kept .1 .1 .1 .1 .0 in
-    let ml = v .separate .ensures (inner-sep w xe e lf h _ (z .size-at .ensures .0) (length (y .copy-in .last .1 .0)) k) in
-    let m = o .put16 .kept .0 ∙ v .separate .kept .1 .1 .1 .1 .1 .0 ∙ k in
-    let rl = c₁ .put-group2 .ensures (rest-group w xe e lf h ml _ (z .size-at .ensures .0) (length (o .put16 .last .0)) m) in
-    done-inside w xe e lf h ml _ _ (z .size-at .ensures .0) refl (y .copy-in .ensures) (o .put16 .ensures) rl (g .put-group .kept .1 .1 .1 .1 .0)
+  sub-put16 : separate-lts.Need-sub-put16 (claims t) (separate-at t) separate.Post
+  sub-put16 c = omega (arith, inner-out (c .before .before .before .before .before .before .before .before))
 
-sub-put-group-3 : (t : ℕ) → separate-lts.Need-sub-put-group-3 (claims t) (separate-at t) separate.Post
-sub-put-group-3 t c = omega (arith, x-in t (c .before .before .before .before .before .before .before .before .before .before .before))
+  put16-requires : separate-lts.Need-put16-requires (claims t) (separate-at t) separate.Post
+  put16-requires c κs = omega (arith, inner-out (c .before .before .before .before .before .before .before .before))
 
-part-put-group-start-3 : (t : ℕ) → separate-lts.Need-part-put-group-start-3 (claims t) (separate-at t) separate.Post
-part-put-group-start-3 t c = omega (arith, x-in t (c .before .before .before .before .before .before .before .before .before .before .before))
+  sub-put-group-2 : separate-lts.Need-sub-put-group-2 (claims t) (separate-at t) separate.Post
+  sub-put-group-2 c = omega (arith, inner-in (to-size (c .before .before .before .before .before .before .before .before .before .before .before)))
 
-part-put-group-end-3 : (t : ℕ) → separate-lts.Need-part-put-group-end-3 (claims t) (separate-at t) separate.Post
-part-put-group-end-3 t c = omega (arith, x-in t (c .before .before .before .before .before .before .before .before .before .before .before))
+  part-put-group-start-2 : separate-lts.Need-part-put-group-start-2 (claims t) (separate-at t) separate.Post
+  part-put-group-start-2 c = omega (arith, inner-in (to-size (c .before .before .before .before .before .before .before .before .before .before .before)))
 
-put-group-requires-3 : (t : ℕ) → separate-lts.Need-put-group-requires-3 (claims t) (separate-at t) separate.Post
-put-group-requires-3 t c κs =
-    let g = c .before .before .before .before .before .before .before .before .before .before in
-    let s = g .before .before .before .before .before .before .before .before .before in
-    let w = s .pre .1 .1 .1 .1 in
-    let xe = g .before .before .before .before .before .child .ensures (w .kids) in
-    let h : s .args .at + (length (s .args .out .now) - s .args .at) ≤ length (s .args .out .now) = omega (arith, s .pre .1 .1 .0) in
-    let lf = g .put-group .ensures (left-group w xe) in
-    let e = sym (c .before .before .before .before .before .enters .ensures _ (at-x w xe) (w .st) (tolerance-of (w .setup)))
-    ∙ c .before .before .before .before .if1 .left in
-    let k = g .put-group .kept .1 .1 .1 .1 .0 in
-    (env-left w xe lf (s .pre .1 .0) (g .put-group .kept .1 .0), (omega (arith, left-end w xe lf h, k), right-group w xe e lf h k))
+  part-put-group-end-2 : separate-lts.Need-part-put-group-end-2 (claims t) (separate-at t) separate.Post
+  part-put-group-end-2 c = omega (arith, inner-in (to-size (c .before .before .before .before .before .before .before .before .before .before .before)))
 
-same-length-3 : (t : ℕ) → separate-lts.Need-same-length-3 (claims t) (separate-at t) separate.Post
-same-length-3 t c =
-    let c₁ = c .before .before .before .before .before .before .before .before .before .before .before .before .before .before .before in
-    c .before .before .before .before .before .before .put-group3 .kept .1 .0 ∙ c₁ .before .before .put-group .kept .1 .0
+  put-group-requires-2 : separate-lts.Need-put-group-requires-2 (claims t) (separate-at t) separate.Post
+  put-group-requires-2 c κs =
+      let o = c .before .before .before .before .before .before in
+      let v = o .before .before .before .before .before .before .before .before .before in
+      let y = v .before .before .before .before .before .before .before in
+      let z = y .before .before .before in
+      let g = to-group z in
+      let s = to-start (to-child g) in
+      let w = s .pre .1 .1 .1 .1 in
+      let k = y .copy-in .kept .1 .0 in
+      let ml = v .separate .ensures (inner-sep (left g w) (into z w) _ (z .size-at .ensures .0) (length (y .copy-in .last .1 .0)) k) in
+      let nd = node-done (left g w) (into z w) ml _ _ (z .size-at .ensures .0) refl (y .copy-in .ensures) (o .put16 .ensures) in
+      let m = o .put16 .kept .0 ∙ v .separate .kept .1 .1 .1 .1 .1 .0 ∙ k in (
+        env-inner (left g w) (into z w) ml (env-left (left g w) (s .pre .1 .0) (g .put-group .kept .1 .0)) (v .separate .kept .1 .1 .0),
+        (omega (arith, inner-out v, m, header-in z), rest-group (left g w) (into z w) nd _ (z .size-at .ensures .0) _ m),
+      )
 
-same-length-4 : (t : ℕ) → separate-lts.Need-same-length-4 (claims t) (separate-at t) separate.Post
-same-length-4 t c =
-    let c₁ = c .before .before .before .before .before .before .before .before .before .before .before .before .before .before .before in
-    c .before .before .before .before .before .before .put-group3 .kept .1 .1 .1 .1 .0 ∙ c₁ .before .before .put-group .kept .1 .1 .1 .1 .0
+  same-length : separate-lts.Need-same-length (claims t) (separate-at t) separate.Post
+  same-length c =
+      let p = c .before .before .before .before .before .before .before in
+      let v = p .before .before .before .before .before .before .before .before .before .before .before .before .before .before .before .before in
+      p .put-group2 .kept .1 .0 ∙ v .separate .kept .1 .1 .0 ∙ to-group (to-size v) .put-group .kept .1 .0
 
-returns-2 : (t : ℕ) → separate-lts.Need-returns-2 (claims t) (separate-at t) separate.Post
-returns-2 t c =
-    let c₁ = c .before .before .before .before .before .before .before .before .before .before .before in
-    let c₂ = c₁ .before .before .before .before .before .before .before .before .before .before .before in
-    λ w.
-    let g = c₁ .before .before .before .before .before .before in
-    let s = c₂ .before .before .before .before in
-    let xe = c₂ .child .ensures (w .kids) in
-    let h : s .args .at + (length (s .args .out .now) - s .args .at) ≤ length (s .args .out .now) = omega (arith, s .pre .1 .1 .0) in
-    let lf = g .put-group .ensures (left-group w xe) in
-    let e = sym (c₁ .before .enters .ensures _ (at-x w xe) (w .st) (tolerance-of (w .setup))) ∙ c₁ .if1 .left in
-    done-apart w xe e lf h (c .before .before .before .before .before .before .put-group3 .ensures
-    (right-group w xe e lf h (g .put-group .kept .1 .1 .1 .1 .0)))
+  same-length-2 : separate-lts.Need-same-length-2 (claims t) (separate-at t) separate.Post
+  same-length-2 c =
+      let p = c .before .before .before .before .before .before .before in
+      let o = p .before .before .before .before .before .before .before in
+      let v = o .before .before .before .before .before .before .before .before .before in
+      let y = v .before .before .before .before .before .before .before in
+      p .put-group2 .kept .1 .1 .1 .1 .0 ∙ o .put16 .kept .0 ∙ v .separate .kept .1 .1 .1 .1 .1 .0 ∙ y .copy-in .kept .1 .0
+      ∙ to-group (y .before .before .before) .put-group .kept .1 .1 .1 .1 .0
+
+  returns : separate-lts.Need-returns (claims t) (separate-at t) separate.Post
+  returns c =
+      λ w.
+      let p = c .before .before .before .before .before .before .before in
+      let o = p .before .before .before .before .before .before .before in
+      let v = o .before .before .before .before .before .before .before .before .before in
+      let y = v .before .before .before .before .before .before .before in
+      let z = y .before .before .before in
+      let g = to-group z in
+      let k = y .copy-in .kept .1 .0 in
+      let ml = v .separate .ensures (inner-sep (left g w) (into z w) _ (z .size-at .ensures .0) (length (y .copy-in .last .1 .0)) k) in
+      let nd = node-done (left g w) (into z w) ml _ _ (z .size-at .ensures .0) refl (y .copy-in .ensures) (o .put16 .ensures) in
+      let m = o .put16 .kept .0 ∙ v .separate .kept .1 .1 .1 .1 .1 .0 ∙ k in
+      done-inside (left g w) (into z w) nd
+      (p .put-group2 .ensures (rest-group (left g w) (into z w) nd _ (z .size-at .ensures .0) (length (o .put16 .last .0)) m))
+
+  sub-put-group-3 : separate-lts.Need-sub-put-group-3 (claims t) (separate-at t) separate.Post
+  sub-put-group-3 c = omega (arith, x-in (to-child (c .before .before .before .before .before .before)))
+
+  part-put-group-start-3 : separate-lts.Need-part-put-group-start-3 (claims t) (separate-at t) separate.Post
+  part-put-group-start-3 c = omega (arith, x-in (to-child (c .before .before .before .before .before .before)))
+
+  part-put-group-end-3 : separate-lts.Need-part-put-group-end-3 (claims t) (separate-at t) separate.Post
+  part-put-group-end-3 c = omega (arith, x-in (to-child (c .before .before .before .before .before .before)))
+
+  -- the chosen child is d
+  stops : (c : separate-lts.Else1 (claims t) (separate-at t) separate.Post)
+      → let s = to-start (to-child (c .before .before .before .before .before .before)) in
+      (w : Given s) → goesInto (w .st) (remains (s .args .row .p) (s .args .row .pos) (w .kids .row)) ≡ false
+  stops c w =
+      let g = c .before .before .before .before .before .before in
+      sym (c .before .enters .ensures _ (at-x w (left g w .is)) (w .st) (tolerance-of (w .setup))) ∙ c .if1 .left
+
+  put-group-requires-3 : separate-lts.Need-put-group-requires-3 (claims t) (separate-at t) separate.Post
+  put-group-requires-3 c κs =
+      let e = c .before .before .before .before in
+      let g = e .before .before .before .before .before .before in
+      let s = to-start (to-child g) in
+      let w = s .pre .1 .1 .1 .1 in
+      (env-left (left g w) (s .pre .1 .0) (g .put-group .kept .1 .0), (left-end (left g w), right-group (left g w) (stops e w)))
+
+  same-length-3 : separate-lts.Need-same-length-3 (claims t) (separate-at t) separate.Post
+  same-length-3 c =
+      let p = c .before .before .before .before .before .before in
+      p .put-group3 .kept .1 .0 ∙ p .before .before .before .before .before .before .before .before .before .before .before .put-group .kept .1 .0
+
+  same-length-4 : separate-lts.Need-same-length-4 (claims t) (separate-at t) separate.Post
+  same-length-4 c =
+      let p = c .before .before .before .before .before .before in
+      let g = p .before .before .before .before .before .before .before .before .before .before .before in
+      p .put-group3 .kept .1 .1 .1 .1 .0 ∙ g .put-group .kept .1 .1 .1 .1 .0
+
+  returns-2 : separate-lts.Need-returns-2 (claims t) (separate-at t) separate.Post
+  returns-2 c =
+      λ w.
+      let p = c .before .before .before .before .before .before in
+      let e = p .before .before .before .before .before in
+      let g = e .before .before .before .before .before .before in
+      done-apart (left g w) (stops e w) (p .put-group3 .ensures (right-group (left g w) (stops e w)))
 
 pub +separate-spec : {M : Type 1} → statement M
 +separate-spec = close μ-separate λ t. separate-lts.spec (claims t)

@@ -12,15 +12,18 @@ use Rattle.grow_write_back.proofs.leave.Tie as tie
 returns : tie.Need-returns
 returns c =
     let a = c .before .before .args in
-    λ stays e. left-settled (a .settled) (a .g) (a .used .now) (a .image .now) (c .if1 .taken) stays e
+    λ stays e. left-settled (a .settled) (a .g) (a .widths .now) (a .image .now) (c .if1 .taken) stays e
 
-element-write-used : tie.Need-element-write-used
-element-write-used c = search needs
+mul-widths : tie.Need-mul-widths
+mul-widths c = search needs
+
+element-write-widths : tie.Need-element-write-widths
+element-write-widths c = search needs
 
 returns-2 : tie.Need-returns-2
 returns-2 c =
     let a = c .before .before .before .args in
-    λ stays e. left-marked (a .settled) (a .g) (a .used .now) (a .image .now) _ (c .before .if1 .left)
+    λ stays e. left-marked (a .settled) (a .g) (a .widths .now) (a .image .now) _ (c .before .if1 .left)
     (still (a .g .dry) (a .image .now) (a .image .now) (setPage (a .g .near) blank (a .image .now)) (ap not (c .if2 .taken)) refl) stays e
 
 clear-page-requires : tie.Need-clear-page-requires
@@ -32,10 +35,10 @@ same-length c = search needs
 returns-3 : tie.Need-returns-3
 returns-3 c =
     let a = c .before .before .before .before .before .before .before .args in
-    λ stays e. left-marked (a .settled) (a .g) (a .used .now) (a .image .now) _ (c .before .before .before .before .before .if1 .left)
+    λ stays e. left-marked (a .settled) (a .g) (a .widths .now) (a .image .now) _ (c .before .before .before .before .before .if1 .left)
     (wet (a .g .dry) _ (a .image .now) (setPage (a .g .near) blank (a .image .now)) (ap not (c .before .before .before .before .if2 .left))
     (c .before .before .clear-page .ensures)) stays e
 
 pub leave-spec : {M : Type 1} → statement M
 leave-spec =
-    tie.close (tie.spec returns element-write-used returns-2 clear-page-requires same-length returns-3)
+    tie.close (tie.spec returns mul-widths element-write-widths returns-2 clear-page-requires same-length returns-3)

@@ -1,13 +1,12 @@
 -- Format: a root aggregate alone, or the image as it was.
 use mathlib.Core.Bool.{not, _&&_}
 use mathlib.Core.List.{List, [], _∷_}
-use mathlib.Core.Path.{_≡_}
 use Prim.Native.Nat.{ℕ, _/_, _<_}
 use lib.ListN.{length}
 use lib.Dec.{eqb}
 use Rattle.model.specs.Limits.{pageSize}
 use Rattle.model.specs.Row.{Head, nil, agg, Config, image, inRange}
-use Rattle.model.specs.Tree.{Tree, end, branch}
+use Rattle.model.specs.Tree.{end, branch}
 use Rattle.model.specs.Growth.{noWork}
 use Rattle.model.specs.Reading.{lengthOk}
 use Rattle.model.specs.Answers.{wrongLength, wrongSettings, lowest}

@@ -1,18 +1,16 @@
 -- `store::insert` meets its contract: an image that does not pass gives the check's number and stays as it is.
-use mathlib.Core.Path.{sym, ap, _∙_}
+use mathlib.Core.Path.{refl, sym, ap, _∙_}
 use mathlib.Core.List.{List}
 use Prim.Native.Nat.{ℕ}
 use borrow.Author.Needs.{needs}
 use denote.Ref.{now}
-use lib.ListN.{length-replicate}
-use Rattle.model.specs.Limits.{mostPages}
 use Rattle.model.specs.declared.InsertAnswer.{InsertAnswer}
 use Rattle.store.specs.Refused.{insert-refused}
 use Rattle.store.proofs.insert.Statement.{statement}
 use Rattle.store.proofs.insert.Tie as tie
 
 check-widths-requires : tie.Need-check-widths-requires
-check-widths-requires c κs = length-replicate {A = ℕ} mostPages 0
+check-widths-requires c κs = refl
 
 same-length : tie.Need-same-length
 same-length c = search needs

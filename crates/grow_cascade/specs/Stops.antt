@@ -1,0 +1,185 @@
+-- The record stays on its page, because it fits or is settled: its new row, or the separator of it, is written there, and growth stops.
+use mathlib.Core.Path.{_≡_, sym, ap, subst, _∙_}
+use mathlib.Core.Bool.{Bool, true, false, cond, _||_, or-true}
+use mathlib.Core.List.{List}
+use Prim.Native.Nat.{ℕ, suc, _+_, _<_, _≤_}
+use native.Mathlib.Omega.{arith}
+use native.Mathlib.Numerals.{add-one}
+use borrow.Author.Tests.{le-leb, lt-leb}
+use lib.Dec.{eqb, leb}
+use lib.ListN.{length, take}
+use lib.IntN.{ℤ, subℕ}
+use Rattle.model.specs.Limits.{capacity}
+use Rattle.model.specs.Row.{Row, size, lone, bytes, recordSize, recordBytes, Config}
+use Rattle.model.specs.Reading.{pageOf}
+use Rattle.theory_rows.specs.Bound.{split-good}
+use Rattle.grow_write_back.specs.Leaning.{Leaning}
+use Rattle.model.specs.Growth.{noWork, Work, Out, onRow, separator, counted, kept, splitPoint, startOfD, rise}
+use Rattle.model.specs.Claims.{InLean}
+use Rattle.theory_rows.specs.Fits.{Shape}
+use Rattle.model.specs.Tree.{breadth, width}
+use Rattle.theory_rows.specs.Laws.{length-bytes, cond-case, breadth-shown}
+use Rattle.theory_rows.specs.Shows.{shown-separator}
+use Rattle.theory_rows.specs.Keeps.{separator-lone}
+use Rattle.theory_growth.specs.Store.{settled-lone}
+use Rattle.base_numbers.specs.Over.{take-over}
+use Rattle.model.specs.Spot.{Chain, lastPage}
+use Rattle.theory_growth.specs.Chain.{lastSettled, lastHolder, whole}
+use Rattle.theory_growth.specs.Keeps.{growing-splits}
+use Rattle.theory_places.specs.Widths.{told-same}
+use Rattle.theory_growth.specs.Told.{told-swap}
+use Rattle.theory_page_memory.specs.Memory.{Mem, putMem, separatorMem, keptMem, riseMem}
+use Rattle.theory_page_memory.specs.Around.{kept-low, rise-stays, mem-stays}
+use Rattle.grow_pages.specs.Links.{Below}
+use Rattle.grow_pages.specs.Relinked.{After, after-then, written, after-written}
+use Rattle.base_layout.specs.declared.Growing.{Growing}
+use Rattle.base_layout.specs.declared.Setup.{Setup}
+use Rattle.grow_groups.specs.declared.Output.{Output}
+use Rattle.grow_split.specs.Severed.{Severed}
+use Rattle.grow_write_back.specs.Content.{Content}
+use Rattle.grow_write_back.specs.Off.{leftImage, SplitOff}
+use Rattle.theory_rows.specs.Pages.{or-right}
+use Rattle.grow_split.specs.Tells.{Keeps}
+use Rattle.grow_cascade.specs.Rising.{Rising, Risen, risen-by, valid, inside, long-image, some, good, named-used, tabled}
+
+-- The lean after one split more.
+abbrev pub leanNow : (st : Config) → (row : Row) → (count : ℕ) → (lean : ℤ) → ℤ
+leanNow st row k lean = cond (eqb k 0) (subℕ (startOfD st row) (splitPoint st (recordSize row))) lean
+
+pub leaning-in : {l : List ℕ} {s : Setup} (w : Leaning l s) → InLean (subℕ (startOfD (w .st) (w .row)) (splitPoint (w .st) (recordSize (w .row))))
+leaning-in w = split-good (w .st) (w .ranges) 0 (w .row) noWork (w .fits) (w .big) (w .most) (w .deep) .lean
+
+pub lean-in : (st : Config) (row : Row) (k : ℕ) (lean : ℤ) → InLean lean → InLean (subℕ (startOfD st row) (splitPoint st (recordSize row)))
+    → InLean (leanNow st row k lean)
+lean-in st row k lean a b = cond-case InLean (eqb k 0) (λ _. b) (λ _. a)
+
+-- A separator shows as many nodes as the record.
+pub separator-width : (st : Config) (near : ℕ) (r : Row) (w : Work) → width r ≡ width (separator st near r w .0)
+separator-width st near r w =
+    sym (breadth-shown r) ∙ ap breadth (sym (shown-separator st near r w)) ∙ breadth-shown (separator st near r w .0)
+
+left-stays : (g : Growing) (img : List ℕ) → leftImage g true img ≡ img
+left-stays g img = rw or-true
+
+lone-bytes : (r : Row) → lone r ≡ true → recordBytes r ≡ bytes r
+lone-bytes r e = rw e
+
+lone-size : (r : Row) → lone r ≡ true → recordSize r ≡ size r
+lone-size r e = ap (λ (b : Bool). cond b 0 6 + size r) e ∙ omega arith
+
+-- The split of a record that stays on its page.
+kept-big : (st : Config) (q : ℕ) (o : Out) → capacity < recordSize (o .0) → kept st q o ≡ separator st q (o .0) (counted st (o .0) (o .1))
+unfolding kept
+kept-big st q o k = rw (lt-leb (recordSize (o .0)) capacity k)
+
+module _ {st : Config} {was : List ℕ} {root : Row} {c : Chain} {old row : Row} {work : Work}
+    {g : Growing} {len : ℕ} {filled : Bool} {count : ℕ} {leans : ℤ} {l u img : List ℕ}
+    (w : Rising st was root c old row work g len filled count leans l u img) where
+  -- ── it fits ──
+
+  module _ (fit : recordSize row ≤ capacity) where
+    -- What the code that writes it requires.
+    abbrev pub content : Content (take len l) (g .setup .pages)
+    content = record { row = row; is = w .is; below = w .below; small = fit; some = some w }
+
+    stays : lastSettled c || leb (recordSize row) capacity ≡ true
+    stays = ap (λ (b : Bool). lastSettled c || b) (le-leb (recordSize row) capacity fit) ∙ or-true (lastSettled c)
+
+    low-goal : rise st c (row, work) ≡ onRow (whole c) (row, work)
+    low-goal = rise-stays st c old (row, work) (w .grows .fits) stays ∙ ap (onRow (whole c)) (kept-low st (lastPage c) (row, work) fit)
+
+    low-mem : (m : Mem) → putMem (g .near) (lastSettled c) (lastHolder c) row m ≡ riseMem st c row work m
+    unfolding keptMem
+    low-mem m = rw (w .at, mem-stays st c row work m stays, le-leb (recordSize row) capacity fit)
+
+    pub low-done : {holder : ℕ} {new : List ℕ} → holder ≡ lastHolder c → new ≡ cond (g .dry) img (written (g .near) (lastSettled c) holder row img)
+        → Risen (rise st c (row, work)) (riseMem st c row work (pageOf img)) (g .dry)
+        (record { full = filled; splits = count; lean = leans }) img new u
+    low-done {holder} {new} h e =
+        let p : After (g .dry) new img (putMem (g .near) (lastSettled c) (lastHolder c) row (pageOf img)) =
+        rw (e, h)
+        (after-written (g .setup .pages) (g .near) (lastHolder c) (lastSettled c) row img (w .below) fit (omega (arith, long-image w)) (inside w .1 .0) _) in
+        risen-by (sym low-goal) (record {
+          full = w .full;
+          splits = w .splits;
+          lean = w .lean;
+          same = p .long;
+          still = p .same;
+          pages = λ z. p .pages z ∙ low-mem (pageOf img);
+          table = λ z. record { told = w .wet z .told; marked = w .marked };
+        })
+
+  -- ── it is settled, and split ──
+
+  module _ (big : capacity < recordSize row) (settled : lastSettled c ≡ true) where
+    abbrev v : Work
+    v = counted st row work
+
+    abbrev S : Out
+    S = separator st (g .near) row v
+
+    S-lone : lone (S .0) ≡ true
+    S-lone =
+        separator-lone st (g .near) row v
+        (settled-lone row (subst (λ (b : Bool). Shape b row) settled (growing-splits st (valid w .ranges) c old (row, work) (w .grows) .0)))
+
+    goal-is : rise st c (row, work) ≡ onRow (whole c) S
+    goal-is =
+        rise-stays st c old (row, work) (w .grows .fits) (ap (λ (b : Bool). b || leb (recordSize row) capacity) settled)
+        ∙ ap (onRow (whole c)) (kept-big st (lastPage c) (row, work) big ∙ ap (λ (q : ℕ). separator st q row v) (sym (w .at)))
+
+    mem-is : (m : Mem) → putMem (g .near) (lastSettled c) (lastHolder c) (S .0) (separatorMem st (g .near) row v m) ≡ riseMem st c row work m
+    unfolding keptMem
+    mem-is m =
+        ap (λ (q : ℕ). putMem q (lastSettled c) (lastHolder c) (separator st q row v .0) (separatorMem st q row v m)) (w .at)
+        ∙ rw (mem-stays st c row work m (ap (λ (b : Bool). b || leb (recordSize row) capacity) settled), lt-leb (recordSize row) capacity big)
+
+    module _ {r : Output} {u′ img₁ out₀ out₁ : List ℕ}
+        (sev : SplitOff st g row work (lastSettled c) r u u′ img img₁ out₀ out₁) where
+      cut : Severed st g row v r u u′ img img₁ out₀ out₁
+      cut =
+          subst (λ (i : List ℕ). Severed st g row (counted st row work) r u u′ i img₁ out₀ out₁) (left-stays g img)
+          (subst (λ (b : Bool). SplitOff st g row work b r u u′ img img₁ out₀ out₁) settled sev)
+
+      pub severed-long : length img₁ ≡ length img
+      severed-long = cut .after .long
+
+      pub severed-is : take (r .end) out₁ ≡ recordBytes (S .0)
+      severed-is = (λ i. take (cut .end i) (cut .out i)) ∙ take-over (size (S .0)) (bytes (S .0)) out₀ (length-bytes (S .0)) ∙ sym (lone-bytes (S .0) S-lone)
+
+      pub severed-below : Below (g .setup .pages) (S .0)
+      severed-below = cut .below
+
+      pub severed-small : recordSize (S .0) ≤ capacity
+      severed-small = omega (arith, lone-size (S .0) S-lone, good w big v .small)
+
+      -- What the code that writes the separator requires.
+      abbrev pub severed-content : Content (take (r .end) out₁) (g .setup .pages)
+      severed-content = record { row = S .0; is = severed-is; below = severed-below; small = severed-small; some = good w big v .some }
+
+      -- The table is right for the separator.
+      kept-table : g .dry ≡ false → Keeps u u′ (S .0)
+      kept-table z =
+          cut .tells (tabled w z) (or-right (v .full) (r .full) (cut .full ∙ ap (λ (o : Out). o .1 .full) (sym goal-is) ∙ w .wet z .room))
+
+      pub settled-done : {leans′ : ℤ} {holder : ℕ} {new : List ℕ} → leans′ ≡ leanNow st row count leans → holder ≡ lastHolder c
+          → new ≡ cond (g .dry) img₁ (written (g .near) (lastSettled c) holder (severed-content .row) img₁)
+          → Risen (rise st c (row, work)) (riseMem st c row work (pageOf img)) (g .dry)
+          (record { full = filled || r .full; splits = count + 1; lean = leans′ }) img new u′
+      settled-done {leans′} {holder} {new} le h e =
+          let put : After (g .dry) new img₁ (putMem (g .near) (lastSettled c) (lastHolder c) (S .0) (pageOf img₁)) =
+          rw (e, h) (after-written (g .setup .pages) (g .near) (lastHolder c) (lastSettled c) (S .0) img₁ severed-below severed-small
+          (omega (arith, long-image w, cut .after .long)) (inside w .1 .0) _) in
+          let p = after-then (putMem (g .near) (lastSettled c) (lastHolder c) (S .0)) (cut .after) put in
+          risen-by (sym goal-is) (record {
+            full = ap (λ (b : Bool). b || r .full) (w .full) ∙ cut .full;
+            splits = add-one count ∙ ap suc (w .splits) ∙ sym (cut .splits);
+            lean = le ∙ (λ i. leanNow st row (w .splits i) (w .lean i)) ∙ sym (cut .lean);
+            same = p .long;
+            still = p .same;
+            pages = λ z. p .pages z ∙ mem-is (pageOf img);
+            table = λ z.
+                let k = kept-table z in
+                let same = told-same u u′ (whole c row) (λ q h. k .frame q (named-used w z q h)) (w .wet z .told) in
+                record { told = told-swap u′ c row (S .0) (separator-width st (g .near) row v) same (k .told); marked = cut .marked };
+          })

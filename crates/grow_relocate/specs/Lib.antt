@@ -1,3 +1,0 @@
-pub mod Jump
-pub mod Span
-pub mod Went

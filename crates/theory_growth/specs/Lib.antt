@@ -1,0 +1,9 @@
+pub mod Chain
+pub mod Parts
+pub mod Shown
+pub mod Pages
+pub mod Full
+pub mod Keeps
+pub mod Gap
+pub mod Store
+pub mod Told
