@@ -79,7 +79,13 @@ static void matrices(void) {
     expect(format_within(3, 1, 256) == NL_SETTINGS, "a matrix with another value");
 }
 
-/* Content is taken from where Read finds it, and paths from the zeros of page 0: appended, put in front and below the first child, to many splits. */
+/* Four zeros in the image, the path of the first child: on page 0, or behind the record of page 1, where the insert itself may write. */
+static size_t zeros_at(void) {
+    size_t used = image[NL_PAGE + 4082] + 256u * image[NL_PAGE + 4083];
+    return below(2) && used + 4 <= NL_CAPACITY ? NL_PAGE + used : 8;
+}
+
+/* Content is taken from where Read finds it, and paths from zeros of the image: appended, put in front and below the first child, to many splits. */
 static void copies(int apart) {
     uint32_t place[2], node[5], n, i;
     len = MOST;
@@ -105,10 +111,10 @@ static void copies(int apart) {
         i = 1 + below(n - 1);
         path[0] = (uint8_t)i, path[1] = (uint8_t)(i >> 8), path[2] = 0, path[3] = 0;
         expect(nl_find(image, len, path, 4, place) == 0 && nl_read(image, len, place[0], place[1], node) == 0, "no child");
-        i = insert_within(8, below_first ? 4 : 0, below_first ? 0 : 1 + below(n), NL_LITERAL, (uint16_t)below(20), node[3], below(node[4] + 1));
+        i = insert_within(zeros_at(), below_first ? 4 : 0, below_first ? 0 : 1 + below(n), NL_LITERAL, (uint16_t)below(20), node[3], below(node[4] + 1));
         expect(i == 0 || i == NL_FULL, "insert refused");
         if (i == 0 && below(4) == 0)
-            i = insert_within(8, below_first ? 4 : 0, 0, NL_AGGREGATE, 5, 8, 0);
+            i = insert_within(zeros_at(), below_first ? 4 : 0, 0, NL_AGGREGATE, 5, 8, 0);
         if (i)
             return;
     }
