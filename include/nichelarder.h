@@ -13,8 +13,8 @@
  * A buffer that is only read (matrix, path, parent, content) may lie in the image, also where the call changes the image: what counts are its bytes
  * when the call is made. So format keeps its own matrix by image + 16, 256, and insert copies a content from where nl_read has found it.
  * The image and the buffers stay the caller's; the library keeps no pointer. The functions keep no state and allocate nothing: they may be called
- * from several threads on different images. They need up to 416 KB of stack on the deepest images, 24 KB on usual ones (each record nested in
- * another takes some 390 bytes).
+ * from several threads on different images. They need up to 28 KB of stack or, where records are nested deeply in one another, 10 KB and some
+ * 390 bytes for each: up to 416 KB.
  *
  * The format, for those who look at bytes: a record is a tree of nodes, each a header of six bytes (kind, label, size, two bytes each, low byte first)
  * and what it holds. Kind 1 is an aggregate, 2 a literal, 3 a proxy: two bytes that name the page of the record that stands in its place, 4 a helper:

@@ -1,5 +1,6 @@
-/* How much stack the calls take, measured on a thread whose stack is painted: an insert takes at most 64 KB beside the check of the same image.
- * The images: a small tree, one whose inserts cascade, and the deepest nesting of records, a chain of helper records through 1,022 pages. */
+/* How much stack the calls take, measured on a thread whose stack is painted: an insert takes at most 24 KB beside the check of the same image.
+ * The images: a small tree, one whose inserts cascade, one whose split goes down through all levels, and the deepest nesting of records, a chain of helper
+ * records through 1,022 pages. */
 #define _POSIX_C_SOURCE 200809L
 #include "../include/nichelarder.h"
 #include <pthread.h>
@@ -9,11 +10,13 @@
 
 #define STACK (8u << 20)
 #define PAINT 0xa5
+#define MOST 24576
 
 static uint8_t *image, *before;
 static size_t image_len;
 static uint8_t content[520];
 static uint32_t number, child, answer[3];
+static size_t above; /* the parent's path is so many zeros of the content */
 static int32_t lean;
 
 static void *check(void *unused) {
@@ -24,7 +27,7 @@ static void *check(void *unused) {
 
 static void *insert(void *unused) {
     (void)unused;
-    number = nl_insert(image, image_len, content, 0, child, NL_LITERAL, 9, content, 520, answer, &lean);
+    number = nl_insert(image, image_len, content, above, child, NL_LITERAL, 9, content, 520, answer, &lean);
     return NULL;
 }
 
@@ -47,16 +50,17 @@ static size_t used(void *(*run)(void *)) {
     return STACK - i;
 }
 
-/* Check and insert, as the first and as the last child of the root; the image stays. The most that an insert took beside the check so far. */
+/* Check and insert, as the first and as the last child of the parent; the image stays. The most that an insert took beside the check so far. */
 static size_t worst, base;
 static void measure(const char *name) {
-    uint32_t root[5];
+    uint32_t place[2], parent[5];
     size_t c = used(check), i;
     int last;
-    nl_read(image, image_len, 1, 0, root);
+    nl_find(image, image_len, content, above, place);
+    nl_read(image, image_len, place[0], place[1], parent);
     memcpy(before, image, image_len);
     for (last = 0; last < 2; last++) {
-        child = last ? root[2] : 0;
+        child = last ? parent[2] : 0;
         i = used(insert);
         memcpy(image, before, image_len);
         if (i > c && i - c > worst)
@@ -86,18 +90,18 @@ static void link_page(unsigned page, unsigned last) {
     p[4080] = 1, p[4081] = page == 1, two(p + 4082, n), two(p + 4084, page - 1);
 }
 
-static uint32_t format(unsigned pages) {
+static uint32_t format(unsigned pages, unsigned tolerance) {
     uint8_t matrix[256];
     memset(matrix, 2, sizeof matrix);
     image_len = 4096u * pages;
-    return nl_format(image, image_len, pages, 128, 409, 1, matrix, 256, 7);
+    return nl_format(image, image_len, pages, 128, tolerance, 1, matrix, 256, 7);
 }
 
 int main(void) {
     unsigned k;
     base = used(nothing);
     image = malloc(4096u * 1024), before = malloc(4096u * 1024);
-    if (!image || !before || format(64))
+    if (!image || !before || format(64, 409))
         return 2;
     measure("small");
     /* aggregates in front of each other: separators pile up in the root's record until splits cascade */
@@ -107,11 +111,22 @@ int main(void) {
         measure(NULL);
     }
     measure("grown");
-    if (format(1024))
+    /* one aggregate in another down to level 23, the last full of literals: with tolerance 0, the split goes down to them */
+    if (format(64, 0))
+        return 2;
+    for (above = 0; above < 88; above += 4)
+        if (nl_insert(image, image_len, content, above, 0, NL_AGGREGATE, 9, content, 0, answer, &lean))
+            return 2;
+    for (k = 0; k < 7; k++)
+        if (nl_insert(image, image_len, content, above, 0, NL_LITERAL, 9, content, 520, answer, &lean))
+            return 2;
+    measure("nested");
+    above = 0;
+    if (format(1024, 409))
         return 2;
     for (k = 1; k <= 1023; k++)
         link_page(k, 1023);
     measure("deepest");
     printf("insert beside the check: at most %zu bytes\n", worst);
-    return worst > 65536;
+    return worst > MOST;
 }
