@@ -3,9 +3,9 @@ use base_numbers::two;
 use base_numbers::wide;
 use model::Settings;
 ghost use mathlib.Core.Path.{_≡_};
-ghost use Prim.Native.Nat.{_+_, _*_, _≤_, _<_};
+ghost use Prim.Native.Nat.{_+_, _≤_, _<_};
 ghost use lib.ListN.{length};
-ghost use Rattle.model.specs.Limits.{pageSize, mostPages, settingsSize};
+ghost use Rattle.model.specs.Limits.{pageSize, settingsSize};
 ghost use Rattle.model.specs.Reading.{headAt, sizeAt, nameAt, settledAt, usedAt, backAt};
 ghost use Rattle.base_layout.specs.Setup.{setupOn};
 

@@ -4,7 +4,6 @@ use base_numbers::wide;
 ghost use mathlib.Core.Path.{_≡_};
 ghost use mathlib.Core.List.{[], _∷_};
 ghost use Prim.Native.Nat.{_<_};
-ghost use lib.ListN.{length};
 ghost use Rattle.listing_lines.specs.Text.{digit, decimalOf, hexOf, contentOf, lineOf, headLine, refusedLine};
 ghost use Rattle.listing_lines.specs.Wrote.{Room, Wrote};
 
