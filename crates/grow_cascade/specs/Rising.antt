@@ -46,8 +46,8 @@ use Rattle.grow_write_back.specs.Leaning.{Leaning}
 use Rattle.grow_write_back.specs.Off.{Off, leaves}
 use Rattle.grow_cascade.specs.declared.Grown.{Grown}
 
--- A run that writes: no page is missing in the end, what stands around the last record stands on its pages, and its own page is as it was; the table is right for
--- the store with the new row.
+-- A run that writes: no page is missing in the end, what stands around the last record stands on its pages, and its own page is as it was; the table is right
+-- for the store with the new row.
 pub record Wet (st : Config) (c : Chain) (old row : Row) (work : Work) (u : List ℕ) (m : Mem) : Type 0 where
   pub room : rise st c (row, work) .1 .full ≡ false
   pub first : List ℕ

@@ -27,8 +27,9 @@ fn refused(number: u32) -> InsertAnswer
     }
 }
 
-// Insert, on an image that passes the check, with its table. The dry run, on a copy of the table, finds whether the store is full, so that a refused insert alters
-// no byte. All that is read of the caller's path and content is read before the first write: they may lie in the image. The table is right for the image that is left.
+// Insert, on an image that passes the check, with its table. The dry run, on a copy of the table, finds whether the store is full, so that a refused insert
+// alters no byte. All that is read of the caller's path and content is read before the first write: they may lie in the image. The table is right for the image
+// that is left.
 pub fn insert_of(
     image: &mut [u8],
     widths: &mut [u32; Settings::PAGES],

@@ -61,7 +61,8 @@ pub fn number(part: &[u8], widths: &[u32; Settings::PAGES]) -> u32
 // The record on the page and the `deep` - 1 records above it show one node more.
 pub fn one_more(image: &[u8], widths: &mut [u32; Settings::PAGES], page: usize, deep: usize)
     requires { ⌜ Raising (now image) (now widths) page deep ⌝ }
-    ensures { λ _. ⌜ ((w : Raising (now (image .entry)) (now (widths .entry)) page deep) → now (widths .exit) ≡ raised deep (w .chain) (now (widths .entry))) ⌝ }
+    ensures { λ _. ⌜ ((w : Raising (now (image .entry)) (now (widths .entry)) page deep)
+        → now (widths .exit) ≡ raised deep (w .chain) (now (widths .entry))) ⌝ }
 {
     let mut q = page;
     let mut left = deep;

@@ -19,7 +19,8 @@ abbrev μ-loop : tie.MeasureT-loop
 μ-loop image widths pos end k par depth left₀ i₀ stop₀ holder₀ deep₀ left i stop holder deep = pageSize * (depth - deep) + (stop - i)
 
 -- The row that is left at the loop's head, and its room.
-here : (c : tie.At-loop Inv-loop μ-loop) → Rowed (c .before .before .args .image .now) (c .loop .i) (c .loop .stop) (c .before .before .args .depth - c .loop .deep)
+here : (c : tie.At-loop Inv-loop μ-loop) → let a = c .before .before .args in
+    Rowed (a .image .now) (c .loop .i) (c .loop .stop) (a .depth - c .loop .deep)
 here c = c .loop .inv .0 _ (seeking (c .before .before .pre .0)) .rest
 
 in-room : (c : tie.At-loop Inv-loop μ-loop) → (c .loop .stop + 16 ≤ length (c .before .before .args .image .now)) × (c .loop .stop < mostBytes)
@@ -156,6 +157,6 @@ returns-2 c = λ w. seek-here (c .before .loop .inv .0 _ (seeking w)) (c .loop-t
 pub behind-spec : {M : Type 1} → statement M
 behind-spec =
     tie.close
-    (tie.spec Inv-loop μ-loop loop-holds nowhere-requires returns size-at-requires add-next shared-slice-read-if2 sub-left loop-less loop-again name-at-requires mul-n
-    element-copy-out-n cast-n sub-left-2 loop-less-2 loop-again-2 row-start-requires loop-less-3 loop-again-3 row-end-requires add-deep loop-less-4
+    (tie.spec Inv-loop μ-loop loop-holds nowhere-requires returns size-at-requires add-next shared-slice-read-if2 sub-left loop-less loop-again name-at-requires
+    mul-n element-copy-out-n cast-n sub-left-2 loop-less-2 loop-again-2 row-start-requires loop-less-3 loop-again-3 row-end-requires add-deep loop-less-4
     loop-again-4 returns-2)

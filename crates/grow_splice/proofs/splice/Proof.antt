@@ -126,5 +126,5 @@ returns c =
 pub splice-spec : {M : Type 1} → statement M
 splice-spec =
     tie.close
-    (tie.spec slice-aggregate-copy-in copy-in-requires slice-relend-prefix-enlarge slice-aggregate-enlarge sub-enlarge enlarge-requires copy-in-requires-2 add-rest
-    sub-copy-in part-copy-in-start part-copy-in-end add-copy-in copy-in-requires-3 sub-result add-result same-length returns)
+    (tie.spec slice-aggregate-copy-in copy-in-requires slice-relend-prefix-enlarge slice-aggregate-enlarge sub-enlarge enlarge-requires copy-in-requires-2
+    add-rest sub-copy-in part-copy-in-start part-copy-in-end add-copy-in copy-in-requires-3 sub-result add-result same-length returns)
