@@ -27,7 +27,7 @@ use Rattle.theory_places.specs.Widths.{Told}
 use Rattle.theory_growth.specs.Told.{told-chain, population-whole}
 use Rattle.grow_widths.specs.Tally.{mostEntry}
 use Rattle.theory_growth.specs.Chain.{lastSettled, lastHolder, whole, count-chain}
-use Rattle.theory_growth.specs.Keeps.{Growing as Grows, growing-splits, growing-some, split-able}
+use Rattle.theory_growth.specs.Keeps.{Grows, grows-splits, grows-some, split-able}
 use Rattle.theory_growth.specs.Shown.{population-rise}
 use Rattle.theory_insert_point.specs.Bytes.{lastHeld, chain-page, chain-bytes}
 use Rattle.theory_insert_point.specs.Nesting.{chainLength}
@@ -155,10 +155,10 @@ module _ {st : Config} {was : List ℕ} {root : Row} {c : Chain} {old row : Row}
   -- ── the new row ──
 
   pub able : Splittable st row
-  able = growing-splits st (valid .ranges) c old (row, work) (w .grows) .1
+  able = grows-splits st (valid .ranges) c old (row, work) (w .grows) .1
 
   pub some : isNil row ≡ false
-  some = growing-some st (valid .ranges) c old (row, work) (w .grows)
+  some = grows-some st (valid .ranges) c old (row, work) (w .grows)
 
   pub range : InLean leans
   range = subst InLean (sym (w .lean)) (w .grows .lean .0)

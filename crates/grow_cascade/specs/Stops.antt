@@ -25,7 +25,7 @@ use Rattle.theory_growth.specs.Store.{settled-lone}
 use Rattle.base_numbers.specs.Over.{take-over}
 use Rattle.model.specs.Spot.{Chain, lastPage}
 use Rattle.theory_growth.specs.Chain.{lastSettled, lastHolder, whole}
-use Rattle.theory_growth.specs.Keeps.{growing-splits}
+use Rattle.theory_growth.specs.Keeps.{grows-splits}
 use Rattle.theory_places.specs.Widths.{told-same}
 use Rattle.theory_growth.specs.Told.{told-swap}
 use Rattle.theory_page_memory.specs.Memory.{Mem, putMem, separatorMem, keptMem, riseMem}
@@ -121,7 +121,7 @@ module _ {st : Config} {was : List ℕ} {root : Row} {c : Chain} {old row : Row}
     S-lone : lone (S .0) ≡ true
     S-lone =
         separator-lone st (g .near) row v
-        (settled-lone row (subst (λ (b : Bool). Shape b row) settled (growing-splits st (valid w .ranges) c old (row, work) (w .grows) .0)))
+        (settled-lone row (subst (λ (b : Bool). Shape b row) settled (grows-splits st (valid w .ranges) c old (row, work) (w .grows) .0)))
 
     goal-is : rise st c (row, work) ≡ onRow (whole c) S
     goal-is =

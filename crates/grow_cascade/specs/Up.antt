@@ -24,7 +24,7 @@ use Rattle.base_numbers.specs.Over.{over, take-over}
 use Rattle.theory_layout.specs.Here.{PageIn, OnPage}
 use Rattle.model.specs.Spot.{Position, fill, Chain, below, lastPage}
 use Rattle.theory_growth.specs.Chain.{in-fill, refill, fill-more, fill-less, lastSettled, lastHolder, whole, chain-fits, count-refill, count-chain}
-use Rattle.theory_growth.specs.Keeps.{growing-goes}
+use Rattle.theory_growth.specs.Keeps.{grows-goes}
 use Rattle.theory_insert_point.specs.Bytes.{lastHeld, chain-bytes}
 use Rattle.theory_growth.specs.Full.{full-rise}
 use Rattle.theory_page_memory.specs.Memory.{Mem, blank, setMem, separatorMem, riseMem}
@@ -269,7 +269,7 @@ module _ {st : Config} {was : List ℕ} {root : Row} {c : Chain} {s : Position} 
           at = at;
           is = (λ i. take (e i) (k i)) ∙ take-over (recordSize next) (recordBytes next) l (length-record next);
           long = e;
-          grows = growing-goes st (valid w .ranges) c s q false rest old (row, work) too-large (w .grows);
+          grows = grows-goes st (valid w .ranges) c s q false rest old (row, work) too-large (w .grows);
           below = next-below;
           marked = cut .marked;
           past = past;

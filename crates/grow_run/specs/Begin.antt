@@ -18,7 +18,7 @@ use Rattle.theory_rows.specs.Fits.{Valid}
 use Rattle.theory_rows.specs.Laws.{cond-case, length-bytes, width-⊹}
 use Rattle.theory_rows.specs.Keeps.{nodeCount-⊹}
 use Rattle.model.specs.Claims.{InLean}
-use Rattle.theory_growth.specs.Store.{NewFits, received-growing, grow-good, grow-valid, grow-rises, asPlaced, place-row, placed-some, placed-width}
+use Rattle.theory_growth.specs.Store.{NewFits, received-grows, grow-good, grow-valid, grow-rises, asPlaced, place-row, placed-some, placed-width}
 use Rattle.theory_growth.specs.Told.{Awaits, ToldAlong, told-whole, around-same, along-same, told-parted}
 use Rattle.theory_rows.specs.Population.{population}
 use Rattle.theory_places.specs.Widths.{Told, told-same}
@@ -32,7 +32,7 @@ use Rattle.grow_groups.specs.Used.{marked-beyond}
 use Rattle.base_numbers.specs.Over.{over, take-over}
 use Rattle.model.specs.Spot.{Position, fill, Chain, lastPage}
 use Rattle.theory_growth.specs.Chain.{both, fill-more, lastSettled, lastHolder, whole, beside, along, count-chain}
-use Rattle.theory_growth.specs.Keeps.{Growing as Grows}
+use Rattle.theory_growth.specs.Keeps.{Grows}
 use Rattle.theory_growth.specs.Gap.{Gap, spot-gap}
 use Rattle.theory_insert_point.specs.Bytes.{lastHeld, chain-page, chain-bytes}
 use Rattle.theory_insert_point.specs.Nesting.{chain-nesting}
@@ -193,7 +193,7 @@ module _ {dry : Bool} {img u₀ : List ℕ} {above : ℕ} {t : Receiver} {label 
   goal-is = sym (grow-rises st (w .x) root (w .aim .path) (w .k) (w .aim .t) (w .aim .taken))
 
   grows : Grows c (fill s rest) (row, O .1)
-  grows = received-growing st (w .x) root (w .aim .path) (w .k) (w .aim .t) gap (w .fits) valid (w .short)
+  grows = received-grows st (w .x) root (w .aim .path) (w .k) (w .aim .t) gap (w .fits) valid (w .short)
 
   pub new-lean : InLean (new .1 .lean)
   new-lean = grow-good st (w .x) root (w .aim .path) (w .k) (w .aim .t) (w .aim .taken) (w .fits) valid (w .short) .2 .0

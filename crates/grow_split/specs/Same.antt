@@ -26,7 +26,7 @@ use Rattle.grow_groups.specs.Group.{Cutting, groupI}
 use Rattle.grow_split.specs.Cutting.{followI, follow-past}
 
 -- What a step gives from an image is what the model's gives from w, and from the image's pages; its proxies name pages of the image.
-pub record Agrees (g : Growing) (img : List ℕ) (c : Cutting) (w : Work) (o : Out) (m : Mem) : Type 0 where
+pub record SameSplit (g : Growing) (img : List ℕ) (c : Cutting) (w : Work) (o : Out) (m : Mem) : Type 0 where
   pub row : c .row ≡ o .0
   pub used : InUse (c .used) (o .1)
   pub full : (w .full || c .full) ≡ o .1 .full
@@ -35,8 +35,8 @@ pub record Agrees (g : Growing) (img : List ℕ) (c : Cutting) (w : Work) (o : O
   pub after : After (g .dry) (c .img) img m
   pub below : Below (g .setup .pages) (o .0)
 
-either : (g : Growing) (b : Bool) (img : List ℕ) (x y : Cutting) (w : Work) (o o′ : Out) (m m′ : Mem) → Fits (cond b o o′ .0) → Agrees g img x w o m
-    → (Fits (o′ .0) → Agrees g img y w o′ m′) → Agrees g img (cond b x y) w (cond b o o′) (cond b m m′)
+either : (g : Growing) (b : Bool) (img : List ℕ) (x y : Cutting) (w : Work) (o o′ : Out) (m m′ : Mem) → Fits (cond b o o′ .0) → SameSplit g img x w o m
+    → (Fits (o′ .0) → SameSplit g img y w o′ m′) → SameSplit g img (cond b x y) w (cond b o o′) (cond b m m′)
 either g true img x y w o o′ m m′ f a a′ = a
 either g false img x y w o o′ m m′ f a a′ = a′ f
 
@@ -45,7 +45,7 @@ module _ (st : Config) (g : Growing) (e : setupOf st ≡ g .setup) (few : g .set
   n = g .setup .pages
 
   stays : (r : Row) (u img : List ℕ) (w : Work) → InUse u w → Below n r
-      → Agrees g img (record { row = r; used = u; full = false; img = img }) w (r, w) (pageOf img)
+      → SameSplit g img (record { row = r; used = u; full = false; img = img }) w (r, w) (pageOf img)
   stays r u img w m b = record {
     row = refl;
     used = m;
@@ -58,7 +58,7 @@ module _ (st : Config) (g : Growing) (e : setupOf st ≡ g .setup) (few : g .set
 
   pub follow-same : (p : Plan) (u img : List ℕ) (w : Work) → InUse u w → Past n u → pageSize * n ≤ length img → Below n (planned p)
       → Fits (follow st (g .near) p w .0)
-      → Agrees g img (followI st g p u img) w (follow st (g .near) p w) (followMem st (g .near) p w (pageOf img))
+      → SameSplit g img (followI st g p u img) w (follow st (g .near) p w) (followMem st (g .near) p w (pageOf img))
   unfolding follow followMem groupI group groupMem
   follow-same (keep r) u img w m past room b f = stays r u img w m b
   follow-same (grouped r) u img w m past room b f =

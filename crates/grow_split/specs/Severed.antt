@@ -28,7 +28,7 @@ use Rattle.grow_groups.specs.Used.{InUse, Past, Env}
 use Rattle.grow_groups.specs.Group.{Cutting, Outcome}
 use Rattle.grow_split.specs.Cutting.{followI, follow-past}
 use Rattle.grow_split.specs.Separate.{Room, Sep, done-under}
-use Rattle.grow_split.specs.Same.{Agrees, follow-same}
+use Rattle.grow_split.specs.Same.{SameSplit, follow-same}
 use Rattle.grow_split.specs.Tells.{Tabled, Keeps, follow-tells}
 
 -- The bytes l are a record that is too large, and its separator has room.
@@ -151,10 +151,10 @@ module _ {g : Growing} {p : ℕ} {l u : List ℕ} (w : Large g p l u) where
     abbrev S : Out
     S = separator (w .st) (g .near) (w .row) (w .work)
 
-    agrees : Agrees g img R (w .work) S (separatorMem (w .st) (g .near) (w .row) (w .work) (pageOf img))
+    agrees : SameSplit g img R (w .work) S (separatorMem (w .st) (g .near) (w .row) (w .work) (pageOf img))
     agrees =
         let e = separator-plan (w .st) (g .near) (w .row) (w .work) in
-        subst (λ (o : Out). Agrees g img R (w .work) o (separatorMem (w .st) (g .near) (w .row) (w .work) (pageOf img))) e
+        subst (λ (o : Out). SameSplit g img R (w .work) o (separatorMem (w .st) (g .near) (w .row) (w .work) (pageOf img))) e
         (follow-same (w .st) g (w .setup) (env .few) (env .start) (separatorPlan (w .st) (w .row)) u img (w .work) (w .marked) (env .past) (env .image)
         (subst (Below (g .setup .pages)) (sym (planned-separator (w .st) (w .row))) (w .below)) (subst (λ (o : Out). Fits (o .0)) (sym e) (w .good)))
 

@@ -18,10 +18,10 @@ use Rattle.theory_places.specs.Named.{unmap}
 use Rattle.theory_calls.specs.Tests.{Accepted}
 use Rattle.model.specs.Spot.{Position, here, past, into, Chain, top, below, Spot, spotAfter, spotChild, spotIn, spotOf}
 
-abbrev Takes : Option Spot → Type 0
-Takes o = (t : Spot) × (o ≡ some t)
+abbrev HasSpot : Option Spot → Type 0
+HasSpot o = (t : Spot) × (o ≡ some t)
 
-after-found : (parent : Head) (c : Chain) (s : Position) (i : ℕ) (row : Row) → i < width row → Takes (spotAfter parent c s i row)
+after-found : (parent : Head) (c : Chain) (s : Position) (i : ℕ) (row : Row) → i < width row → HasSpot (spotAfter parent c s i row)
 unfolding spotAfter
 after-found parent c s i nil z = absurd (omega arith)
 after-found parent c s zero (agg h cs rest) z = (_, refl)
@@ -29,11 +29,11 @@ after-found parent c s (suc i) (agg h cs rest) z = after-found parent c (past s 
 after-found parent c s zero (lit h x rest) z = (_, refl)
 after-found parent c s (suc i) (lit h x rest) z = after-found parent c (past s (lit h x nil)) i rest (omega arith)
 after-found parent c s i (rec q b r rest) z =
-    cond-case Takes (ltb i (width r))
-    (λ e. cond-case Takes (lone r) (λ _. (_, refl)) (λ _. after-found parent (below c s q b rest) (here nil) i r (ltb-true i (width r) e)))
+    cond-case HasSpot (ltb i (width r))
+    (λ e. cond-case HasSpot (lone r) (λ _. (_, refl)) (λ _. after-found parent (below c s q b rest) (here nil) i r (ltb-true i (width r) e)))
     (λ e. after-found parent c (past s (rec q b r nil)) (i - width r) rest (omega (arith, ltb-false i (width r) e)))
 
-child-found : (parent : Head) (c : Chain) (s : Position) (k : ℕ) (row : Row) → k ≤ width row → Takes (spotChild parent c s k row)
+child-found : (parent : Head) (c : Chain) (s : Position) (k : ℕ) (row : Row) → k ≤ width row → HasSpot (spotChild parent c s k row)
 child-found parent c s zero row z = (_, refl)
 child-found parent c s (suc i) row z = after-found parent c s i row z
 
@@ -51,7 +51,7 @@ open-same f k m n a b e o =
     record { kind = λ t. o .kind (sym p ∙ a m ∙ t); many = omega (arith, b m, o .many) }
 
 in-found : (k : ℕ) (c : Chain) (s : Position) (i : ℕ) (path : List ℕ) (row : Row) (n : Node) → nodeAt i path (shown row) ≡ some n → Open k n
-    → Takes (spotIn k c s i path row)
+    → HasSpot (spotIn k c s i path row)
 unfolding spotIn
 in-found k c s i path nil n e o = absurd (Option·none-ne-some n e)
 in-found k c s zero [] (agg h cs rest) n e o =
@@ -69,7 +69,7 @@ in-found k c s (suc i) path (lit h x rest) n e o =
     let (m, g, f) = unmap (further 1) (nodeAt i path (shown rest)) n e in
     in-found k c (past s (lit h x nil)) i path rest m g (open-same (further 1) k m n (λ n. refl) (λ n. refl) f o)
 in-found k c s i path (rec q b r rest) n e o =
-    cond-case Takes (ltb i (width r))
+    cond-case HasSpot (ltb i (width r))
     (λ t. in-found k (below c s q b rest) (here nil) i path r n
     (sym (nodeAt-left i path (shown r) (shown rest) (omega (arith, ltb-true i (width r) t, breadth-shown r))) ∙ e) o)
     (λ t.
@@ -84,11 +84,11 @@ pub spot-accepted : (root : Row) (path : List ℕ) (k : ℕ) (x : New) (full : B
 spot-accepted root path k x full a = go (entries path) (a .named) (a .aggregate) (a .within)
   where
     under : (p : List ℕ) (o : Option Node) → named (shown root) p ≡ o → isNone o ≡ false → isLiteral o ≡ false → childrenBelow k o ≡ false
-        → Takes (spotOf root p k)
+        → HasSpot (spotOf root p k)
     under p none e f g h = absurd (true≢false f)
     under p (some n) e f g h = in-found k top (here nil) 0 p root n e (record { kind = eqb-false (n .kind) 2 g; many = ltb-false (n .children) k h })
 
     go : (o : Option (List ℕ)) → isNone (namedIf (shown root) o) ≡ false → isLiteral (namedIf (shown root) o) ≡ false
-        → childrenBelow k (namedIf (shown root) o) ≡ false → Takes (spotOf root (orEmpty o) k)
+        → childrenBelow k (namedIf (shown root) o) ≡ false → HasSpot (spotOf root (orEmpty o) k)
     go none f g h = absurd (true≢false f)
     go (some p) f g h = under p (named (shown root) p) refl f g h

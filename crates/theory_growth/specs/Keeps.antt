@@ -77,7 +77,7 @@ close-goes st q false rest o e = rw e
 -- ── from one record to the one above ──
 
 -- The last record of a chain held `old` and is to hold the row of o.
-pub record Growing (c : Chain) (old : Row) (o : Out) : Type 0 where
+pub record Grows (c : Chain) (old : Row) (o : Out) : Type 0 where
   pub fits : Fits (store (whole c old))
   pub root : lone (whole c old) ≡ true
   pub grew : Grew old o
@@ -86,8 +86,8 @@ pub record Growing (c : Chain) (old : Row) (o : Out) : Type 0 where
 
 module _ (st : Config) (k : Ranges st) where
   -- Its new row has the shape of a record, and one split suffices for it.
-  pub growing-splits : (c : Chain) (old : Row) (o : Out) → Growing c old o → Shape (lastSettled c) (o .0) × Splittable st (o .0)
-  growing-splits c old o g =
+  pub grows-splits : (c : Chain) (old : Row) (o : Out) → Grows c old o → Shape (lastSettled c) (o .0) × Splittable st (o .0)
+  grows-splits c old o g =
       let f = chain-fits c old (g .fits) .0 in
       let w = g .grew in (
         shape-kept old (o .0) (f .shape) (w .keeps) (w .root),
@@ -98,21 +98,21 @@ module _ (st : Config) (k : Ranges st) where
         },
       )
 
-  pub growing-some : (c : Chain) (old : Row) (o : Out) → Growing c old o → isNil (o .0) ≡ false
-  growing-some c old o g = nodes-some (o .0) (shape-nodeCount (growing-splits c old o g .0))
+  pub grows-some : (c : Chain) (old : Row) (o : Out) → Grows c old o → isNil (o .0) ≡ false
+  grows-some c old o g = nodes-some (o .0) (shape-nodeCount (grows-splits c old o g .0))
 
   pub split-able : (near : ℕ) (r : Row) (w : Work) → Splittable st r → capacity < recordSize r
       → SplitGood (separator st near r w .0) (splitPoint st (recordSize r)) (startOfD st r)
   split-able near r w m big = split-good st k near r w (m .fits) big (m .most) (m .deep)
 
   -- What stands for its proxy in the record above, whose row grows by it.
-  pub growing-above : (c : Chain) (s : Position) (q : ℕ) (b : Bool) (rest old : Row) (o : Out) → Growing (below c s q b rest) old o
-      → Growing c (fill s (rec q b old rest)) (onRow (fill s) (close st q b rest o))
-  growing-above c s q b rest old o g =
+  pub grows-above : (c : Chain) (s : Position) (q : ℕ) (b : Bool) (rest old : Row) (o : Out) → Grows (below c s q b rest) old o
+      → Grows c (fill s (rec q b old rest)) (onRow (fill s) (close st q b rest o))
+  grows-above c s q b rest old o g =
       let u = close st q b rest o in
       let was : Row = rec q b old rest in
       let f = chain-fits c (fill s was) (g .fits) .1 in
-      let (shape, m) = growing-splits (below c s q b rest) old o g in
+      let (shape, m) = grows-splits (below c s q b rest) old o g in
       let z = close-good st k q b rest o (fits-fill s was f .2) (m .fits) shape (m .deep) (m .most) in
       record {
         fits = g .fits;
@@ -128,15 +128,15 @@ module _ (st : Config) (k : Ranges st) where
       }
 
   -- With the separator of a record that is too large and not settled.
-  pub growing-goes : (c : Chain) (s : Position) (q : ℕ) (b : Bool) (rest old : Row) (o : Out) → b || leb (recordSize (o .0)) capacity ≡ false
-      → Growing (below c s q b rest) old o
-      → Growing c (fill s (rec q b old rest)) (onRow (λ r. fill s (r ⊹ rest)) (separator st q (o .0) (freed st q (counted st (o .0) (o .1)))))
-  growing-goes c s q b rest old o e g =
-      subst (λ (u : Out). Growing c (fill s (rec q b old rest)) (onRow (fill s) u)) (close-goes st q b rest o e) (growing-above c s q b rest old o g)
+  pub grows-goes : (c : Chain) (s : Position) (q : ℕ) (b : Bool) (rest old : Row) (o : Out) → b || leb (recordSize (o .0)) capacity ≡ false
+      → Grows (below c s q b rest) old o
+      → Grows c (fill s (rec q b old rest)) (onRow (λ r. fill s (r ⊹ rest)) (separator st q (o .0) (freed st q (counted st (o .0) (o .1)))))
+  grows-goes c s q b rest old o e g =
+      subst (λ (u : Out). Grows c (fill s (rec q b old rest)) (onRow (fill s) u)) (close-goes st q b rest o e) (grows-above c s q b rest old o g)
 
-  pub rise-good : (c : Chain) (old : Row) (o : Out) → Growing c old o → Fits (store (rise st c o .0)) × Leaned (rise st c o .1)
+  pub rise-good : (c : Chain) (old : Row) (o : Out) → Grows c old o → Fits (store (rise st c o .0)) × Leaned (rise st c o .1)
   unfolding rise close
   rise-good top old o g =
-      let (shape, m) = growing-splits top old o g in
+      let (shape, m) = grows-splits top old o g in
       (close-good st k 1 true nil o tt (m .fits) shape (m .deep) (m .most) .fits, lean-kept st k 1 o m (g .lean))
-  rise-good (below c s q b rest) old o g = rise-good c (fill s (rec q b old rest)) (onRow (fill s) (close st q b rest o)) (growing-above c s q b rest old o g)
+  rise-good (below c s q b rest) old o g = rise-good c (fill s (rec q b old rest)) (onRow (fill s) (close st q b rest o)) (grows-above c s q b rest old o g)

@@ -21,7 +21,7 @@ use Rattle.theory_rows.specs.Lean.{Leaned, lean-place}
 use Rattle.theory_growth.specs.Chain.{both, whole, size-fill, nodes-fill, fits-fill, fits-refill, chain-fits}
 use Rattle.theory_growth.specs.Shown.{around, above, shown-fill, shown-whole, shown-rise, height-rise}
 use Rattle.theory_growth.specs.Pages.{tally-risen, placed-risen}
-use Rattle.theory_growth.specs.Keeps.{Growing, rise-good}
+use Rattle.theory_growth.specs.Keeps.{Grows, rise-good}
 use Rattle.theory_growth.specs.Gap.{Gap, steady-lone, spot-gap}
 
 pub record NewFits (x : New) : Type 0 where
@@ -117,8 +117,8 @@ module _ (st : Config) (x : New) (root : Row) (path : List ℕ) (k : ℕ) (t : S
         omega (arith, height-shown (whole (t .chain) (taker .0)), ap levels e, levels-insertAt x k 0 path (shown root), height-shown root, v .levels)
 
     -- Growth starts with it.
-    pub received-growing : Growing (t .chain) (fill (t .position) (t .rest)) taker
-    received-growing = record {
+    pub received-grows : Grows (t .chain) (fill (t .position) (t .rest)) taker
+    received-grows = record {
       fits = was-fits;
       root = ap lone (g .held) ∙ settled-lone root (v .rows .0 .shape);
       grew = received-grew;
@@ -129,7 +129,7 @@ module _ (st : Config) (x : New) (root : Row) (path : List ℕ) (k : ℕ) (t : S
     -- Whether a page was missing or not, the rows fit, no level is too deep, and the lean is in range.
     pub risen-good : Fits (store (new .0)) × (height (new .0) ≤ 24) × Leaned (new .1)
     risen-good =
-        let z = rise-good st (v .ranges) (t .chain) (fill (t .position) (t .rest)) taker received-growing in
+        let z = rise-good st (v .ranges) (t .chain) (fill (t .position) (t .rest)) taker received-grows in
         (z .0, omega (arith, height-rise st (t .chain) taker, high), z .1)
 
     pub risen-valid : new .1 .full ≡ false → Valid st (new .0)

@@ -18,7 +18,7 @@ use Rattle.theory_growth.specs.Gap.{Gap}
 use Rattle.theory_rows.specs.Fits.{Valid}
 use Rattle.theory_rows.specs.Image.{Stored, image-page, length-settings}
 use Rattle.theory_rows.specs.Pages.{bit, or-left, or-right}
-use Rattle.theory_growth.specs.Store.{NewFits, received-growing}
+use Rattle.theory_growth.specs.Store.{NewFits, received-grows}
 use Rattle.theory_decoding.specs.Decode.{stored-image}
 use Rattle.theory_check.specs.Images.{image-is}
 use Rattle.model.specs.Spot.{lastPage, Spot}
@@ -85,7 +85,7 @@ module _ (st : Config) (x : New) (fits : NewFits x) (root : Row) (v : Valid st r
   pub insert-done : new .1 .full ≡ false → Done st (before st root v 0) (new .0) (new .1) after
   insert-done full =
       insert-kept st root v (before st root v) (stored-image st root v) (before-free st root v) (t .chain) (t .position) (t .rest) (g .held) x (t .parent)
-      (received-growing st x root path k t g fits v short) full
+      (received-grows st x root path k t g fits v short) full
 
   -- Bytes with these pages are the image of the new store, if no page was taken where none was free.
   pub insert-image : (img : List ℕ) → length img ≡ pageSize * st .pages → pageOf img ≡ after → new .1 .full ≡ false → img ≡ image st (new .0)

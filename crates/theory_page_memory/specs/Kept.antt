@@ -16,7 +16,7 @@ use Rattle.theory_rows.specs.Lean.{Splittable}
 use Rattle.theory_rows.specs.Pages.{bit, or-right, reserved, tally-freed, tally-rest}
 use Rattle.model.specs.Spot.{Position, fill, Chain, top, below, lastPage}
 use Rattle.theory_growth.specs.Chain.{lastSettled, lastHolder, whole, fits-fill, count-chain}
-use Rattle.theory_growth.specs.Keeps.{Growing, growing-splits, split-able, growing-goes}
+use Rattle.theory_growth.specs.Keeps.{Grows, grows-splits, split-able, grows-goes}
 use Rattle.theory_page_memory.specs.Memory.{Mem, blank, setMem, putMem, separatorMem, keptMem, riseMem, placeMem, MemState, separatorM}
 use Rattle.theory_page_memory.specs.Links.{self, stored-loose, loose-agree, set-other, put-other, put-same, put-stored}
 use Rattle.theory_page_memory.specs.Steps.{Now, StepLeaves, StepKeeps, bit-le, bit-false, now-in, stay, step-own, step-separator}
@@ -99,13 +99,13 @@ module _ (st : Config) (first : List ℕ) where
             settings = k .frame 0 (omega arith) ∙ a .settings;
           })
 
-  stays-done : (c : Chain) (old r : Row) (w : Work) (m : Mem) → Ranges st → Growing c old (r, w) → (w .full ≡ false → Ready c old r w m)
+  stays-done : (c : Chain) (old r : Row) (w : Work) (m : Mem) → Ranges st → Grows c old (r, w) → (w .full ≡ false → Ready c old r w m)
       → lastSettled c || leb (recordSize r) capacity ≡ true → rise st c (r, w) .1 .full ≡ false
       → Done (rise st c (r, w) .0) (rise st c (r, w) .1) (riseMem st c r w m)
   stays-done c old r w m range g ready e full =
       let y = rise-stays st c old (r, w) (g .fits) e in
       done-by (sym y) (sym (mem-stays st c r w m e))
-      (kept-done c old r w m range (growing-splits st range c old (r, w) g .1) ready (subst (λ (o : Out). o .1 .full ≡ false) y full))
+      (kept-done c old r w m range (grows-splits st range c old (r, w) g .1) ready (subst (λ (o : Out). o .1 .full ≡ false) y full))
 
   -- An unsettled record leaves its page, and the record above is ready; its page is as it was.
   pub goes-up : (c : Chain) (s : Position) (q : ℕ) (b : Bool) (rest old r : Row) (w : Work) (m : Mem) → (w .full ≡ false → Ready (below c s q b rest) old r w m)
@@ -141,7 +141,7 @@ module _ (st : Config) (first : List ℕ) where
       )
 
   -- Growth from the last record of a chain upwards.
-  pub rise-done : (c : Chain) (old r : Row) (w : Work) (m : Mem) → Ranges st → Growing c old (r, w) → (w .full ≡ false → Ready c old r w m)
+  pub rise-done : (c : Chain) (old r : Row) (w : Work) (m : Mem) → Ranges st → Grows c old (r, w) → (w .full ≡ false → Ready c old r w m)
       → rise st c (r, w) .1 .full ≡ false → Done (rise st c (r, w) .0) (rise st c (r, w) .1) (riseMem st c r w m)
   rise-done top old r w m range g ready full = stays-done top old r w m range g ready refl full
   rise-done (below c s q b rest) old r w m range g ready full = go (b || leb (recordSize r) capacity) refl (rise-done c)
@@ -153,17 +153,17 @@ module _ (st : Config) (first : List ℕ) where
       mem = separatorMem st q r (freed st q (counted st r w)) (setMem q blank m)
 
       go : (x : Bool) → b || leb (recordSize r) capacity ≡ x
-          → ((old r : Row) (w : Work) (m : Mem) → Ranges st → Growing c old (r, w) → (w .full ≡ false → Ready c old r w m)
+          → ((old r : Row) (w : Work) (m : Mem) → Ranges st → Grows c old (r, w) → (w .full ≡ false → Ready c old r w m)
           → rise st c (r, w) .1 .full ≡ false → Done (rise st c (r, w) .0) (rise st c (r, w) .1) (riseMem st c r w m))
           → let o = rise st (below c s q b rest) (r, w) in
           Done (o .0) (o .1) (riseMem st (below c s q b rest) r w m)
       go true e ih = stays-done (below c s q b rest) old r w m range g ready e full
       go false e ih =
-          let k = growing-splits st range (below c s q b rest) old (r, w) g .1 in
+          let k = grows-splits st range (below c s q b rest) old (r, w) g .1 in
           let y = rise-goes st c s q b rest r w e in
           let f = split-able st range q r (freed st q (counted st r w)) k (leb-false (recordSize r) capacity (or-right b _ e)) .fits in
           done-by (sym y) (sym (mem-goes st c s q b rest r w e m))
-          (ih (fill s (rec q b old rest)) (up .0) (up .1) mem range (growing-goes st range c s q b rest old (r, w) e g)
+          (ih (fill s (rec q b old rest)) (up .0) (up .1) mem range (grows-goes st range c s q b rest old (r, w) e g)
           (λ z. goes-up c s q b rest old r w m ready f z .0) (subst (λ (o : Out). o .1 .full ≡ false) y full))
 
 -- ── the new node ──
@@ -245,7 +245,7 @@ module _ (st : Config) (root : Row) (v : Valid st root) (m : Mem) (stored : Stor
   pub insert-kept : (c : Chain) (s : Position) (rest : Row) → whole c (fill s rest) ≡ root → (x : New) (parent : Head)
       → let o = placeM st x parent (lastPage c) s rest (atRest st root) m in
       let u = rise st c (o .row, o .work) in
-      Growing c (fill s rest) (o .row, o .work) → u .1 .full ≡ false → Done st (m 0) (u .0) (u .1) (riseMem st c (o .row) (o .work) (o .mem))
+      Grows c (fill s rest) (o .row, o .work) → u .1 .full ≡ false → Done st (m 0) (u .0) (u .1) (riseMem st c (o .row) (o .work) (o .mem))
   insert-kept c s rest e x parent g full =
       let o = placeM st x parent (lastPage c) s rest (atRest st root) m in
       rise-done st (m 0) c (fill s rest) (o .row) (o .work) (o .mem) (v .ranges) g (λ z. ready-place c s rest e x parent (g .grew .fits) z .0) full
