@@ -45,50 +45,50 @@ whole-path t (some p) e = refl
 
 -- ── an insert that is refused ──
 
-module _ {img : List ℕ} {st : Config} {root : Row} (r : Reads img st root) (path : List ℕ) (child kind label : ℕ) (content : List ℕ) where
+module _ {img : List ℕ} {st : Config} {root : Row} (r : Reads img st root) (path : List ℕ) (child kind origin label : ℕ) (content : List ℕ) where
   abbrev number : Bool → ℕ
-  number full = insertNumber (shown root) path child (newOf kind label content) full
+  number full = insertNumber (shown root) path child (newOf kind origin label content) full
 
-  refused-is : (n : ℕ) → n ≡ number (grown st root path child (newOf kind label content) .1 .full) → (n ≡ 0 → ⊥)
-      → (insertRefused n, img) ≡ insertOf img path child kind label content
+  refused-is : (n : ℕ) → n ≡ number (grown st root path child (newOf kind origin label content) .1 .full) → (n ≡ 0 → ⊥)
+      → (insertRefused n, img) ≡ insertOf img path child kind origin label content
   unfolding insertOf
   refused-is n e z = sym (rw (opens img st root r, ← e, ne-eqb n 0 z))
 
   -- By its tests.
-  pub refused-early : (n : ℕ) → n ≡ number false → (n ≡ 0 → ⊥) → (insertRefused n, img) ≡ insertOf img path child kind label content
-  refused-early n e z = refused-is n (e ∙ full-unasked (shown root) path child (newOf kind label content) _ (λ k. z (e ∙ k))) z
+  pub refused-early : (n : ℕ) → n ≡ number false → (n ≡ 0 → ⊥) → (insertRefused n, img) ≡ insertOf img path child kind origin label content
+  refused-early n e z = refused-is n (e ∙ full-unasked (shown root) path child (newOf kind origin label content) _ (λ k. z (e ∙ k))) z
 
 -- ── an insert that passes its tests ──
 
 -- The store that the image reads as lets the insert pass, whose arguments are in range; d says where its node goes.
-pub record Passed (img path : List ℕ) (child kind label : ℕ) (content : List ℕ) (d : Admitted) : Type 0 where
+pub record Passed (img path : List ℕ) (child kind origin label : ℕ) (content : List ℕ) (d : Admitted) : Type 0 where
   pub st : Config
   pub root : Row
   pub reads : Reads img st root
-  pub zero : 0 ≡ insertNumber (shown root) path child (newOf kind label content) false
+  pub zero : 0 ≡ insertNumber (shown root) path child (newOf kind origin label content) false
   pub small : label < 65536
   pub byte : IsByte content
   pub parent : d .parent ≡ foundAt img path
   pub takes : (w : Aimed img (d .parent) child) → d .receiver ≡ receiverOf (w .t)
 
-module _ {img path : List ℕ} {child kind label : ℕ} {content : List ℕ} {d : Admitted} (p : Passed img path child kind label content d) where
+module _ {img path : List ℕ} {child kind origin label : ℕ} {content : List ℕ} {d : Admitted} (p : Passed img path child kind origin label content d) where
   abbrev pub X : New
-  X = newOf kind label content
+  X = newOf kind origin label content
 
   abbrev pub made : Out
   made = grown (p .st) (p .root) path child X
 
   -- Refused since no page was left.
-  pub refused-full : true ≡ made .1 .full → (insertRefused 12, img) ≡ insertOf img path child kind label content
+  pub refused-full : true ≡ made .1 .full → (insertRefused 12, img) ≡ insertOf img path child kind origin label content
   refused-full f =
-      refused-is (p .reads) path child kind label content 12
+      refused-is (p .reads) path child kind origin label content 12
       (sym (full-last (shown (p .root)) path child X (made .1 .full) .1 (sym (p .zero), sym f))) (λ e. omega arith)
 
   abbrev pub tests : Accepted (shown (p .root)) path child X false
   tests = accepted (shown (p .root)) path child X false (sym (p .zero))
 
   -- What the code of the new node's bytes requires.
-  pub sound : Sound kind label content
+  pub sound : Sound kind origin label content
   sound = record { kinds = tests .kind; label-fits = p .small; small = tests .small }
 
   pub new-fits : NewFits X
@@ -107,7 +107,7 @@ module _ {img path : List ℕ} {child kind label : ℕ} {content : List ℕ} {d 
 
   abbrev aim : {i : List ℕ} → i ≡ img → Aimed i (d .parent) child
   aim {i} e =
-      aims i (p .st) (p .root) (reads-as e) path child kind label (d .parent) content (sym (p .zero))
+      aims i (p .st) (p .root) (reads-as e) path child kind origin label (d .parent) content (sym (p .zero))
       (p .parent ∙ ap (λ (l : List ℕ). foundAt l path) (sym e))
 
   pub receiver-is : d .receiver ≡ receiverOf (spot .0)
@@ -147,7 +147,7 @@ module _ {img path : List ℕ} {child kind label : ℕ} {content : List ℕ} {d 
     -- Find gives the new node's place.
     pub accepted-is : {i : List ℕ} {at : Place} {splits : ℕ} {lean : ℤ} → child < 4294967296 → i ≡ image (p .st) (made .0)
         → at ≡ findOf i (path ++ four child) .place → splits ≡ made .1 .splits → lean ≡ made .1 .lean
-        → (record { number = 0; place = at; splits = splits; lean = lean }, i) ≡ insertOf img path child kind label content
+        → (record { number = 0; place = at; splits = splits; lean = lean }, i) ≡ insertOf img path child kind origin label content
     unfolding insertOf
     accepted-is {i} k e f q l =
         let entire = whole-path (shown (p .root)) (entries path) (tests .named) in

@@ -40,8 +40,8 @@ pub fn insert_of(
     content: &[u8],
 ) -> InsertAnswer
     requires { ⌜ (checkOf (now image) ≡ 0) × Widths (now image) (now widths) ⌝ }
-    ensures answer { λ r. ⌜ r ≡ insertOf (now (image .entry)) (now (path .entry)) child kind label (now (content .entry)) .0 ⌝ }
-    ensures image { λ _. ⌜ now (image .exit) ≡ insertOf (now (image .entry)) (now (path .entry)) child kind label (now (content .entry)) .1 ⌝ }
+    ensures answer { λ r. ⌜ r ≡ insertOf (now (image .entry)) (now (path .entry)) child kind origin label (now (content .entry)) .0 ⌝ }
+    ensures image { λ _. ⌜ now (image .exit) ≡ insertOf (now (image .entry)) (now (path .entry)) child kind origin label (now (content .entry)) .1 ⌝ }
     ensures table { λ _. ⌜ Widths (now (image .exit)) (now (widths .exit)) ⌝ }
 {
     let k = child as usize;

@@ -21,8 +21,8 @@ use Rattle.base_numbers.specs.Over.{over, over-then}
 -- ── the bytes ──
 
 -- What the numbers of an insert say of its node.
-pub record Sound (kind label : ℕ) (content : List ℕ) : Type 0 where
-  pub kinds : kindBad (newOf kind label content) ≡ false
+pub record Sound (kind origin label : ℕ) (content : List ℕ) : Type 0 where
+  pub kinds : kindBad (newOf kind origin label content) ≡ false
   pub label-fits : label < 65536
   pub small : length content ≤ mostContent
 

@@ -12,7 +12,7 @@ use Rattle.model.specs.Limits.{mostPages, pageSize, mostBytes, mostContent, lon
 use Rattle.model.specs.Row.{Head, Row, nil, agg, lit, rec, size, Config}
 use Rattle.model.specs.Tree.{Node, shown, named, placeOf}
 use Rattle.model.specs.Reading.{Reads, sizeAt, kindAt}
-use Rattle.model.specs.Answers.{lowest}
+use Rattle.model.specs.Answers.{firstRefusal}
 use Rattle.model.specs.Common.{entries, namedIf, namedBy, orEmpty, pathOf, isNone}
 use Rattle.model.specs.Calls.Insert.{isLiteral, childrenBelow, newOf, insertNumber}
 use Rattle.model.specs.Calls.Find.{findIn, findOf}
@@ -49,7 +49,7 @@ foundAt img path = pageSize * findOf img path .place .page + findOf img path .pl
 
 -- The tests of the parent in their order.
 abbrev pub parentNumber : (kind children child : ℕ) → ℕ
-parentNumber kind children k = lowest ((8, eqb kind 2) ∷ (9, ltb children k) ∷ (12, false) ∷ [])
+parentNumber kind children k = firstRefusal ((8, eqb kind 2) ∷ (9, ltb children k) ∷ (12, false) ∷ [])
 
 module _ {img : List ℕ} {kind : ℕ} {head : Head} {content : List ℕ} {children parent : ℕ} (r : NodeRead img kind head content children parent) where
   pub read-room : (parent + 16 ≤ length img) × (parent < mostBytes)
@@ -135,11 +135,11 @@ module _ (img : List ℕ) (st : Config) (root : Row) (reads : Reads img st root)
       go (some p) e z = at p e (named (shown root) p) refl z
 
 -- An insert that is accepted aims at the node that find gives for the parent's path.
-abbrev pub aims : (img : List ℕ) (st : Config) (root : Row) (reads : Reads img st root) (path : List ℕ) (child kind label parent : ℕ) (content : List ℕ)
-    → insertNumber (shown root) path child (newOf kind label content) false ≡ 0 → parent ≡ foundAt img path → Aimed img parent child
-aims img st root reads path child kind label parent content z e =
-    let a = accepted (shown root) path child (newOf kind label content) false z in
-    let (t, f) = spot-accepted root path child (newOf kind label content) false a in
+abbrev pub aims : (img : List ℕ) (st : Config) (root : Row) (reads : Reads img st root) (path : List ℕ) (child kind origin label parent : ℕ) (content : List ℕ)
+    → insertNumber (shown root) path child (newOf kind origin label content) false ≡ 0 → parent ≡ foundAt img path → Aimed img parent child
+aims img st root reads path child kind origin label parent content z e =
+    let a = accepted (shown root) path child (newOf kind origin label content) false z in
+    let (t, f) = spot-accepted root path child (newOf kind origin label content) false a in
     let u = found img st root reads path (a .short) (a .named) in
     record {
       st = st;
@@ -164,7 +164,7 @@ pub record Formed (path : List ℕ) (kind : ℕ) (content : List ℕ) : Type 0 w
 module _ (img path : List ℕ) (child kind : ℕ) (content : List ℕ) where
   -- The insert's number, whatever the store and the label.
   abbrev pub Number : ℕ → Type 0
-  Number n = (st : Config) (root : Row) → Reads img st root → (label : ℕ) → n ≡ insertNumber (shown root) path child (newOf kind label content) false
+  Number n = (st : Config) (root : Row) → Reads img st root → (label : ℕ) → n ≡ insertNumber (shown root) path child (newOf kind origin label content) false
 
   abbrev pub Answers : Admitted → Type 0
   Answers r =
@@ -193,8 +193,8 @@ module _ (img path : List ℕ) (child kind : ℕ) (content : List ℕ) where
   module _ (w : Formed path kind content) where
     -- The tests of the parent are left.
     formed : (st : Config) (root : Row) (label : ℕ) → let parent = namedBy (shown root) path in
-        lowest ((7, isNone parent) ∷ (8, isLiteral parent) ∷ (9, childrenBelow child parent) ∷ (12, false) ∷ []) ≡ insertNumber (shown root) path child
-        (newOf kind label content) false
+        firstRefusal ((7, isNone parent) ∷ (8, isLiteral parent) ∷ (9, childrenBelow child parent) ∷ (12, false) ∷ []) ≡ insertNumber (shown root) path child
+        (newOf kind origin label content) false
     unfolding insertNumber
     formed st root label = rw (le-ltb longestParent (length path) (w .short), w .good, le-ltb mostContent (length content) (w .small))
 

@@ -89,7 +89,7 @@ pub fn admit(
 ) -> Admitted
     requires { ⌜ (checkOf (now image) ≡ 0) × Widths (now image) (now widths) ⌝ }
     ensures { λ r. ⌜ ((st : Config) (root : Row) → Reads (now (image .entry)) st root → (label : ℕ)
-        → r .number ≡ insertNumber (shown root) (now (path .entry)) child (newOf kind label (now (content .entry))) false) ⌝ }
+        → r .number ≡ insertNumber (shown root) (now (path .entry)) child (newOf kind origin label (now (content .entry))) false) ⌝ }
     ensures { λ r. ⌜ (r .number ≡ 0 → r .parent ≡ pageSize * findOf (now (image .entry)) (now (path .entry)) .place .page
         + findOf (now (image .entry)) (now (path .entry)) .place .offset) ⌝ }
     ensures { λ r. ⌜ (r .number ≡ 0 → (w : Aimed (now (image .entry)) (r .parent) child) → r .receiver ≡ receiverOf (w .t)) ⌝ }

@@ -4,13 +4,15 @@ use mathlib.Core.Bool.{Bool, cond}
 use Prim.Native.Nat.{ℕ}
 use lib.ListN.{replicate}
 use lib.IntN.{pos}
-use Rattle.model.specs.Limits.{pageSize, capacity, mostPages, mostLevels, mostContent, mostNode, leastTarget, mostTarget, mostTolerance, theForm}
+use Rattle.model.specs.Limits.{pageSize, capacity, mostPages, mostLevels, mostContent, mostNode, mostOrigin, leastTarget, mostTarget, mostTolerance, theForm}
 use Rattle.model.specs.Limits.{matrixEntries, markBytes, longestPath, longestParent}
 use Rattle.model.specs.declared.Limits.{Limits}
 use Rattle.model.specs.declared.Settings.{Settings}
 use Rattle.model.specs.declared.Place.{Place}
 use Rattle.model.specs.declared.Kind.{Kind}
 use Rattle.model.specs.declared.Kind.the-variants.{Aggregate, Literal}
+use Rattle.model.specs.declared.Origin.{Origin}
+use Rattle.model.specs.declared.Origin.the-variants.{Wire, Stored, TypedIn, Derived}
 use Rattle.model.specs.declared.Next.{Next}
 use Rattle.model.specs.declared.Next.the-variants.{Node, End}
 use Rattle.model.specs.declared.NextAnswer.{NextAnswer}
@@ -35,6 +37,7 @@ theLimits = record {
   marks = markBytes;
   content = mostContent;
   node = mostNode;
+  origin = mostOrigin;
   least = leastTarget;
   most = mostTarget;
   tolerance = mostTolerance;
@@ -49,14 +52,21 @@ abbrev pub kindNumber : Kind → ℕ
 kindNumber Aggregate = 1
 kindNumber Literal = 2
 
--- The numbers of each case of Next: 1 for a node or 0 for the end, then page, offset and kind.
+-- The number of an origin.
+abbrev pub originNumber : Origin → ℕ
+originNumber Wire = 0
+originNumber Stored = 1
+originNumber TypedIn = 2
+originNumber Derived = 3
+
+-- The numbers of each case of Next: 1 for a node or 0 for the end, then page, offset, kind and origin.
 abbrev pub nextNumbers : Next → List ℕ
-nextNumbers (Node n) = 1 ∷ n .place .page ∷ n .place .offset ∷ kindNumber (n .kind) ∷ []
-nextNumbers End = 0 ∷ 0 ∷ 0 ∷ 0 ∷ []
+nextNumbers (Node n) = 1 ∷ n .place .page ∷ n .place .offset ∷ kindNumber (n .kind) ∷ originNumber (n .origin) ∷ []
+nextNumbers End = 0 ∷ 0 ∷ 0 ∷ 0 ∷ 0 ∷ []
 
 -- ── the refusal table ──
 
--- In document 01's words: misfit, settings, broken, level, kind, long, absent, closed, gap, stray, short, full.
+-- In document 01's words: misfit, settings, broken, level, kind, long, absent, closed, gap, stray, short, full; E1 adds 13.
 abbrev pub wrongLength : ℕ
 wrongLength = 1
 
@@ -93,10 +103,13 @@ shortBuffer = 11
 abbrev pub noFreePage : ℕ
 noFreePage = 12
 
--- The lowest number that applies, of tests in the order of the table; an accepted call has 0.
-abbrev pub lowest : List (ℕ × Bool) → ℕ
-lowest [] = 0
-lowest (t ∷ ts) = let r = lowest ts in cond (t .1) (t .0) r
+abbrev pub wrongOrigin : ℕ
+wrongOrigin = 13
+
+-- The number of the first test that applies; an accepted call has 0. The tests of a call are in the order of the table, 13 directly after 5.
+abbrev pub firstRefusal : List (ℕ × Bool) → ℕ
+firstRefusal [] = 0
+firstRefusal (t ∷ ts) = let r = firstRefusal ts in cond (t .1) (t .0) r
 
 -- ── refused ──
 
@@ -113,7 +126,7 @@ abbrev pub writeRefused : (number : ℕ) → WriteAnswer
 writeRefused n = record { number = n; written = 0 }
 
 abbrev pub readRefused : (number : ℕ) → ReadNode
-readRefused n = record { number = n; kind = 0; label = 0; children = 0; start = 0; len = 0 }
+readRefused n = record { number = n; kind = 0; origin = 0; label = 0; children = 0; start = 0; len = 0 }
 
 abbrev pub nextRefused : (number : ℕ) → NextAnswer
 nextRefused n = record { number = n; next = End }

@@ -8,7 +8,7 @@ use Prim.Native.Nat.{ℕ, _+_, _≤_, _<_, max}
 use lib.ListN.{length, drop}
 use lib.IntN.{ℤ, pos, negsuc, subℕ}
 use Rattle.model.specs.Limits.{capacity}
-use Rattle.model.specs.Row.{Row, store, size, base, lone, Held, records, recordSize, Config, every, isByte, inRange, headFits, fits, height, valid}
+use Rattle.model.specs.Row.{Row, store, size, base, lone, Held, records, recordSize, Config, every, isByte, inRange, fits, height, valid}
 use Rattle.model.specs.Tree.{Tree, shown, Node, nodes, named, New, insertAt, placeOf}
 use Rattle.model.specs.Growth.{Work, splitPoint, startOfD, rootRow, separator}
 use Rattle.model.specs.Reading.{Reads, lengthOk, reading}
@@ -68,7 +68,7 @@ pub record OneMore (x : New) (a b : List Node) : Type 0 where
   pub new : map look b ≡ before ++ x ∷ after
 
 -- An accepted insert: the store stays valid and shows the plain tree's insert; the path of the new node names it and gives its place;
--- no other node's kind, label, content or order changes; the lean is in range, and 0 without a split.
+-- no other node's kind, origin, label, content or order changes; the lean is in range, and 0 without a split.
 pub record GrowthHolds (st : Config) (root : Row) (path : List ℕ) (k : ℕ) (x : New) : Type 0 where
   pub keeps : valid st (grown st root path k x .0) ≡ true
   pub shows : shown (grown st root path k x .0) ≡ insertAt x k 0 (pathOf path) (shown root)
@@ -79,7 +79,7 @@ pub record GrowthHolds (st : Config) (root : Row) (path : List ℕ) (k : ℕ) (x
   pub unsplit : grown st root path k x .1 .splits ≡ 0 → grown st root path k x .1 .lean ≡ pos 0
 
 abbrev pub Growth : Type 0
-Growth = (st : Config) (root : Row) (path : List ℕ) (k : ℕ) (x : New) → valid st root ≡ true → headFits (x .head) ≡ true → every isByte (x .content) ≡ true
+Growth = (st : Config) (root : Row) (path : List ℕ) (k : ℕ) (x : New) → valid st root ≡ true → x .head .label < 65536 → every isByte (x .content) ≡ true
     → insertNumber (shown root) path k x (grown st root path k x .1 .full) ≡ 0 → GrowthHolds st root path k x
 
 -- ── demand 3 ──

@@ -29,6 +29,10 @@ mostContent = 520
 abbrev pub mostNode : ℕ
 mostNode = 6 + mostContent
 
+-- Where a node came from, its origin: 0 seen on the wire, 1 read from a store, 2 typed in, 3 derived.
+abbrev pub mostOrigin : ℕ
+mostOrigin = 3
+
 -- The settings: the range of the target, the largest tolerance, the form, the matrix entries, the length used.
 abbrev pub leastTarget : ℕ
 leastTarget = 64

@@ -29,7 +29,7 @@ abbrev pub kindAt : (bytes : List ℕ) → (at : ℕ) → ℕ
 kindAt s i = getD s i 0
 
 abbrev pub headAt : (bytes : List ℕ) → (at : ℕ) → Head
-headAt s i = record { label = twoAt s (i + 2) }
+headAt s i = record { origin = getD s (i + 1) 0; label = twoAt s (i + 2) }
 
 abbrev pub sizeAt : (bytes : List ℕ) → (at : ℕ) → ℕ
 sizeAt s i = twoAt s (i + 4)

@@ -4,18 +4,19 @@ use mathlib.Core.List.{List, [], _∷_, _++_}
 use Prim.Native.Nat.{ℕ, zero, suc, _+_, _*_, _-_, _/_, _%_, max}
 use lib.ListN.{length, getD, replicate}
 use lib.Dec.{leb, ltb, eqb}
-use Rattle.model.specs.Limits.{pageSize, capacity, mostPages, mostLevels, mostContent, leastTarget, mostTarget, mostTolerance, theForm, matrixEntries}
+use Rattle.model.specs.Limits.{pageSize, capacity, mostPages, mostLevels, mostContent, mostOrigin, leastTarget, mostTarget, mostTolerance, theForm, matrixEntries}
 use Rattle.model.specs.Limits.{settingsSize}
 
 -- ── the row ──
 
 -- What the header of an aggregate or a literal says besides its kind and size.
 pub record Head : Type 0 where
+  pub origin : ℕ
   pub label : ℕ
 
--- Proxies and helpers have label 0.
+-- Proxies and helpers have a zero byte and label 0.
 abbrev pub noHead : Head
-noHead = record { label = 0 }
+noHead = record { origin = 0; label = 0 }
 
 -- A row of nodes as they stand one after another: an aggregate with its children, a literal with its content, or a proxy,
 -- which carries the record that it stands for: its page, whether it is settled, and what it holds.
@@ -84,9 +85,9 @@ recordSize r = base r + size r
 abbrev pub two : ℕ → List ℕ
 two n = n % 256 ∷ n / 256 % 256 ∷ []
 
--- A node's header: kind, a zero byte, label, size with header and all inside it.
+-- A node's header: kind, origin, label, size with header and all inside it.
 abbrev pub header : (kind : ℕ) → Head → (size : ℕ) → List ℕ
-header k h n = k ∷ 0 ∷ two (h .label) ++ two n
+header k h n = k ∷ h .origin ∷ two (h .label) ++ two n
 
 -- Kind 1 aggregate, 2 literal, 3 proxy.
 abbrev pub bytes : Row → List ℕ
@@ -189,7 +190,7 @@ inRange st = leb 2 (st .pages) && leb (st .pages) mostPages && leb leastTarget (
     && leb (st .tolerance) mostTolerance && eqb (st .form) theForm && eqb (length (st .matrix)) matrixEntries && every isEntry (st .matrix)
 
 abbrev pub headFits : Head → Bool
-headFits h = ltb (h .label) 65536
+headFits h = leb (h .origin) mostOrigin && ltb (h .label) 65536
 
 -- A record fits its page, and its root is one aggregate or literal, or, unless it is settled, a helper with two children or more.
 abbrev pub recordFits : (settled : Bool) → Row → Bool

@@ -1,6 +1,6 @@
 // The types of the calls' arguments and answers. What the calls do is in specs/.
 ghost use mathlib.Core.Path.{_≡_};
-ghost use Rattle.model.specs.Answers.{kindNumber, usualSettings, usualMatrix, theLimits};
+ghost use Rattle.model.specs.Answers.{kindNumber, originNumber, usualSettings, usualMatrix, theLimits};
 
 // The numbers of the settings; the split matrix goes beside them as a slice, since one of any length may be handed over.
 pub struct Settings {
@@ -25,6 +25,8 @@ impl Settings {
     pub const CONTENT: usize = 520;
 
     pub const NODE: usize = 526;
+    // The largest number of an origin.
+    pub const MOST_ORIGIN: usize = 3;
     // The range of the target, the largest tolerance, the form.
     pub const LEAST_TARGET: usize = 64;
 
@@ -54,6 +56,7 @@ impl Settings {
             marks: Settings::MARKS,
             content: Settings::CONTENT,
             node: Settings::NODE,
+            origin: Settings::MOST_ORIGIN,
             least: Settings::LEAST_TARGET,
             most: Settings::MOST_TARGET,
             tolerance: Settings::MOST_TOLERANCE,
@@ -92,6 +95,7 @@ pub struct Limits {
     pub marks: usize,
     pub content: usize,
     pub node: usize,
+    pub origin: usize,
     pub least: usize,
     pub most: usize,
     pub tolerance: usize,
@@ -123,10 +127,32 @@ impl Kind {
     }
 }
 
+// Where a node came from: seen on the wire, read from a store, typed in, or derived.
+pub enum Origin {
+    Wire,
+    Stored,
+    TypedIn,
+    Derived,
+}
+
+impl Origin {
+    pub fn number(self) -> u32
+        ensures { λ r. ⌜ r ≡ originNumber self ⌝ }
+    {
+        match self {
+            Origin::Wire => 0,
+            Origin::Stored => 1,
+            Origin::TypedIn => 2,
+            Origin::Derived => 3,
+        }
+    }
+}
+
 // The following node in document order, or the end.
 pub struct NextNode {
     pub place: Place,
     pub kind: Kind,
+    pub origin: Origin,
 }
 
 pub enum Next {
@@ -162,6 +188,7 @@ pub struct WriteAnswer {
 pub struct ReadNode {
     pub number: u32,
     pub kind: u32,
+    pub origin: u32,
     pub label: u32,
     pub children: u32,
     pub start: usize,

@@ -12,7 +12,7 @@ use Rattle.model.specs.Limits.{mostPages, pageSize, mostBytes, longestPath}
 use Rattle.model.specs.Row.{Row, image, Config}
 use Rattle.model.specs.Tree.{shown, New, Node, nodes, placeOf, fromPlace}
 use Rattle.model.specs.Reading.{Reads}
-use Rattle.model.specs.Answers.{lowest, insertRefused}
+use Rattle.model.specs.Answers.{firstRefusal, insertRefused}
 use Rattle.model.specs.Common.{isNone, namedBy, placeOr, pathOf, pathBytes, write, recordPages}
 use Rattle.model.specs.Calls.Check.{checkOf}
 use Rattle.model.specs.Calls.Insert.{insertNumber, newOf, grown, insertOf}
@@ -92,7 +92,7 @@ module _ (img : List ℕ) (st : Config) (root : Row) (r : Reads img st root) whe
   found-small path =
       rw (opens img st root r)
       (cond-case (λ (a : FindAnswer). SmallPlace (a .place))
-      (eqb (lowest ((4, ltb longestPath (length path)) ∷ (7, isNone (namedBy (shown root) path)) ∷ [])) 0) (λ _. small-place (pathOf path))
+      (eqb (firstRefusal ((4, ltb longestPath (length path)) ∷ (7, isNone (namedBy (shown root) path)) ∷ [])) 0) (λ _. small-place (pathOf path))
       (λ _. no-place))
 
   next-node-small : (x : Place) → SmallNext (nextOf img x .next)
@@ -173,13 +173,13 @@ pub record SmallInsert (a : InsertAnswer) : Type 0 where
 zero-insert : (n : ℕ) → SmallInsert (insertRefused n)
 zero-insert n = record { place = no-place; lean = omega arith }
 
-module _ (img path : List ℕ) (child kind label : ℕ) (content : List ℕ) (small : label < 65536) (byte : IsByte content) where
-  inserted-small : (st : Config) (root : Row) → Reads img st root → SmallInsert (insertOf img path child kind label content .0)
+module _ (img path : List ℕ) (child kind origin label : ℕ) (content : List ℕ) (small : label < 65536) (byte : IsByte content) where
+  inserted-small : (st : Config) (root : Row) → Reads img st root → SmallInsert (insertOf img path child kind origin label content .0)
   unfolding insertOf
   inserted-small st root r = rw (opens img st root r) (go (eqb n 0) refl)
     where
       x : New
-      x = newOf kind label content
+      x = newOf kind origin label content
 
       o : Out
       o = grown st root path child x
@@ -199,9 +199,9 @@ module _ (img path : List ℕ) (child kind label : ℕ) (content : List ℕ) (sm
       go true e = accepted (eqb-true n 0 e)
       go false e = zero-insert n
 
-  insert-zero : (n : ℕ) → (n ≡ 0 → ⊥) → checkOf img ≡ n → SmallInsert (insertOf img path child kind label content .0)
+  insert-zero : (n : ℕ) → (n ≡ 0 → ⊥) → checkOf img ≡ n → SmallInsert (insertOf img path child kind origin label content .0)
   unfolding insertOf
   insert-zero n z e = rw (refuses img n e z) (zero-insert n)
 
-  pub insert-small : SmallInsert (insertOf img path child kind label content .0)
+  pub insert-small : SmallInsert (insertOf img path child kind origin label content .0)
   insert-small = by-store _ img insert-zero inserted-small

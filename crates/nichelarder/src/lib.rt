@@ -63,11 +63,11 @@ pub extern "C" fn nl_insert(
     answer: &mut [u32; 3],
     lean: &mut i32,
 ) -> u32
-    ensures number { λ r. ⌜ r ≡ insertOf (now (image .entry)) (now (parent .entry)) child kind label (now (content .entry)) .0 .number ⌝ }
+    ensures number { λ r. ⌜ r ≡ insertOf (now (image .entry)) (now (parent .entry)) child kind origin label (now (content .entry)) .0 .number ⌝ }
     ensures answer { λ _. ⌜ now (answer .exit)
-        ≡ insertNumbers (insertOf (now (image .entry)) (now (parent .entry)) child kind label (now (content .entry)) .0) ⌝ }
-    ensures lean { λ _. ⌜ now (lean .exit) ≡ insertOf (now (image .entry)) (now (parent .entry)) child kind label (now (content .entry)) .0 .lean ⌝ }
-    ensures image { λ _. ⌜ now (image .exit) ≡ insertOf (now (image .entry)) (now (parent .entry)) child kind label (now (content .entry)) .1 ⌝ }
+        ≡ insertNumbers (insertOf (now (image .entry)) (now (parent .entry)) child kind origin label (now (content .entry)) .0) ⌝ }
+    ensures lean { λ _. ⌜ now (lean .exit) ≡ insertOf (now (image .entry)) (now (parent .entry)) child kind origin label (now (content .entry)) .0 .lean ⌝ }
+    ensures image { λ _. ⌜ now (image .exit) ≡ insertOf (now (image .entry)) (now (parent .entry)) child kind origin label (now (content .entry)) .1 ⌝ }
 {
     let a = store::insert(image, parent, child, kind as usize, label, content);
     *answer = [a.place.page as u32, a.place.offset as u32, a.splits];

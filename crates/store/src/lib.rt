@@ -53,8 +53,8 @@ pub fn insert(
     label: u16,
     content: &[u8],
 ) -> InsertAnswer
-    ensures answer { λ r. ⌜ r ≡ insertOf (now (image .entry)) (now (path .entry)) child kind label (now (content .entry)) .0 ⌝ }
-    ensures image { λ _. ⌜ now (image .exit) ≡ insertOf (now (image .entry)) (now (path .entry)) child kind label (now (content .entry)) .1 ⌝ }
+    ensures answer { λ r. ⌜ r ≡ insertOf (now (image .entry)) (now (path .entry)) child kind origin label (now (content .entry)) .0 ⌝ }
+    ensures image { λ _. ⌜ now (image .exit) ≡ insertOf (now (image .entry)) (now (path .entry)) child kind origin label (now (content .entry)) .1 ⌝ }
 {
     let mut widths = [0u32; Settings::PAGES];
     let n = check_widths(image, &mut widths);

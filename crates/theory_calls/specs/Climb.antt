@@ -13,7 +13,7 @@ use Rattle.model.specs.Common.{pathBytes}
 use Rattle.model.specs.Calls.Climb.{climbFrom, climbIn, climbOf, climbCall}
 use Rattle.model.specs.declared.Place.{Place}
 use Rattle.model.specs.declared.WriteAnswer.{WriteAnswer}
-use Rattle.theory_calls.specs.Lowest.{write-number}
+use Rattle.theory_calls.specs.FirstRefusal.{write-number}
 
 module _ (order : (img buffer : List ℕ) → List ℕ) (img : List ℕ) (st : Config) (root : Row) (r : Reads img st root) where
   module _ (x : Place) (buffer : List ℕ) where

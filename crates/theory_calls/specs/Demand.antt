@@ -42,7 +42,7 @@ module _ (order : (img buffer : List ℕ) → List ℕ) (o : Orders order) where
   one-call : (img : List ℕ) (st : Config) (root : Row) → Reads img st root → (c : Effect) → Call order c → c .Typed → CallHolds order img (shown root) c
   one-call img st root r c (format s m label) y = format-holds order img st root r s m label y
   one-call img st root r c check y = check-holds order img st root r
-  one-call img st root r c (insert path child kind label content) y = insert-holds order img st root r path child kind label content y
+  one-call img st root r c (insert path child kind origin label content) y = insert-holds order img st root r path child kind origin label content y
   one-call img st root r c (find path) y = find-holds order img st root r path
   one-call img st root r c (climb x buffer) y = climb-holds order img st root r x buffer
   one-call img st root r c (read x) y = read-holds order img st root r x

@@ -16,7 +16,7 @@ use Rattle.model.specs.Limits.{longestPath}
 use Rattle.model.specs.Common.{namedBy, isNone}
 use Rattle.model.specs.Calls.Find.{findIn, findOf, findCall}
 use Rattle.model.specs.declared.FindAnswer.{FindAnswer}
-use Rattle.theory_calls.specs.Lowest.{accept-number, lowest-given}
+use Rattle.theory_calls.specs.FirstRefusal.{accept-number, first-given}
 
 module _ (order : (img buffer : List ℕ) → List ℕ) (img : List ℕ) (st : Config) (root : Row) (r : Reads img st root) where
   module _ (path : List ℕ) where
@@ -31,7 +31,7 @@ module _ (order : (img buffer : List ℕ) → List ℕ) (img : List ℕ) (st : C
     never-full : findOf img path .number ≡ 12 → ⊥
     unfolding findIn
     never-full z =
-        lowest-given 12 tests (omega arith) (omega arith, (omega arith, tt))
+        first-given 12 tests (omega arith) (omega arith, (omega arith, tt))
         (sym (ap (λ (a : FindAnswer). a .number) found ∙ accept-number (λ (a : FindAnswer). a .number) _ _ _ refl refl) ∙ z)
 
     pub find-holds : CallHolds order img (shown root) (findCall path)

@@ -14,7 +14,7 @@ use Rattle.model.specs.Reading.{Reads, lengthOk}
 use Rattle.model.specs.Claims.{Matches, CallHolds}
 use Rattle.model.specs.Calls.Format.{config, formatNumber, rootHead, formatOf, formatCall}
 use Rattle.model.specs.declared.Settings.{Settings}
-use Rattle.theory_calls.specs.Lowest.{lowest-clear, lowest-given}
+use Rattle.theory_calls.specs.FirstRefusal.{first-clear, first-given}
 use Rattle.theory_calls.specs.Matches.{image-matches}
 
 -- A root aggregate alone is a valid store.
@@ -29,7 +29,7 @@ module _ (n : ℕ) (st : Config) where
 
   in-range : formatNumber n st ≡ 0 → inRange st ≡ true
   unfolding formatNumber
-  in-range z = go (inRange st) (eqb (st .pages) (n / pageSize)) (lowest-clear tests (omega arith, (omega arith, tt)) z .1 .0)
+  in-range z = go (inRange st) (eqb (st .pages) (n / pageSize)) (first-clear tests (omega arith, (omega arith, tt)) z .1 .0)
     where
       go : (a b : Bool) → not (a && b) ≡ false → a ≡ true
       go true b e = refl
@@ -38,7 +38,7 @@ module _ (n : ℕ) (st : Config) where
   -- 12 is none of its numbers.
   never-full : formatNumber n st ≡ 12 → ⊥
   unfolding formatNumber
-  never-full = lowest-given 12 tests (omega arith) (omega arith, (omega arith, tt))
+  never-full = first-given 12 tests (omega arith) (omega arith, (omega arith, tt))
 
 module _ (order : (img buffer : List ℕ) → List ℕ) (img : List ℕ) (st : Config) (root : Row) (r : Reads img st root)
     (s : Settings) (m : List ℕ) (label : ℕ) (h : label < 65536) where

@@ -33,13 +33,13 @@ the-added x none h = absurd h
 the-added x (some n) h = (n, refl, h .0, h .1)
 
 pub growth : Growth
-growth st root path k x passes head byte z =
+growth st root path k x passes label byte z =
     let t = shown root in
     let entry = pathOf path in
     let o = grown st root path k x in
     let a = accepted t path k x (o .1 .full) z in
     let v = valid-says st root passes in
-    let new : NewFits x = record { head = record { label = ltb-true _ _ head }; long = a .small; byte = bytes-say (x .content) byte } in
+    let new : NewFits x = record { head = record { origin = a .origin; label = label }; long = a .small; byte = bytes-say (x .content) byte } in
     let short : length entry ≤ 22 = omega (arith, path-length path, a .short) in
     let parent = by-entries (Parent k) t (entries path) (parent-says k (namedBy t path) (a .named) (a .aggregate) (a .within)) in
     let (spot, e) = spot-accepted root path k x (o .1 .full) a in

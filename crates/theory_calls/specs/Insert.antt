@@ -21,7 +21,7 @@ use Rattle.theory_decoding.specs.Valid.{bytes-say, valid-holds}
 use Rattle.theory_decoding.specs.Reading.{reads-valid}
 use Rattle.theory_calls.specs.Open.{opens}
 use Rattle.theory_calls.specs.Paths.{path-length}
-use Rattle.theory_calls.specs.Lowest.{accept-number}
+use Rattle.theory_calls.specs.FirstRefusal.{accept-number}
 use Rattle.theory_calls.specs.Tests.{full-last, accepted}
 use Rattle.theory_calls.specs.Spot.{spot-accepted}
 use Rattle.theory_calls.specs.Matches.{image-matches}
@@ -29,9 +29,9 @@ use Rattle.theory_calls.specs.Matches.{image-matches}
 -- ── an insert ──
 
 module _ (order : (img buffer : List ℕ) → List ℕ) (img : List ℕ) (st : Config) (root : Row) (r : Reads img st root)
-    (path : List ℕ) (child kind label : ℕ) (content : List ℕ) (typed : insertCall path child kind label content .Typed) where
+    (path : List ℕ) (child kind origin label : ℕ) (content : List ℕ) (typed : insertCall path child kind origin label content .Typed) where
   x : New
-  x = newOf kind label content
+  x = newOf kind origin label content
 
   o : Out
   o = grown st root path child x
@@ -44,7 +44,7 @@ module _ (order : (img buffer : List ℕ) → List ℕ) (img : List ℕ) (st : C
   unfolding n o x
   new-reads z =
       let a = accepted (shown root) path child x (o .1 .full) z in
-      let fit : NewFits x = record { head = record { label = typed .0 }; long = a .small; byte = bytes-say content (typed .1) } in
+      let fit : NewFits x = record { head = record { origin = a .origin; label = typed .0 }; long = a .small; byte = bytes-say content (typed .1) } in
       let (t, e) = spot-accepted root path child x (o .1 .full) a in
       let v = grow-valid st x root (pathOf path) child t e fit (reads-valid img st root r) (omega (arith, path-length path, a .short)) (a .room) in
       record { passes = valid-holds st (o .0) v; same = refl }
@@ -55,7 +55,7 @@ module _ (order : (img buffer : List ℕ) → List ℕ) (img : List ℕ) (st : C
   outcome : Bool → InsertAnswer × List ℕ
   outcome b = cond b (new-answer, image st (o .0)) (insertRefused n, img)
 
-  insert-is : insertOf img path child kind label content ≡ outcome (eqb n 0)
+  insert-is : insertOf img path child kind origin label content ≡ outcome (eqb n 0)
   unfolding insertOf outcome new-answer n o x
   insert-is = rw (opens img st root r)
 
@@ -63,7 +63,7 @@ module _ (order : (img buffer : List ℕ) → List ℕ) (img : List ℕ) (st : C
   unfolding o x
   growth-is = rw (opens img st root r)
 
-  number-is : insertOf img path child kind label content .0 .number ≡ n
+  number-is : insertOf img path child kind origin label content .0 .number ≡ n
   unfolding outcome new-answer
   number-is = ap (λ (z : InsertAnswer × List ℕ). z .0 .number) insert-is ∙ go (eqb n 0) refl
     where
@@ -81,7 +81,7 @@ module _ (order : (img buffer : List ℕ) → List ℕ) (img : List ℕ) (st : C
   roomy-number : (k : ℕ) (a : InsertAnswer) → a .number ≡ 0 → accept k a (insertRefused k) .number ≡ k
   roomy-number k a e = accept-number (λ (a : InsertAnswer). a .number) k a (insertRefused k) e refl
 
-  full-exactly : (insertOf img path child kind label content .0 .number ≡ 12)
+  full-exactly : (insertOf img path child kind origin label content .0 .number ≡ 12)
       ↔ ((insertNumber (shown root) path child x false ≡ 0) × (insertWork img path child x .full ≡ true))
   unfolding n
   full-exactly =
@@ -89,7 +89,7 @@ module _ (order : (img buffer : List ℕ) → List ℕ) (img : List ℕ) (st : C
       let f = ap (λ (w : Work). w .full) growth-is in
       (λ z. (t .0 (sym number-is ∙ z) .0, f ∙ t .0 (sym number-is ∙ z) .1), λ z. number-is ∙ t .1 (z .0, sym f ∙ z .1))
 
-  same-answer : insertOf img path child kind label content .0 ≡ plain (insertOf img path child kind label content .1) (insertWork img path child x)
+  same-answer : insertOf img path child kind origin label content .0 ≡ plain (insertOf img path child kind origin label content .1) (insertWork img path child x)
   unfolding outcome new-answer plain n
   same-answer = rw (insert-is, growth-is) (go (eqb n 0) refl)
     where
@@ -99,7 +99,7 @@ module _ (order : (img buffer : List ℕ) → List ℕ) (img : List ℕ) (st : C
       go true e = rw (opens (image st (o .0)) st (o .0) (new-reads (eqb-true n 0 e)))
       go false e = refl
 
-  same-tree : Matches (insertOf img path child kind label content .1)
+  same-tree : Matches (insertOf img path child kind origin label content .1)
       (accept (insertNumber (shown root) path child x (insertWork img path child x .full)) (insertAt x child 0 (pathOf path) (shown root)) (shown root))
   unfolding outcome n o
   same-tree = rw (insert-is, growth-is) (go (eqb n 0) refl)
@@ -111,7 +111,7 @@ module _ (order : (img buffer : List ℕ) → List ℕ) (img : List ℕ) (st : C
           (image-matches (image st (o .0)) st (o .0) (new-reads (eqb-true n 0 e)))
       go false e = image-matches img st root r
 
-  pub insert-holds : CallHolds order img (shown root) (insertCall path child kind label content)
+  pub insert-holds : CallHolds order img (shown root) (insertCall path child kind origin label content)
   unfolding plain x
   insert-holds = record {
     answer = same-answer;

@@ -1,4 +1,4 @@
-pub mod Lowest
+pub mod FirstRefusal
 pub mod Open
 pub mod Paths
 pub mod Pieces

@@ -12,10 +12,10 @@ use Rattle.model.specs.Row.{Row, store, count, Config}
 use Rattle.model.specs.Tree.{Tree, shown, Node, nodes, placeOf, isPlace, fromPlace}
 use Rattle.model.specs.Reading.{Reads}
 use Rattle.model.specs.Answers.{noPlaceThere, shortBuffer, writeRefused, readRefused, nextRefused}
-use Rattle.model.specs.Common.{placeOr, write, pathBytes, recordPages}
+use Rattle.model.specs.Common.{write, pathBytes, recordPages}
 use Rattle.model.specs.Calls.Climb.{climbIn, climbOf}
 use Rattle.model.specs.Calls.Read.{readIn, readOf}
-use Rattle.model.specs.Calls.Next.{kindOf, nextIn, nextFrom, nextOf}
+use Rattle.model.specs.Calls.Next.{asNext, nextIn, nextFrom, nextOf}
 use Rattle.model.specs.Calls.Records.{pageBytes, times, IsOrder, recordsOf}
 use Rattle.model.specs.declared.Place.{Place}
 use Rattle.model.specs.declared.Next.the-variants as next-is
@@ -102,7 +102,7 @@ module _ (img : List ℕ) (st : Config) (root : Row) (r : Reads img st root) whe
 
   pub next-follows : (before after : List Node) (n m : Node) (x : Place) → nodes (shown root) ≡ before ++ n ∷ m ∷ after → placeOf root (n .path) ≡ some x
       → (y : Place) × (placeOf root (m .path) ≡ some y)
-      × (nextOf img x ≡ record { number = 0; next = next-is.Node (record { place = placeOr (placeOf root (m .path)); kind = kindOf (m .kind) }) })
+      × (nextOf img x ≡ record { number = 0; next = next-is.Node (asNext (placeOf root) m) })
   unfolding nextOf nextIn
   next-follows before after n m x e p =
       let i : Mem m (nodes (shown root)) = rw e (Memᴰ·append-right before (List·Memᴰ·tail (List·Memᴰ·head refl))) in

@@ -56,7 +56,7 @@ module _ (img : List ℕ) (st : Config) (root : Row) (r : Reads img st root) (x 
       go [] e = refl
       go (n ∷ ns) e =
           let m = from-stands (placeOf root) x (nodes (shown root)) ns n e in
-          λ i. record { number = 0; kind = n .kind; label = n .head .label; children = n .children; content = part n (m .0) (m .1) i }
+          λ i. record { number = 0; kind = n .kind; origin = n .head .origin; label = n .head .label; children = n .children; content = part n (m .0) (m .1) i }
 
 module _ (order : (img buffer : List ℕ) → List ℕ) (img : List ℕ) (st : Config) (root : Row) (r : Reads img st root) where
   module _ (x : Place) where

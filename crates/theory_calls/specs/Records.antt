@@ -13,7 +13,7 @@ use Rattle.theory_calls.specs.Asking.{asked}
 use Rattle.model.specs.Common.{recordPages}
 use Rattle.model.specs.Calls.Records.{pageBytes, recordsOf, recordsCall}
 use Rattle.model.specs.declared.WriteAnswer.{WriteAnswer}
-use Rattle.theory_calls.specs.Lowest.{write-number}
+use Rattle.theory_calls.specs.FirstRefusal.{write-number}
 use Rattle.theory_calls.specs.Pieces.{same-length}
 
 pub length-pageBytes : (ps : List ℕ) → length (pageBytes ps) ≡ 2 * length ps

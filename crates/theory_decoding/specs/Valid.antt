@@ -6,11 +6,11 @@ use Prim.Native.Nat.{ℕ, _≤_}
 use native.Mathlib.Omega.{arith}
 use borrow.Author.Tests.{ltb-true, lt-ltb, leb-true, le-leb, eqb-true, eq-eqb, ne-eqb, not-true}
 use lib.ListN.{length}
-use lib.Dec.{leb, eqb}
-use Rattle.model.specs.Limits.{mostPages, capacity, mostContent}
-use Rattle.model.specs.Row.{Row, nil, agg, lit, rec, store, lone, nodeCount, recordSize, isAgg, height, count, outside, placed, Config, every, isByte}
+use lib.Dec.{leb, ltb, eqb}
+use Rattle.model.specs.Limits.{mostPages, capacity, mostContent, mostOrigin}
+use Rattle.model.specs.Row.{Head, Row, nil, agg, lit, rec, store, lone, nodeCount, recordSize, isAgg, height, count, outside, placed, Config, every, isByte}
 use Rattle.model.specs.Row.{isEntry, inRange, headFits, recordFits, fits, valid, standing, mayStand, byTable}
-use Rattle.theory_rows.specs.Fits.{IsByte, Shape, one, more, RecordFits, Fits, Ranges, Placed, Valid}
+use Rattle.theory_rows.specs.Fits.{IsByte, HeadFits, Shape, one, more, RecordFits, Fits, Ranges, Placed, Valid}
 use Rattle.theory_rows.specs.Laws.{cond-case, isNil-nil}
 
 -- ── tests in a row ──
@@ -98,22 +98,30 @@ record-says s r e =
 record-holds : (s : Bool) (r : Row) → RecordFits s r → recordFits s r ≡ true
 record-holds s r f = rw (le-leb (recordSize r) capacity (f .fits)) (shape-holds (f .shape))
 
+pub head-says : (h : Head) → headFits h ≡ true → HeadFits h
+head-says h e =
+    let t = both (leb (h .origin) mostOrigin) (ltb (h .label) 65536) e in
+    record { origin = leb-true (h .origin) mostOrigin (t .0); label = ltb-true (h .label) 65536 (t .1) }
+
+pub head-holds : (h : Head) → HeadFits h → headFits h ≡ true
+head-holds h f = rw (le-leb (h .origin) mostOrigin (f .origin)) (lt-ltb (h .label) 65536 (f .label))
+
 pub fits-says : (r : Row) → fits r ≡ true → Fits r
 fits-says nil e = tt
 fits-says (agg h cs rest) e =
     let t = tests-hold (headFits h) (fits cs ∷ fits rest ∷ []) e in
-    (record { label = ltb-true (h .label) 65536 (t .0) }, fits-says cs (t .1 .0), fits-says rest (t .1 .1 .0))
+    (head-says h (t .0), fits-says cs (t .1 .0), fits-says rest (t .1 .1 .0))
 fits-says (lit h c rest) e =
     let t = tests-hold (headFits h) (leb (length c) mostContent ∷ every isByte c ∷ fits rest ∷ []) e in
-    (record { label = ltb-true (h .label) 65536 (t .0) }, leb-true (length c) mostContent (t .1 .0), bytes-say c (t .1 .1 .0), fits-says rest (t .1 .1 .1 .0))
+    (head-says h (t .0), leb-true (length c) mostContent (t .1 .0), bytes-say c (t .1 .1 .0), fits-says rest (t .1 .1 .1 .0))
 fits-says (rec p s r rest) e =
     let t = tests-hold (recordFits s r) (fits r ∷ fits rest ∷ []) e in
     (record-says s r (t .0), fits-says r (t .1 .0), fits-says rest (t .1 .1 .0))
 
 fits-holds : (r : Row) → Fits r → fits r ≡ true
 fits-holds nil f = refl
-fits-holds (agg h cs rest) f = rw (lt-ltb (h .label) 65536 (f .0 .label), fits-holds cs (f .1)) (fits-holds rest (f .2))
-fits-holds (lit h c rest) f = rw (lt-ltb (h .label) 65536 (f .0 .label), le-leb (length c) mostContent (f .1), bytes-hold c (f .2)) (fits-holds rest (f .3))
+fits-holds (agg h cs rest) f = rw (head-holds h (f .0), fits-holds cs (f .1)) (fits-holds rest (f .2))
+fits-holds (lit h c rest) f = rw (head-holds h (f .0), le-leb (length c) mostContent (f .1), bytes-hold c (f .2)) (fits-holds rest (f .3))
 fits-holds (rec p s r rest) f = rw (record-holds s r (f .0), fits-holds r (f .1)) (fits-holds rest (f .2))
 
 -- ── pages ──

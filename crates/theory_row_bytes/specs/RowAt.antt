@@ -44,7 +44,7 @@ module _ {l : List ℕ} {pos k : ℕ} {h : Head} {n : ℕ} (v : HeaderAt l pos k
   header-kind = let z : pos + 0 ≡ pos = omega arith in rw z at (byte-at 0)
 
   pub header-head : HeadFits h → headAt l pos ≡ h
-  header-head f = let e = number-at 2 (h .label) (f .label) refl refl in λ i. record { label = e i }
+  header-head f = let e = number-at 2 (h .label) (f .label) refl refl in λ i. record { origin = byte-at 1 i; label = e i }
 
   pub header-size : n < 65536 → sizeAt l pos ≡ n
   header-size f = number-at 4 n f refl refl
@@ -56,7 +56,7 @@ module _ {l : List ℕ} {pos k : ℕ} {h : Head} {n : ℕ} (v : HeaderAt l pos k
   header-inside = omega (arith, sym (length-drop pos l) ∙ ap length (v .is))
 
 pub no-head : HeadFits noHead
-no-head = record { label = omega arith }
+no-head = record { origin = omega arith; label = omega arith }
 
 -- A header in the middle of some bytes,
 pub header-after : (l pre post : List ℕ) (pos k : ℕ) (h : Head) (n : ℕ) → l ≡ pre ++ (header k h n ++ post) → length pre ≡ pos → HeaderAt l pos k h n

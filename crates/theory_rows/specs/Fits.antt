@@ -4,7 +4,7 @@ use mathlib.Core.Bool.{Bool, true, false, cond}
 use mathlib.Core.List.{List, [], _∷_}
 use Prim.Native.Nat.{ℕ, _≤_, _<_}
 use lib.ListN.{length}
-use Rattle.model.specs.Limits.{mostPages, capacity, mostContent}
+use Rattle.model.specs.Limits.{mostPages, capacity, mostContent, mostOrigin}
 use Rattle.model.specs.Row.{Head, Row, nil, agg, lit, rec, store, lone, nodeCount, recordSize, isAgg, height, count, outside, Config, every, isEntry}
 
 abbrev pub IsByte : List ℕ → Type 0
@@ -12,6 +12,7 @@ IsByte [] = Unit {0}
 IsByte (b ∷ bs) = (b < 256) × IsByte bs
 
 pub record HeadFits (h : Head) : Type 0 where
+  pub origin : h .origin ≤ mostOrigin
   pub label : h .label < 65536
 
 -- The row of a record: one aggregate or literal, or, unless it is settled, two nodes or more under a helper.

@@ -143,7 +143,7 @@ module _ (st : Config) (k : Ranges st) where
         keeps = omega (arith, nodeCount-⊹ sep rest, nodeCount-some sep (b .some));
       })
 
-  module _ (x : New) (label : HeadFits (x .head)) (long : length (x .content) ≤ mostContent) (byte : IsByte (x .content)) where
+  module _ (x : New) (head : HeadFits (x .head)) (long : length (x .content) ≤ mostContent) (byte : IsByte (x .content)) where
     -- the new node in front of a row
     pub record Placed (rest : Row) (o : Out) : Type 0 where
       pub fits : Fits (o .0)
@@ -153,8 +153,8 @@ module _ (st : Config) (k : Ranges st) where
     asRow-good : (rest : Row) (w : Work) → Fits rest → Placed rest (asRow st x rest, w)
     asRow-good rest w f =
         cond-case (λ (r : Row). Placed rest (r, w)) (eqb (x .kind) 1)
-        (λ _. record { fits = (label, tt, f); grown = omega arith; keeps = omega arith })
-        (λ _. record { fits = (label, long, byte, f); grown = omega arith; keeps = omega arith })
+        (λ _. record { fits = (head, tt, f); grown = omega arith; keeps = omega arith })
+        (λ _. record { fits = (head, long, byte, f); grown = omega arith; keeps = omega arith })
 
     asRow-lone : lone (asRow st x nil) ≡ true
     asRow-lone = cond-case (λ (r : Row). lone r ≡ true) (eqb (x .kind) 1) (λ _. refl) (λ _. refl)

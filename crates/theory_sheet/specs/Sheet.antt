@@ -26,7 +26,7 @@ fresh n = formatOf (replicate (pageSize * n) 0) (usualSettings n) (replicate 256
 
 -- A literal of n zero bytes put in at child k of the root: the answer, and the image after it.
 abbrev put : (img : List ℕ) → (k n : ℕ) → InsertAnswer × List ℕ
-put img k n = insertOf img [] k 2 9 (replicate n 0)
+put img k n = insertOf img [] k 2 0 9 (replicate n 0)
 
 -- So many literals of 520 bytes put in from child k on.
 abbrev filled : (count k : ℕ) → (img : List ℕ) → List ℕ
@@ -45,7 +45,7 @@ usual n = config (usualSettings n) (replicate 256 2)
 
 -- The listing's image.
 abbrev listing : List ℕ
-listing = insertOf (insertOf (fresh 3) [] 0 2 9 (0x41 ∷ 0x42 ∷ []) .1) [] 0 1 300 [] .1
+listing = insertOf (insertOf (fresh 3) [] 0 2 0 9 (0x41 ∷ 0x42 ∷ []) .1) [] 0 1 0 300 [] .1
 
 -- Seven literals of 520 bytes in five pages, and in three; then one after another, four more in five pages.
 abbrev seven : List ℕ
@@ -69,11 +69,11 @@ eleven = put (ten .1) 10 mostContent
 -- So many literals of 520 zero bytes, as a row.
 abbrev lits : ℕ → Row
 lits zero = nil
-lits (suc n) = lit (record { label = 9 }) (replicate mostContent 0) (lits n)
+lits (suc n) = lit (record { origin = 0; label = 9 }) (replicate mostContent 0) (lits n)
 
 -- The literal of `put`, and what growth makes of it from a spot on.
 abbrev literal : (n : ℕ) → New
-literal n = newOf 2 9 (replicate n 0)
+literal n = newOf 2 0 9 (replicate n 0)
 
 abbrev grownFrom : Config → Row → (n : ℕ) → Option Spot → Out
 grownFrom st root n t = fromSpot st (literal n) root t
@@ -106,7 +106,7 @@ startD = ofJoined startOfD
 -- n aggregates, each the one child of the one before, below the root.
 abbrev chain : (n : ℕ) → (img : List ℕ) → List ℕ
 chain zero img = img
-chain (suc n) img = let r = chain n img in insertOf r (replicate (4 * n) 0) 0 1 1 [] .1
+chain (suc n) img = let r = chain n img in insertOf r (replicate (4 * n) 0) 0 1 0 1 [] .1
 
 -- A record's bytes: a helper over so many literals of 520 zero bytes; the root over proxies to pages from 2 on.
 abbrev helperOf : (count : ℕ) → List ℕ
@@ -117,7 +117,7 @@ proxies zero q = []
 proxies (suc k) q = header 3 noHead 8 ++ two q ++ proxies k (suc q)
 
 abbrev rootBytes : (count : ℕ) → List ℕ
-rootBytes k = header 1 (record { label = 7 }) (6 + 8 * k) ++ proxies k 2
+rootBytes k = header 1 (record { origin = 0; label = 7 }) (6 + 8 * k) ++ proxies k 2
 
 -- The record of a page, as long as its trailer says.
 abbrev held : (img : List ℕ) → (page : ℕ) → List ℕ
@@ -158,7 +158,7 @@ pub record BenchSheet : Type 0 where
   -- Content 520 goes in; 521 gives 6; 521 under a path of 23 gives 4.
   pub content520 : put (fresh 3) 0 mostContent .0 ≡ answer 1 6 0 (pos 0)
   pub content521 : put (fresh 3) 0 521 ≡ (insertRefused 6, fresh 3)
-  pub deep521 : insertOf (fresh 3) (replicate longestPath 0) 0 2 9 (replicate 521 0) ≡ (insertRefused 4, fresh 3)
+  pub deep521 : insertOf (fresh 3) (replicate longestPath 0) 0 2 0 9 (replicate 521 0) ≡ (insertRefused 4, fresh 3)
   -- In a chain of 24 nodes, Find with 23 zeros gives the last; with 24 it gives 4.
   pub chain23 : findOf (chain 23 (fresh 3)) (replicate longestPath 0) ≡ record { number = 0; place = record { page = 1; offset = 138 } }
   pub chain24 : findOf (chain 23 (fresh 3)) (replicate 96 0) ≡ findRefused 4
@@ -172,7 +172,7 @@ unfolding image inRange valid placeAt twoAt grow spotIn spotAfter rise kept clos
 computed = tt
 
 abbrev rootOf : Row → Row
-rootOf children = agg (record { label = 7 }) children nil
+rootOf children = agg (record { origin = 0; label = 7 }) children nil
 
 abbrev helper : (page count : ℕ) → (rest : Row) → Row
 helper q k rest = rec q false (lits k) rest
@@ -181,7 +181,7 @@ abbrev sevenImage : (pages : ℕ) → List ℕ
 sevenImage n = image (usual n) (rootOf (lits 7))
 
 abbrev withLast : ℕ → Row
-withLast n = rootOf (lits 7 ⊹ lit (record { label = 9 }) (replicate n 0) nil)
+withLast n = rootOf (lits 7 ⊹ lit (record { origin = 0; label = 9 }) (replicate n 0) nil)
 
 abbrev eightImage : List ℕ
 eightImage = image (usual 5) (rootOf (helper 2 3 (helper 3 5 nil)))
@@ -197,7 +197,7 @@ elevenImage = image (usual 5) (rootOf (helper 2 3 (helper 3 3 (helper 4 5 nil)))
 
 abbrev chainRow : ℕ → Row
 chainRow zero = nil
-chainRow (suc n) = agg (record { label = 1 }) (chainRow n) nil
+chainRow (suc n) = agg (record { origin = 0; label = 1 }) (chainRow n) nil
 
 seven-is : filled 7 0 (fresh 5) ≡ sevenImage 5
 unfolding computed
@@ -306,7 +306,7 @@ on-image f e g = ap (λ (z : InsertAnswer × List ℕ). f (z .1)) e ∙ g
 plain : (take 20 (pageOf listing 1)
     ≡ 0x01 ∷ 0x00 ∷ 0x07 ∷ 0x00 ∷ 0x14 ∷ 0x00 ∷ 0x01 ∷ 0x00 ∷ 0x2c ∷ 0x01 ∷ 0x06 ∷ 0x00 ∷ 0x02 ∷ 0x00 ∷ 0x09 ∷ 0x00 ∷ 0x08 ∷ 0x00 ∷ 0x41 ∷ 0x42 ∷ [])
     × (used listing 1 ≡ 20) × (put (fresh 3) 0 mostContent .0 ≡ answer 1 6 0 (pos 0)) × (put (fresh 3) 0 521 ≡ (insertRefused 6, fresh 3))
-    × (insertOf (fresh 3) (replicate longestPath 0) 0 2 9 (replicate 521 0) ≡ (insertRefused 4, fresh 3))
+    × (insertOf (fresh 3) (replicate longestPath 0) 0 2 0 9 (replicate 521 0) ≡ (insertRefused 4, fresh 3))
 unfolding computed
 plain = (refl, refl, refl, refl, refl)
 

@@ -9,7 +9,7 @@ use Rattle.model.specs.Row.{Head, nil, agg, Config, image, inRange}
 use Rattle.model.specs.Tree.{end, branch}
 use Rattle.model.specs.Growth.{noWork}
 use Rattle.model.specs.Reading.{lengthOk}
-use Rattle.model.specs.Answers.{wrongLength, wrongSettings, lowest}
+use Rattle.model.specs.Answers.{wrongLength, wrongSettings, firstRefusal}
 use Rattle.model.specs.Common.{accept}
 use Rattle.model.specs.Effect.{Effect}
 use Rattle.model.specs.declared.Settings.{Settings}
@@ -19,11 +19,11 @@ config s m = record { pages = s .pages; target = s .target; tolerance = s .toler
 
 -- The settings are out of range, or the page count is not the image's.
 unfoldable pub formatNumber : (imageLength : ℕ) → Config → ℕ
-formatNumber n st = lowest ((wrongLength, not (lengthOk n)) ∷ (wrongSettings, not (inRange st && eqb (st .pages) (n / pageSize))) ∷ [])
+formatNumber n st = firstRefusal ((wrongLength, not (lengthOk n)) ∷ (wrongSettings, not (inRange st && eqb (st .pages) (n / pageSize))) ∷ [])
 
 -- What the header of a formatted root says.
 abbrev pub rootHead : (label : ℕ) → Head
-rootHead label = record { label = label }
+rootHead label = record { origin = 0; label = label }
 
 unfoldable pub formatOf : (img : List ℕ) → Settings → (matrix : List ℕ) → (label : ℕ) → ℕ × List ℕ
 formatOf img s m label =

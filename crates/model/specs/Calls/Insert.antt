@@ -6,11 +6,11 @@ use mathlib.Core.Path.{_≡_}
 use Prim.Native.Nat.{ℕ, _<_}
 use lib.ListN.{length}
 use lib.Dec.{ltb, eqb}
-use Rattle.model.specs.Limits.{mostContent, longestParent}
+use Rattle.model.specs.Limits.{mostContent, mostOrigin, longestParent}
 use Rattle.model.specs.Row.{Row, Config, image, every, isByte}
 use Rattle.model.specs.Tree.{Tree, shown, Node, New, insertAt, placeOf}
 use Rattle.model.specs.Growth.{Work, noWork, Out, grow}
-use Rattle.model.specs.Answers.{longPath, wrongKind, longContent, noNode, literalParent, pastChildren, noFreePage, lowest, insertRefused}
+use Rattle.model.specs.Answers.{longPath, wrongKind, wrongOrigin, longContent, noNode, literalParent, pastChildren, noFreePage, firstRefusal, insertRefused}
 use Rattle.model.specs.Common.{namedBy, pathOf, accept, isNone, placeOr, opened, onStore}
 use Rattle.model.specs.Effect.{Effect}
 use Rattle.model.specs.declared.InsertAnswer.{InsertAnswer}
@@ -27,23 +27,24 @@ abbrev pub childrenBelow : (child : ℕ) → Option Node → Bool
 childrenBelow k none = false
 childrenBelow k (some n) = ltb (n .children) k
 
--- The number of an insert as child k of the node that the path names; `full`: growth takes a page and none is free.
+-- The number of an insert as child k of the node that the path names; `full`: growth takes a page and none is free. The origin is tested directly after the kind.
 unfoldable pub insertNumber : Tree → (path : List ℕ) → (k : ℕ) → New → (full : Bool) → ℕ
 insertNumber t path k x full =
     let parent = namedBy t path in
-    lowest ((longPath, ltb longestParent (length path)) ∷ (wrongKind, kindBad x) ∷ (longContent, ltb mostContent (length (x .content)))
-    ∷ (noNode, isNone parent) ∷ (literalParent, isLiteral parent) ∷ (pastChildren, childrenBelow k parent) ∷ (noFreePage, full) ∷ [])
+    firstRefusal ((longPath, ltb longestParent (length path)) ∷ (wrongKind, kindBad x) ∷ (wrongOrigin, ltb mostOrigin (x .head .origin))
+    ∷ (longContent, ltb mostContent (length (x .content))) ∷ (noNode, isNone parent) ∷ (literalParent, isLiteral parent) ∷ (pastChildren, childrenBelow k parent)
+    ∷ (noFreePage, full) ∷ [])
 
-abbrev pub newOf : (kind label : ℕ) → (content : List ℕ) → New
-newOf kind label content = record { kind = kind; head = record { label = label }; content = content }
+abbrev pub newOf : (kind origin label : ℕ) → (content : List ℕ) → New
+newOf kind origin label content = record { kind = kind; head = record { origin = origin; label = label }; content = content }
 
 -- What growth makes of an insert.
 abbrev pub grown : Config → Row → (path : List ℕ) → (child : ℕ) → New → Out
 grown st root path child x = grow st root (pathOf path) child x
 
-unfoldable pub insertOf : (img path : List ℕ) → (child kind label : ℕ) → (content : List ℕ) → InsertAnswer × List ℕ
-insertOf img path child kind label content = onStore (opened img) (λ n. (insertRefused n, img)) (λ st root.
-    let x = newOf kind label content in
+unfoldable pub insertOf : (img path : List ℕ) → (child kind origin label : ℕ) → (content : List ℕ) → InsertAnswer × List ℕ
+insertOf img path child kind origin label content = onStore (opened img) (λ n. (insertRefused n, img)) (λ st root.
+    let x = newOf kind origin label content in
     let o = grown st root path child x in
     let n = insertNumber (shown root) path child x (o .1 .full) in
     accept n (record { number = 0; place = placeOr (placeOf (o .0) (pathOf path ++ child ∷ [])); splits = o .1 .splits; lean = o .1 .lean }, image st (o .0))
@@ -55,15 +56,15 @@ insertWork img path child x = onStore (opened img) (λ n. noWork) (λ st root. g
 
 -- The plain tree: the new node, without children, becomes the child of the given number. Its place is where it stands after the call; split count and lean are
 -- the growth rules'.
-abbrev pub insertCall : (path : List ℕ) → (child kind label : ℕ) → (content : List ℕ) → Effect
-insertCall path child kind label content = record {
+abbrev pub insertCall : (path : List ℕ) → (child kind origin label : ℕ) → (content : List ℕ) → Effect
+insertCall path child kind origin label content = record {
   Typed = (label < 65536) × (every isByte content ≡ true);
   Answer = InsertAnswer;
   number = λ a. a .number;
-  growth = λ img. insertWork img path child (newOf kind label content);
-  onImage = λ img. insertOf img path child kind label content;
+  growth = λ img. insertWork img path child (newOf kind origin label content);
+  onImage = λ img. insertOf img path child kind origin label content;
   onTree = λ f h t.
-      let x = newOf kind label content in
+      let x = newOf kind origin label content in
       let n = insertNumber t path child x (f .full) in
       let new : InsertAnswer = record { number = 0; place = placeOr (f .placeAfter (pathOf path ++ child ∷ [])); splits = h .splits; lean = h .lean } in
       (accept n new (insertRefused n), accept n (insertAt x child 0 (pathOf path) t) t);

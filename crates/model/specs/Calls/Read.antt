@@ -17,14 +17,15 @@ use Rattle.model.specs.declared.ReadNode.{ReadNode}
 pub record ReadValue : Type 0 where
   pub number : ℕ
   pub kind : ℕ
+  pub origin : ℕ
   pub label : ℕ
   pub children : ℕ
   pub content : List ℕ
 
 -- Of the first of some nodes.
 abbrev pub readFrom : List Node → ReadValue
-readFrom [] = record { number = noPlaceThere; kind = 0; label = 0; children = 0; content = [] }
-readFrom (n ∷ ns) = record { number = 0; kind = n .kind; label = n .head .label; children = n .children; content = n .content }
+readFrom [] = record { number = noPlaceThere; kind = 0; origin = 0; label = 0; children = 0; content = [] }
+readFrom (n ∷ ns) = record { number = 0; kind = n .kind; origin = n .head .origin; label = n .head .label; children = n .children; content = n .content }
 
 -- In a tree whose nodes have places.
 unfoldable pub readIn : Tree → (place : List ℕ → Option Place) → Place → ReadValue
@@ -35,6 +36,7 @@ abbrev pub asRead : Place → ReadValue → ReadNode
 asRead x v = record {
   number = v .number;
   kind = v .kind;
+  origin = v .origin;
   label = v .label;
   children = v .children;
   start = cond (eqb (length (v .content)) 0) 0 (pageSize * x .page + x .offset + 6);
@@ -49,7 +51,7 @@ abbrev pub partOf : (img : List ℕ) → ReadNode → List ℕ
 partOf img r = take (r .len) (drop (r .start) img)
 
 abbrev pub valueOf : (img : List ℕ) → ReadNode → ReadValue
-valueOf img r = record { number = r .number; kind = r .kind; label = r .label; children = r .children; content = partOf img r }
+valueOf img r = record { number = r .number; kind = r .kind; origin = r .origin; label = r .label; children = r .children; content = partOf img r }
 
 -- The content is compared as bytes.
 abbrev pub readCall : Place → Effect

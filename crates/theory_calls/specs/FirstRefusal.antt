@@ -1,4 +1,4 @@
--- The lowest number that applies, for any tests.
+-- The first test that applies, for any tests.
 use mathlib.Core.Path.{_≡_, refl, sym, _∙_}
 use mathlib.Core.Logic.{_↔_}
 use mathlib.Core.Bool.{Bool, true, false, cond, false≢true}
@@ -8,7 +8,7 @@ use native.Mathlib.Omega.{arith}
 use borrow.Author.Tests.{eqb-true}
 use lib.ListN.{length}
 use lib.Dec.{ltb, eqb}
-use Rattle.model.specs.Answers.{lowest}
+use Rattle.model.specs.Answers.{firstRefusal}
 use Rattle.model.specs.Common.{accept, write}
 use Rattle.model.specs.declared.WriteAnswer.{WriteAnswer}
 use Rattle.theory_rows.specs.Laws.{cond-case}
@@ -35,31 +35,31 @@ Without n [] = Unit {0}
 Without n (t ∷ ts) = (t .0 ≡ n → ⊥) × Without n ts
 
 -- Of an accepted call no test applies.
-pub lowest-clear : (ts : List (ℕ × Bool)) → Without 0 ts → lowest ts ≡ 0 → Clear ts
-lowest-clear [] o e = tt
-lowest-clear ((k, true) ∷ ts) o e = absurd (o .0 e)
-lowest-clear ((k, false) ∷ ts) o e = (refl, lowest-clear ts (o .1) e)
+pub first-clear : (ts : List (ℕ × Bool)) → Without 0 ts → firstRefusal ts ≡ 0 → Clear ts
+first-clear [] o e = tt
+first-clear ((k, true) ∷ ts) o e = absurd (o .0 e)
+first-clear ((k, false) ∷ ts) o e = (refl, first-clear ts (o .1) e)
 
 -- A number other than 0 that is given is a test's.
-pub lowest-given : (n : ℕ) (ts : List (ℕ × Bool)) → (n ≡ 0 → ⊥) → Without n ts → lowest ts ≡ n → ⊥
-lowest-given n [] z o e = z (sym e)
-lowest-given n ((k, true) ∷ ts) z o e = o .0 e
-lowest-given n ((k, false) ∷ ts) z o e = lowest-given n ts z (o .1) e
+pub first-given : (n : ℕ) (ts : List (ℕ × Bool)) → (n ≡ 0 → ⊥) → Without n ts → firstRefusal ts ≡ n → ⊥
+first-given n [] z o e = z (sym e)
+first-given n ((k, true) ∷ ts) z o e = o .0 e
+first-given n ((k, false) ∷ ts) z o e = first-given n ts z (o .1) e
 
 -- A last test changes nothing where another applies, or where it does not.
-pub last-unasked : (ts : List (ℕ × Bool)) (n : ℕ) (b : Bool) → (lowest ts ≡ 0 → ⊥) → lowest (ts ++ (n, b) ∷ []) ≡ lowest ts
+pub last-unasked : (ts : List (ℕ × Bool)) (n : ℕ) (b : Bool) → (firstRefusal ts ≡ 0 → ⊥) → firstRefusal (ts ++ (n, b) ∷ []) ≡ firstRefusal ts
 last-unasked [] n b z = absurd (z refl)
 last-unasked ((k, true) ∷ ts) n b z = refl
 last-unasked ((k, false) ∷ ts) n b z = last-unasked ts n b z
 
-pub last-false : (ts : List (ℕ × Bool)) (n : ℕ) → lowest (ts ++ (n, false) ∷ []) ≡ lowest ts
+pub last-false : (ts : List (ℕ × Bool)) (n : ℕ) → firstRefusal (ts ++ (n, false) ∷ []) ≡ firstRefusal ts
 last-false [] n = refl
 last-false ((k, true) ∷ ts) n = refl
 last-false ((k, false) ∷ ts) n = last-false ts n
 
 -- So its number comes exactly where no other test applies and it does.
 pub last-exactly : (ts : List (ℕ × Bool)) (n : ℕ) (b : Bool) → Without 0 ts → Without n ts → (n ≡ 0 → ⊥)
-    → (lowest (ts ++ (n, b) ∷ []) ≡ n) ↔ ((lowest (ts ++ (n, false) ∷ []) ≡ 0) × (b ≡ true))
+    → (firstRefusal (ts ++ (n, b) ∷ []) ≡ n) ↔ ((firstRefusal (ts ++ (n, false) ∷ []) ≡ 0) × (b ≡ true))
 last-exactly [] n true o p z = (λ e. (refl, refl), λ e. refl)
 last-exactly [] n false o p z = (λ e. absurd (z (sym e)), λ e. absurd (false≢true (e .1)))
 last-exactly ((k, true) ∷ ts) n b o p z = (λ e. absurd (p .0 e), λ e. absurd (o .0 (e .0)))
