@@ -11,6 +11,14 @@ ghost use Rattle.base_layout.specs.Setup.{setupOn};
 
 // ── the header of the node at a byte ──
 
+// Its origin.
+pub fn origin_at(s: &[u8], at: usize) -> usize
+    requires { ⌜ at + 6 ≤ length (now s) ⌝ }
+    ensures { λ r. ⌜ (r ≡ headAt (now (s .entry)) at .origin) × (r < 256) ⌝ }
+{
+    wide(s[at + 1])
+}
+
 // Its label.
 pub fn label_at(s: &[u8], at: usize) -> usize
     requires { ⌜ at + 6 ≤ length (now s) ⌝ }

@@ -3,15 +3,15 @@ use mathlib.Core.Path.{_≡_}
 use mathlib.Core.List.{List}
 use mathlib.Core.Bool.{Bool, true, false, _&&_}
 use Prim.Native.Nat.{ℕ, _+_, _-_, _*_, _<_}
-use lib.ListN.{length, drop, getD}
+use lib.ListN.{length, drop}
 use lib.Dec.{leb, eqb}
-use Rattle.model.specs.Limits.{mostLevels, mostNode}
+use Rattle.model.specs.Limits.{mostLevels, mostNode, mostOrigin}
 use Rattle.model.specs.Row.{mayStand}
-use Rattle.model.specs.Reading.{kindAt, sizeAt}
+use Rattle.model.specs.Reading.{kindAt, headAt, sizeAt}
 
 -- The bytes start with a node of the kind that may stand in the holder at the level, as the first two say.
 unfoldable pub standsOf : List ℕ → (kind holder level : ℕ) → Bool
-standsOf s kind holder level = eqb (kindAt s 0) kind && eqb (getD s 1 0) 0 && leb level mostLevels && mayStand holder kind
+standsOf s kind holder level = eqb (kindAt s 0) kind && leb (headAt s 0 .origin) mostOrigin && leb level mostLevels && mayStand holder kind
 
 -- The bytes start with an aggregate of n bytes that may stand there.
 unfoldable pub aggregateOf : List ℕ → (n holder level : ℕ) → Bool

@@ -8,9 +8,9 @@ use lib.ListN.{length, take, getD}
 use lib.Seq.{length-take-le, getD-take}
 use lib.Dec.{eqb}
 use borrow.Author.Tests.{eq-eqb, le-leb, eqb-true, eqb-false, leb-true, ne-eqb}
-use Rattle.model.specs.Limits.{mostNode, mostLevels}
+use Rattle.model.specs.Limits.{mostNode, mostLevels, mostOrigin}
 use Rattle.model.specs.Row.{mayStand}
-use Rattle.model.specs.Reading.{twoAt, sizeAt}
+use Rattle.model.specs.Reading.{twoAt, headAt, sizeAt}
 use Rattle.theory_decoding.specs.Valid.{both as and-both}
 use Rattle.theory_check.specs.Steps.{passing, size-long}
 use Rattle.theory_check.specs.Tests.{wholeSize, passingKind, shapeOf}
@@ -20,7 +20,7 @@ use Rattle.read_nodes.specs.Leaf.{standsOf, aggregateOf, literalOf}
 -- what the test shows of the bytes
 record Stands (s : List ℕ) (kind holder level : ℕ) : Type 0 where
   first : getD s 0 0 ≡ kind
-  second : getD s 1 0 ≡ 0
+  origin : headAt s 0 .origin ≤ mostOrigin
   low : level ≤ mostLevels
   may : mayStand holder kind ≡ true
 
@@ -29,8 +29,8 @@ unfolding standsOf
 stands-says s kind holder level e =
     let may = and-both _ _ e in
     let low = and-both _ _ (may .0) in
-    let second = and-both _ _ (low .0) in
-    record { first = eqb-true _ _ (second .0); second = eqb-true _ _ (second .1); low = leb-true _ _ (low .1); may = may .1 }
+    let origin = and-both _ _ (low .0) in
+    record { first = eqb-true _ _ (origin .0); origin = leb-true _ _ (origin .1); low = leb-true _ _ (low .1); may = may .1 }
 
 module _ (s : List ℕ) (holder level : ℕ) where
   -- the same of the tests for one kind
@@ -49,12 +49,12 @@ module _ (s : List ℕ) (holder level : ℕ) where
   head-of : (kind : ℕ) → 6 ≤ length s → sizeAt s 0 ≡ length s → kind ≤ 4 → shapeOf s kind ≡ true → Stands s kind holder level → kind ≡ passingKind s holder
   unfolding passingKind
   head-of kind long size small shape h =
-      simp (h .first, le-leb _ _ long, le-leb _ _ small, h .may, eq-eqb _ _ (h .second), eq-eqb _ _ size, shape)
+      simp (h .first, le-leb _ _ long, le-leb _ _ small, h .may, le-leb _ _ (h .origin), eq-eqb _ _ size, shape)
 
   -- an aggregate that is what the test asks passes it
   agg-is : 6 ≤ length s → sizeAt s 0 ≡ length s → Stands s 1 holder level → aggregateOf s (length s) holder level ≡ true
   unfolding aggregateOf standsOf
-  agg-is long size h = simp (le-leb _ _ long, eq-eqb _ _ size, eq-eqb _ _ (h .first), eq-eqb _ _ (h .second), le-leb _ _ (h .low), h .may)
+  agg-is long size h = simp (le-leb _ _ long, eq-eqb _ _ size, eq-eqb _ _ (h .first), le-leb _ _ (h .origin), le-leb _ _ (h .low), h .may)
 
   shape-1 : shapeOf s 1 ≡ true
   unfolding shapeOf
@@ -76,7 +76,7 @@ module _ (s : List ℕ) (holder level : ℕ) where
           let h = passing s holder kind (sym e) z in
           let one : kind ≡ 1 = omega (arith, h .small) in
           let may = ap (mayStand holder) (sym one) ∙ h .may in
-          let stands : Stands s 1 holder level = record { first = h .first ∙ one; second = h .second; low = low; may = may } in
+          let stands : Stands s 1 holder level = record { first = h .first ∙ one; origin = h .origin; low = low; may = may } in
           no (sym none ∙ agg-is (h .long) (h .size) stands)
 
 -- the first n bytes, where the node has n
@@ -93,9 +93,9 @@ module _ (s : List ℕ) (n : ℕ) (long : 6 ≤ n) where
   head-in kind holder level inside size small shape h =
       let l = length-take-le n s inside in
       let first = getD-take n s 0 0 (omega arith) in
-      let second = getD-take n s 1 0 (omega arith) in
+      let same : headAt (take n s) 0 .origin ≡ headAt s 0 .origin = getD-take n s 1 0 (omega arith) in
       head-of (take n s) holder level kind (omega arith) (two-in ∙ size ∙ sym l) small shape
-      (record { first = first ∙ h .first; second = second ∙ h .second; low = h .low; may = h .may })
+      (record { first = first ∙ h .first; origin = omega (arith, same, h .origin); low = h .low; may = h .may })
 
 -- the bytes are an aggregate that stands
 pub aggregate-head : (s : List ℕ) (holder level : ℕ) → aggregateOf s (length s) holder level ≡ true

@@ -1,5 +1,6 @@
 // The check's tests of a node's bytes by themselves: its size, its kind, and what the walk can pass over or go straight into.
 use base_layout::label_at;
+use base_layout::origin_at;
 use base_layout::size_at;
 use base_node_kinds::may_stand;
 use base_numbers::wide;
@@ -8,7 +9,7 @@ ghost use mathlib.Core.Path.{_≡_};
 ghost use Prim.Native.Nat.{_+_, _≤_, _<_};
 ghost use lib.ListN.{length};
 ghost use Rattle.model.specs.Limits.{mostLevels};
-ghost use Rattle.theory_check.specs.Tests.{wholeSize, twoChildren, shapeOf, passingKind};
+ghost use Rattle.theory_check.specs.Tests.{wholeSize, twoChildren, bareHead, shapeOf, passingKind};
 ghost use Rattle.read_nodes.specs.Leaf.{standsOf, aggregateOf, literalOf, Only};
 
 // The size of the node that the part starts with, 0 where no whole node stands there.
@@ -39,16 +40,27 @@ pub fn two_children(rest: &[u8]) -> bool
     n < rest.len()
 }
 
+// Whether a header has neither origin nor label, as those of proxies and helpers.
+pub fn bare(part: &[u8]) -> bool
+    requires { ⌜ 6 ≤ length (now part) ⌝ }
+    ensures { λ r. ⌜ r ≡ bareHead (now (part .entry)) ⌝ }
+{
+    if origin_at(part, 0) != 0 {
+        return false;
+    }
+    label_at(part, 0) == 0
+}
+
 // What a node's kind asks of it.
 pub fn shaped(part: &[u8], kind: usize) -> bool
     requires { ⌜ 6 ≤ length (now part) ⌝ }
     ensures { λ r. ⌜ r ≡ shapeOf (now (part .entry)) kind ⌝ }
 {
     if kind == 3 {
-        return label_at(part, 0) == 0;
+        return bare(part);
     }
     if kind == 4 {
-        if label_at(part, 0) != 0 {
+        if !bare(part) {
             return false;
         }
         return two_children(&part[6..]);
@@ -74,7 +86,7 @@ pub fn head(part: &[u8], holder: usize) -> usize
     if !may_stand(holder, kind) {
         return 0;
     }
-    if part[1] != 0 {
+    if Settings::MOST_ORIGIN < origin_at(part, 0) {
         return 0;
     }
     if size_at(part, 0) != part.len() {
@@ -86,7 +98,7 @@ pub fn head(part: &[u8], holder: usize) -> usize
     kind
 }
 
-// Whether the part starts with a node of the kind, by its first two bytes, that may stand in the holder, at a level that may be.
+// Whether the part starts with a node of the kind, by its first two bytes, kind and origin, that may stand in the holder, at a level that may be.
 pub fn stands(part: &[u8], kind: usize, holder: usize, level: usize) -> bool
     requires { ⌜ (6 ≤ length (now part)) × (holder < 5) × (kind < 5) ⌝ }
     ensures { λ r. ⌜ r ≡ standsOf (now (part .entry)) kind holder level ⌝ }
@@ -94,7 +106,7 @@ pub fn stands(part: &[u8], kind: usize, holder: usize, level: usize) -> bool
     if wide(part[0]) != kind {
         return false;
     }
-    if part[1] != 0 {
+    if Settings::MOST_ORIGIN < origin_at(part, 0) {
         return false;
     }
     if Settings::LEVELS < level {

@@ -67,5 +67,5 @@ header-is s holder kind h =
     let label = two-at s 2 (h .all) in
     let size : two (length s) ≡ getD s 4 0 ∷ getD s 5 0 ∷ [] = ap two (sym (h .node .size)) ∙ two-at s 4 (h .all) in
     six s (h .node .long)
-    ∙ ap₂ (λ (k z : ℕ). k ∷ z ∷ getD s 2 0 ∷ getD s 3 0 ∷ getD s 4 0 ∷ getD s 5 0 ∷ drop 6 s) (h .node .first) (h .node .second)
-    ∙ sym (ap₂ (λ (x y : List ℕ). (kind ∷ 0 ∷ x ++ y) ++ drop 6 s) label size)
+    ∙ ap (λ (k : ℕ). k ∷ getD s 1 0 ∷ getD s 2 0 ∷ getD s 3 0 ∷ getD s 4 0 ∷ getD s 5 0 ∷ drop 6 s) (h .node .first)
+    ∙ sym (ap₂ (λ (x y : List ℕ). (kind ∷ getD s 1 0 ∷ x ++ y) ++ drop 6 s) label size)

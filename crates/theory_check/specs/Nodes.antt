@@ -7,13 +7,13 @@ use native.Mathlib.Omega.{arith}
 use lib.ListN.{length, length-append}
 use lib.Seq.{take-at, drop-at, take-length, drop-length}
 use borrow.Author.Tests.{le-ltb, lt-ltb, le-leb, eq-eqb, ne-eqb}
-use Rattle.model.specs.Limits.{capacity, mostContent, mostNode, mostLevels}
+use Rattle.model.specs.Limits.{capacity, mostContent, mostNode, mostLevels, mostOrigin}
 use Rattle.model.specs.Row.{Row, nil, agg, lit, rec, size, lone, nodeCount, two, header, bytes, recordBytes, mayStand, standing, byTable, noHead, Head}
 use Rattle.model.specs.Reading.{twoAt, sizeAt}
 use Rattle.theory_rows.specs.Laws.{length-bytes, isNil-nil, ⊹-nil}
 use Rattle.theory_rows.specs.Fits.{Shape, one, more, RecordFits, HeadFits}
 use Rattle.theory_decoding.specs.Decode.{two-bytes}
-use Rattle.theory_check.specs.Tests.{wholeSize, twoChildren, shapeOf, passingKind}
+use Rattle.theory_check.specs.Tests.{wholeSize, twoChildren, bareHead, shapeOf, passingKind}
 use Rattle.theory_check.specs.Walk.{State, Decoded, asAgg, before, nodeStep, nodeOf, listOf, proxyOf}
 use Rattle.theory_check.specs.Steps.{node-eq, list-none, list-more}
 
@@ -41,11 +41,12 @@ module _ (k : ℕ) (l : Head) (n : ℕ) (inside : List ℕ) (e : length inside �
       )
 
   -- a node that keeps what its kind asks, where it may stand
-  head-node : (holder : ℕ) → k ≤ 4 → mayStand holder k ≡ true → shapeOf (whole k l n inside) k ≡ true → passingKind (whole k l n inside) holder ≡ k
+  head-node : (holder : ℕ) → k ≤ 4 → l .origin ≤ mostOrigin → mayStand holder k ≡ true → shapeOf (whole k l n inside) k ≡ true
+      → passingKind (whole k l n inside) holder ≡ k
   unfolding passingKind
-  head-node holder a m s =
+  head-node holder a o m s =
       let t : length (whole k l n inside) ≡ 6 + n = omega arith in
-      rw (size-at inside, t, le-leb 6 (6 + n) (omega arith), le-leb k 4 a, m, eq-eqb (6 + n) (6 + n) refl, s)
+      rw (size-at inside, t, le-leb 6 (6 + n) (omega arith), le-leb k 4 a, m, le-leb (l .origin) mostOrigin o, eq-eqb (6 + n) (6 + n) refl, s)
 
 -- ── the walk ──
 
@@ -66,7 +67,7 @@ module _ (img : List ℕ) (page level : ℕ) (w : State) where
     unfolding nodeStep shapeOf twoAt
     agg-node holder f m g =
         node-eq img (whole 1 l n inside) page holder level w
-        ∙ rw (head-node 1 l n inside e h holder (omega arith) m refl, le-ltb mostLevels level g, two-bytes (l .label) (f .label))
+        ∙ rw (head-node 1 l n inside e h holder (omega arith) (f .origin) m refl, le-ltb mostLevels level g, two-bytes (l .label) (f .label))
 
     pub lit-node : (holder : ℕ) → HeadFits l → mayStand holder 2 ≡ true → level ≤ mostLevels → n ≤ mostContent
         → nodeOf img (whole 2 l n inside) page holder level w ≡ record { row = lit l inside nil; walk = w }
@@ -74,20 +75,20 @@ module _ (img : List ℕ) (page level : ℕ) (w : State) where
     lit-node holder f m g c =
         let short = le-leb (length (whole 2 l n inside)) mostNode (omega arith) in
         node-eq img (whole 2 l n inside) page holder level w
-        ∙ rw (head-node 2 l n inside e h holder (omega arith) m short, le-ltb mostLevels level g, two-bytes (l .label) (f .label))
+        ∙ rw (head-node 2 l n inside e h holder (omega arith) (f .origin) m short, le-ltb mostLevels level g, two-bytes (l .label) (f .label))
 
     helper-node : twoChildren inside ≡ true → nodeOf img (whole 4 noHead n inside) page 0 level w ≡ listOf img inside page 4 level w
-    unfolding nodeStep shapeOf twoAt mayStand standing
+    unfolding nodeStep shapeOf bareHead twoAt mayStand standing
     helper-node c =
         node-eq img (whole 4 noHead n inside) page 0 level w
-        ∙ rw (head-node 4 noHead n inside e h 0 (omega arith) refl c)
+        ∙ rw (head-node 4 noHead n inside e h 0 (omega arith) (omega arith) refl c)
 
   pub rec-node : (p holder : ℕ) → p < 65536 → mayStand holder 3 ≡ true
       → nodeOf img (whole 3 noHead 2 (two p)) page holder level w ≡ proxyOf img p page level w
-  unfolding nodeStep shapeOf twoAt
+  unfolding nodeStep shapeOf bareHead twoAt
   rec-node p holder f m =
       node-eq img (whole 3 noHead 2 (two p)) page holder level w
-      ∙ rw (head-node 3 noHead 2 (two p) refl (omega arith) holder (omega arith) m refl, two-bytes p f)
+      ∙ rw (head-node 3 noHead 2 (two p) refl (omega arith) holder (omega arith) (omega arith) m refl, two-bytes p f)
 
 -- ── a record ──
 

@@ -10,7 +10,7 @@ use lib.Dec.{eqb}
 use borrow.Author.Tests.{eqb-true, eqb-false, ltb-true, leb-true, not-true}
 use Rattle.model.specs.Limits.{pageSize, capacity, mostContent, mostNode, mostLevels}
 use Rattle.model.specs.Row.{Row, nil, agg, lit, rec, _⊹_, size, isNil, nodeCount, lone, two, header, bytes, recordBytes, standing, mayStand, isAgg, height}
-use Rattle.model.specs.Row.{noHead}
+use Rattle.model.specs.Row.{Head, noHead}
 use Rattle.model.specs.Reading.{usedAt, settledAt, headAt, nameAt}
 use Rattle.theory_rows.specs.Keeps.{nodeCount-⊹}
 use Rattle.theory_rows.specs.Fits.{Fits, Shape, one, more, RecordFits}
@@ -19,7 +19,7 @@ use Rattle.theory_rows.specs.Bound.{Fits-⊹}
 use Rattle.theory_rows.specs.Image.{length-record}
 use Rattle.theory_decoding.specs.Valid.{both as and-both}
 use Rattle.theory_check.specs.Facts.{no}
-use Rattle.theory_check.specs.Tests.{wholeSize, shapeOf, twoChildren, rootFits}
+use Rattle.theory_check.specs.Tests.{wholeSize, bareHead, shapeOf, twoChildren, rootFits}
 use Rattle.theory_check.specs.Walk.{State, Job, node, list, recordOf}
 use Rattle.theory_check.specs.Steps.{length-part}
 use Rattle.theory_check.specs.Heads.{PassingNode, two-at, two-low, is-byte, all-drop, header-is}
@@ -92,13 +92,20 @@ module _ (s : List ℕ) (holder : ℕ) where
       let m : length s ≡ 6 + n = omega (arith, h .node .long, length-drop 6 s, ap length e) in
       header-is s holder kind h ∙ ap₂ (λ (n : ℕ) (x : List ℕ). header kind (headAt s 0) n ++ x) m e
 
+  -- a bare header says nothing besides kind and size
+  bare-head : bareHead s ≡ true → headAt s 0 ≡ noHead
+  unfolding bareHead
+  bare-head e =
+      let b = and-both (eqb (headAt s 0 .origin) 0) _ e in
+      λ i. record { origin = eqb-true (headAt s 0 .origin) 0 (b .0) i; label = eqb-true (headAt s 0 .label) 0 (b .1) i }
+
   is-rec : PassingNode s holder 3 → length s ≡ 8 → s ≡ header 3 noHead 8 ++ two (nameAt s 0)
   unfolding shapeOf
   is-rec h n =
-      let l : headAt s 0 .label ≡ 0 = eqb-true (headAt s 0 .label) 0 (h .node .shape) in
+      let l = bare-head (h .node .shape) in
       let x : drop 6 s ≡ two (nameAt s 0) =
       two-left (drop 6 s) (omega (arith, length-drop 6 s)) ∙ rw (getD-drop 6 s 0 0, getD-drop 6 s 1 0) (sym (two-at s 6 (h .all))) in
-      around 3 h 2 (two (nameAt s 0)) refl x ∙ rw l
+      around 3 h 2 (two (nameAt s 0)) refl x ∙ ap (λ (k : Head). header 3 k 8 ++ two (nameAt s 0)) l
 
   is-lit : PassingNode s holder 2 → s ≡ bytes (lit (headAt s 0) (drop 6 s) nil)
   is-lit h = around 2 h (length (drop 6 s)) (drop 6 s) refl refl ∙ rw (append-nil (drop 6 s))
@@ -109,12 +116,12 @@ module _ (s : List ℕ) (holder : ℕ) where
   is-helper : PassingNode s holder 4 → (r : Row) → drop 6 s ≡ bytes r → 2 ≤ nodeCount r → s ≡ recordBytes r
   unfolding shapeOf
   is-helper h r e n =
-      let l : headAt s 0 .label ≡ 0 = eqb-true (headAt s 0 .label) 0 (and-both (eqb (headAt s 0 .label) 0) _ (h .node .shape) .0) in
-      around 4 h (size r) (bytes r) (length-bytes r) e ∙ rw (l, not-lone r n)
+      let l = bare-head (and-both (bareHead s) _ (h .node .shape) .0) in
+      around 4 h (size r) (bytes r) (length-bytes r) e ∙ ap (λ (k : Head). header 4 k (6 + size r) ++ bytes r) l ∙ rw (not-lone r n)
 
   helper-pair : PassingNode s holder 4 → twoChildren (drop 6 s) ≡ true
   unfolding shapeOf
-  helper-pair h = and-both (eqb (headAt s 0 .label) 0) _ (h .node .shape) .1
+  helper-pair h = and-both (bareHead s) _ (h .node .shape) .1
 
 pair-long : (s : List ℕ) → twoChildren s ≡ true → wholeSize s < length s
 unfolding twoChildren
@@ -196,8 +203,8 @@ module _ {img : List ℕ} where
   fits (helper h p) = fits p
   fits (literal {s = s} h l) =
       let short : length (drop 6 s) ≤ mostContent = omega (arith, length-drop 6 s, leb-true (length s) mostNode (h .node .shape)) in
-      (record { label = two-low s 2 (h .all) }, short, is-byte (drop 6 s) (all-drop 6 s (h .all)), tt)
-  fits (aggregate {s = s} h l p) = (record { label = two-low s 2 (h .all) }, fits p, tt)
+      (record { origin = h .node .origin; label = two-low s 2 (h .all) }, short, is-byte (drop 6 s) (all-drop 6 s (h .all)), tt)
+  fits (aggregate {s = s} h l p) = (record { origin = h .node .origin; label = two-low s 2 (h .all) }, fits p, tt)
   fits (empty e) = tt
   fits (next {a = a} {r = r} l h p q) = Fits-⊹ a r (fits p) (fits q)
 

@@ -10,7 +10,7 @@ use lib.Seq.{length-take-le}
 use lib.Dec.{ltb, eqb, leb}
 use borrow.Author.Tests.{lt-ltb, eqb-false, ltb-true, leb-true, eqb-true, not-true, eq-eqb, ne-eqb}
 use Rattle.model.specs.Row.{mayStand, nil}
-use Rattle.model.specs.Limits.{mostPages, pageSize, capacity, mostLevels}
+use Rattle.model.specs.Limits.{mostPages, pageSize, capacity, mostLevels, mostOrigin}
 use Rattle.model.specs.Reading.{sizeAt, usedAt, stateAt, settledAt, headAt, nameAt, backAt, kindAt}
 use Rattle.theory_decoding.specs.Valid.{both as and-both}
 use Rattle.theory_check.specs.Rec.{under, unfold', keeps}
@@ -59,7 +59,7 @@ pub record Passing (s : List ℕ) (holder kind : ℕ) : Type 0 where
   pub long : 6 ≤ length s
   pub small : kind ≤ 4
   pub first : kindAt s 0 ≡ kind
-  pub second : getD s 1 0 ≡ 0
+  pub origin : headAt s 0 .origin ≤ mostOrigin
   pub size : sizeAt s 0 ≡ length s
   pub may : mayStand holder kind ≡ true
   pub shape : shapeOf s kind ≡ true
@@ -70,14 +70,14 @@ passing s holder kind e z =
     let t = not-else _ (λ q. z (sym q)) e in
     let shape = and-both _ _ (t .0) in
     let size = and-both _ _ (shape .0) in
-    let second = and-both _ _ (size .0) in
-    let may = and-both _ _ (second .0) in
+    let origin = and-both _ _ (size .0) in
+    let may = and-both _ _ (origin .0) in
     let small = and-both _ _ (may .0) in
     record {
       long = leb-true _ _ (small .0);
       small = omega (arith, leb-true (kindAt s 0) 4 (small .1), t .1);
       first = t .1;
-      second = eqb-true _ _ (second .1);
+      origin = leb-true _ _ (origin .1);
       size = eqb-true _ _ (size .1);
       may = ap (mayStand holder) (sym (t .1)) ∙ may .1;
       shape = ap (shapeOf s) (sym (t .1)) ∙ shape .1;

@@ -5,7 +5,7 @@ use Prim.Native.Nat.{ℕ, _+_, _-_, _*_, _/_, _%_, _^_}
 use lib.ListN.{length, take, drop, getD, set}
 use lib.Bits.{bitOr}
 use lib.Dec.{ltb, leb, eqb}
-use Rattle.model.specs.Limits.{mostPages, pageSize, capacity, mostNode, settingsSize}
+use Rattle.model.specs.Limits.{mostPages, pageSize, capacity, mostNode, mostOrigin, settingsSize}
 use Rattle.model.specs.Row.{mayStand, every, inRange}
 use Rattle.model.specs.Reading.{twoAt, kindAt, headAt, sizeAt, stateAt, settledAt, usedAt, backAt, configOn}
 
@@ -19,11 +19,15 @@ wholeSize s = cond (leb 6 (length s) && leb 6 (sizeAt s 0) && leb (sizeAt s 0) (
 unfoldable pub twoChildren : List ℕ → Bool
 twoChildren s = not (eqb (wholeSize s) 0) && ltb (wholeSize s) (length s)
 
+-- The header of a proxy or a helper: a zero byte where the other kinds have their origin, and label 0.
+unfoldable pub bareHead : List ℕ → Bool
+bareHead s = eqb (headAt s 0 .origin) 0 && eqb (headAt s 0 .label) 0
+
 -- What a kind asks of its node.
 unfoldable pub shapeOf : List ℕ → (kind : ℕ) → Bool
 shapeOf s kind =
-    cond (eqb kind 3) (eqb (headAt s 0 .label) 0)
-    (cond (eqb kind 4) (eqb (headAt s 0 .label) 0 && twoChildren (drop 6 s))
+    cond (eqb kind 3) (bareHead s)
+    (cond (eqb kind 4) (bareHead s && twoChildren (drop 6 s))
     (cond (eqb kind 2) (leb (length s) mostNode) true))
 
 -- The kind of the node that some bytes are, 0 where it is not well formed by itself or may not stand in the holder.
@@ -31,7 +35,7 @@ unfoldable pub passingKind : List ℕ → (holder : ℕ) → ℕ
 passingKind s holder =
     let kind = kindAt s 0 in
     let placed = leb 6 (length s) && leb kind 4 && mayStand holder kind in
-    cond (placed && eqb (getD s 1 0) 0 && eqb (sizeAt s 0) (length s) && shapeOf s kind) kind 0
+    cond (placed && leb (headAt s 0 .origin) mostOrigin && eqb (sizeAt s 0) (length s) && shapeOf s kind) kind 0
 
 -- ── marks: a bit for each page ──
 
