@@ -7,10 +7,11 @@ use native.Mathlib.Omega.{arith}
 use lib.ListN.{length, replicate, length-append, length-replicate, replicate-append-replicate}
 use Rattle.model.specs.Limits.{pageSize, capacity, settingsSize, matrixEntries}
 use Rattle.model.specs.Row.{Row, nil, agg, two, header, trailer, settingsPage, recordPage, Config, recordOn}
+use Rattle.model.specs.Calls.Format.{rootHead}
 use Rattle.base_numbers.specs.Over.{over, over-right, over-left, over-all}
 
 abbrev pub firstRoot : (label : ℕ) → Row
-firstRoot label = agg (record { label = label }) nil nil
+firstRoot label = agg (rootHead label) nil nil
 
 -- Page 1, page 0, and so many zero bytes.
 unfoldable pub rootPage : (label : ℕ) → List ℕ
@@ -74,7 +75,7 @@ next page q front xs at m n w e f g = after page q front xs at 0 m n w e (omega 
 -- ── page 0 and page 1 ──
 
 -- Pages 1 and 0 with their zero bytes folded.
-root-folded : (label : ℕ) → header 1 (record { label = label }) 6 ++ (zeros 4074 ++ (two 257 ++ (two 6 ++ zeros 12)))
+root-folded : (label : ℕ) → header 1 (rootHead label) 6 ++ (zeros 4074 ++ (two 257 ++ (two 6 ++ zeros 12)))
     ≡ recordPage (recordOn 1 true 0 (firstRoot label))
 unfolding zeros
 root-folded label = refl
@@ -128,13 +129,13 @@ root-written label p₀ p₁ p₂ p₃ p₄ p₅ h z e₁ e₂ e₃ e₄ e₅ =
     let w₀ : Written p₀ [] pageSize = record { is = z } in
     let w₁ = next p₀ p₁ [] (two 1) 0 pageSize 4094 w₀ e₁ refl refl in
     let w₂ = next p₁ p₂ _ (two label) 2 4094 4092 w₁ e₂ refl refl in
-    let w₃ : Written p₃ (header 1 (record { label = label }) 6) 4090 = next p₂ p₃ _ (two 6) 4 4092 4090 w₂ e₃ refl refl in
-    let w₄ : Written p₄ (header 1 (record { label = label }) 6 ++ (zeros 4074 ++ two 257)) 14 =
-    after p₃ p₄ (header 1 (record { label = label }) 6) (two 257) capacity 4074 4090 14 w₃ e₄ refl refl in
+    let w₃ : Written p₃ (header 1 (rootHead label) 6) 4090 = next p₂ p₃ _ (two 6) 4 4092 4090 w₂ e₃ refl refl in
+    let w₄ : Written p₄ (header 1 (rootHead label) 6 ++ (zeros 4074 ++ two 257)) 14 =
+    after p₃ p₄ (header 1 (rootHead label) 6) (two 257) capacity 4074 4090 14 w₃ e₄ refl refl in
     let l₄ : length (zeros 4074 ++ two 257) ≡ 4076 = length-append (zeros 4074) (two 257) ∙ omega (arith, length-zeros 4074) in
     let w₅ = next p₄ p₅ _ (two 6) (capacity + 2) 14 12 w₄ e₅ (omega arith) refl in
     w₅ .is ∙ shape label
   where
-    shape : (label : ℕ) → ((header 1 (record { label = label }) 6 ++ (zeros 4074 ++ two 257)) ++ two 6) ++ zeros 12
+    shape : (label : ℕ) → ((header 1 (rootHead label) 6 ++ (zeros 4074 ++ two 257)) ++ two 6) ++ zeros 12
         ≡ recordPage (recordOn 1 true 0 (firstRoot label))
     shape label = simp append-assoc (root-folded label)

@@ -7,14 +7,15 @@ use native.Mathlib.Omega.{arith}
 use lib.ListN.{length}
 use Rattle.read_find.specs.Rowed.{startOn, endOn}
 use Rattle.model.specs.Limits.{mostPages, pageSize, mostBytes}
-use Rattle.model.specs.Row.{Row, nil, agg, lit, rec, size, base, Config}
-use Rattle.model.specs.Reading.{Reads, nameAt, backAt, kindAt}
+use Rattle.model.specs.Row.{Head, Row, nil, agg, lit, rec, size, base, Config}
+use Rattle.model.specs.Reading.{Reads, nameAt, backAt, kindAt, headAt}
 use Rattle.model.specs.Tree.{Node, shown, nodes, placeOf}
 use Rattle.model.specs.Answers.{nextRefused}
 use Rattle.model.specs.Calls.Check.{checkOf}
-use Rattle.model.specs.Calls.Next.{nextOf, kindOf}
+use Rattle.model.specs.Calls.Next.{nextOf, kindOf, originOf}
 use Rattle.model.specs.declared.Place.{Place}
 use Rattle.model.specs.declared.Kind.{Kind}
+use Rattle.model.specs.declared.Origin.{Origin}
 use Rattle.model.specs.declared.NextAnswer.{NextAnswer}
 use Rattle.model.specs.declared.Next.the-variants as next-is
 use Rattle.theory_calls.specs.Navigate.{next-stray, next-follows, next-last}
@@ -22,7 +23,7 @@ use Rattle.theory_layout.specs.Here.{PageIn}
 use Rattle.theory_layout.specs.Items.{Item, node, proxy, items, spots, expand, In, top, sub}
 use Rattle.theory_layout.specs.Order.{at, Stood, step, Flat, proxy-of, is-proxy, is-node, flat-end, item-at, in-page, in-deep, last-page, expand-items}
 use Rattle.theory_layout.specs.Order.{node-header, node-split, node-in, split-mem}
-use Rattle.theory_layout.specs.Nodes.{All, read-kind, PlacedAt, Both, nodes-split, place-at}
+use Rattle.theory_layout.specs.Nodes.{All, read-kind, read-head, PlacedAt, Both, nodes-split, place-at}
 use Rattle.read_next.specs.Scan.{OnRecord, view, known, all, close, flat-all, HeaderRoom, head-of, HeldBy, NodeAt, NodeOf, Located, store-of, record-of}
 
 -- ── where the nodes after a node begin ──
@@ -318,8 +319,8 @@ module _ {img : List ℕ} {pos n left : ℕ} (c : Enter img pos n left) (k : kin
 -- ── the answers ──
 
 -- The answer that names the node at byte n.
-abbrev pub nextAt : (n : ℕ) → Kind → NextAnswer
-nextAt n k = record { number = 0; next = next-is.Node (record { place = record { page = n / pageSize; offset = n % pageSize }; kind = k }) }
+abbrev pub nextAt : (n : ℕ) → Kind → Origin → NextAnswer
+nextAt n k o = record { number = 0; next = next-is.Node (record { place = record { page = n / pageSize; offset = n % pageSize }; kind = k; origin = o }) }
 
 -- The next node, or 0 at the end.
 pub record Nexted (img : List ℕ) (pos r : ℕ) : Type 0 where
@@ -346,18 +347,19 @@ module _ (img : List ℕ) (x : Place) (pos : ℕ) (a : NodeOf img (x .page) (x .
       go xs (n ∷ m ∷ ys) e b = absurd (b .1)
 
   pub answer-node : (n : ℕ) → Follows img pos n
-      → nextOf img x ≡ nextAt n (kindOf (kindAt img n))
+      → nextOf img x ≡ nextAt n (kindOf (kindAt img n)) (originOf (headAt img n .origin))
   answer-node n l =
       let s = nodes-split img (l .settings) (l .root) (l .reads) (l .seen) (pos ∷ n ∷ l .later) (l .order) in
       go (s .0) (s .1) (s .2) (s .3)
     where
       go : (xs ys : List Node) → nodes (shown (l .root)) ≡ xs ++ ys → All (Both img (l .root)) ys (pos ∷ n ∷ l .later)
-          → nextOf img x ≡ nextAt n (kindOf (kindAt img n))
+          → nextOf img x ≡ nextAt n (kindOf (kindAt img n)) (originOf (headAt img n .origin))
       go xs [] e b = absurd b
       go xs (k ∷ []) e b = absurd (b .1)
       go xs (k ∷ m ∷ ys) e b =
           let f = next-follows img (l .settings) (l .root) (l .reads) xs ys k m x e (its-place (l .settings) (l .root) (l .reads) k (b .0 .1)) in
-          rw (read-kind img m n (b .1 .0 .0)) (rw (place-at img (l .settings) (l .root) (l .reads) m n (b .1 .0 .1)) at (f .2))
+          let o = ap (λ (h : Head). h .origin) (read-head img m n (b .1 .0 .0)) in
+          rw (read-kind img m n (b .1 .0 .0), o) (rw (place-at img (l .settings) (l .root) (l .reads) m n (b .1 .0 .1)) at (f .2))
 
 -- A place where no node is.
 pub answer-stray : (img : List ℕ) (x : Place) (r : ℕ) → checkOf img ≡ 0 → Located img (x .page) (x .offset) r → r ≡ 0 → nextOf img x ≡ nextRefused 10
@@ -366,7 +368,7 @@ answer-stray img x r z l e =
     next-stray img (s .settings) (s .root) (s .reads) x (l .stray e (s .settings) (s .root) (s .reads))
 
 -- A node that follows is in the image.
-pub follows-inside : {img : List ℕ} {pos n : ℕ} → Follows img pos n → n < length img
+pub follows-inside : {img : List ℕ} {pos n : ℕ} → Follows img pos n → n + 6 ≤ length img
 follows-inside {img} {pos} {n} l =
     let m =
     split-mem n (spots (pageSize + base (l .root)) (l .root)) (l .seen ++ pos ∷ []) (l .later)
@@ -374,7 +376,7 @@ follows-inside {img} {pos} {n} l =
     let h = node-header img (l .settings) (l .root) (l .reads) n (node-in (l .root) n m) in
     omega (arith, h .room, h .on .inside)
 
--- The answer with the kind that is read.
-pub answer-kind : (img : List ℕ) (x : Place) (pos n : ℕ) (k : Kind) → NodeOf img (x .page) (x .offset) pos → Follows img pos n → k ≡ kindOf (kindAt img n)
-    → nextAt n k ≡ nextOf img x
-answer-kind img x pos n k a f e = rw e (sym (answer-node img x pos a n f))
+-- The answer with the kind and the origin that are read.
+pub answer-read : (img : List ℕ) (x : Place) (pos n : ℕ) (k : Kind) (o : Origin) → NodeOf img (x .page) (x .offset) pos → Follows img pos n
+    → k ≡ kindOf (kindAt img n) → o ≡ originOf (headAt img n .origin) → nextAt n k o ≡ nextOf img x
+answer-read img x pos n k o a f e h = rw (e, h) (sym (answer-node img x pos a n f))

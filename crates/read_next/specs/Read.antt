@@ -54,7 +54,7 @@ some-from img x pos a st root r =
 -- ── the answer for it ──
 
 abbrev pub told : Place → Node → ReadNode
-told x n = asRead x (record { number = 0; kind = n .kind; label = n .head .label; children = n .children; content = n .content })
+told x n = asRead x (record { number = 0; kind = n .kind; origin = n .head .origin; label = n .head .label; children = n .children; content = n .content })
 
 record NodeTold (img : List ℕ) (x : Place) (pos : ℕ) : Type 0 where
   node : Node
@@ -75,12 +75,12 @@ told-stray img x r z l e =
 -- ── an aggregate, a literal ──
 
 abbrev pub aggRead : (img : List ℕ) (pos : ℕ) → Row → ReadNode
-aggRead img pos row = record { number = 0; kind = 1; label = headAt img pos .label; children = width row; start = 0; len = 0 }
+aggRead img pos row = record { number = 0; kind = 1; origin = headAt img pos .origin; label = headAt img pos .label; children = width row; start = 0; len = 0 }
 
 abbrev pub litRead : (img : List ℕ) (pos : ℕ) → ReadNode
 litRead img pos =
     let n = sizeAt img pos - 6 in
-    record { number = 0; kind = 2; label = headAt img pos .label; children = 0; start = cond (eqb n 0) 0 (pos + 6); len = n }
+    record { number = 0; kind = 2; origin = headAt img pos .origin; label = headAt img pos .label; children = 0; start = cond (eqb n 0) 0 (pos + 6); len = n }
 
 -- The row of an aggregate's children.
 abbrev pub Inner : (img : List ℕ) (pos : ℕ) → Type 0
@@ -140,10 +140,11 @@ pub inner-few : (img : List ℕ) (pos : ℕ) (w : Inner img pos) → width (w .r
 inner-few img pos w = omega (arith, width-steps (w .row), w .few)
 
 -- The answers with the numbers that are read.
-pub agg-is : (img : List ℕ) (pos label n : ℕ) (row : Row) → label ≡ headAt img pos .label → n ≡ width row
-    → record { number = 0; kind = 1; label = label; children = n; start = 0; len = 0 } ≡ aggRead img pos row
-agg-is img pos label n row e f = rw (e, f)
+pub agg-is : (img : List ℕ) (pos origin label n : ℕ) (row : Row) → origin ≡ headAt img pos .origin → label ≡ headAt img pos .label → n ≡ width row
+    → record { number = 0; kind = 1; origin = origin; label = label; children = n; start = 0; len = 0 } ≡ aggRead img pos row
+agg-is img pos origin label n row o e f = rw (o, e, f)
 
-pub lit-is : (img : List ℕ) (pos label size start : ℕ) → label ≡ headAt img pos .label → size ≡ sizeAt img pos → start ≡ cond (eqb (size - 6) 0) 0 (pos + 6)
-    → record { number = 0; kind = 2; label = label; children = 0; start = start; len = size - 6 } ≡ litRead img pos
-lit-is img pos label size start e f g = rw (e, g, f)
+pub lit-is : (img : List ℕ) (pos origin label size start : ℕ) → origin ≡ headAt img pos .origin → label ≡ headAt img pos .label → size ≡ sizeAt img pos
+    → start ≡ cond (eqb (size - 6) 0) 0 (pos + 6)
+    → record { number = 0; kind = 2; origin = origin; label = label; children = 0; start = start; len = size - 6 } ≡ litRead img pos
+lit-is img pos origin label size start o e f g = rw (o, e, g, f)

@@ -2,12 +2,14 @@
 use base_layout::back_at;
 use base_layout::label_at;
 use base_layout::name_at;
+use base_layout::origin_at;
 use base_layout::size_at;
 use base_layout::used_at;
 use model::Kind;
 use model::Next;
 use model::NextAnswer;
 use model::NextNode;
+use model::Origin;
 use model::Place;
 use model::ReadNode;
 use model::Settings;
@@ -20,10 +22,10 @@ ghost use Prim.Native.Nat.{ℕ, _+_, _*_, _≤_, _<_};
 ghost use lib.ListN.{length, getD};
 ghost use lib.Dec.{eqb};
 ghost use Rattle.model.specs.Limits.{mostBytes};
-ghost use Rattle.model.specs.Reading.{sizeAt};
+ghost use Rattle.model.specs.Reading.{headAt, sizeAt};
 ghost use Rattle.model.specs.Calls.Check.{checkOf};
 ghost use Rattle.model.specs.Calls.Read.{readOf};
-ghost use Rattle.model.specs.Calls.Next.{kindOf, nextOf};
+ghost use Rattle.model.specs.Calls.Next.{kindOf, originOf, nextOf};
 ghost use Rattle.read_find.specs.Rowed.{endOn};
 ghost use Rattle.theory_layout.specs.Order.{step};
 ghost use Rattle.theory_layout.specs.Widths.{Widths};
@@ -173,6 +175,23 @@ fn kind_at(image: &[u8], pos: usize) -> Kind
     Kind::Literal
 }
 
+fn origin_of(image: &[u8], pos: usize) -> Origin
+    requires { ⌜ pos + 6 ≤ length (now image) ⌝ }
+    ensures { λ r. ⌜ r ≡ originOf (headAt (now (image .entry)) pos .origin) ⌝ }
+{
+    let n = origin_at(image, pos);
+    if n == 0 {
+        return Origin::Wire;
+    }
+    if n == 1 {
+        return Origin::Stored;
+    }
+    if n == 2 {
+        return Origin::TypedIn;
+    }
+    Origin::Derived
+}
+
 // Next: 0, or 10 where the place is no node's.
 pub fn next_of(image: &[u8], x: Place) -> NextAnswer
     requires { ⌜ checkOf (now image) ≡ 0 ⌝ }
@@ -193,6 +212,7 @@ pub fn next_of(image: &[u8], x: Place) -> NextAnswer
         };
     }
     let kind = kind_at(image, at);
+    let origin = origin_of(image, at);
     let place = Place {
         page: at / Settings::PAGE,
         offset: at % Settings::PAGE,
@@ -202,6 +222,7 @@ pub fn next_of(image: &[u8], x: Place) -> NextAnswer
         next: Next::Node(NextNode {
             place: place,
             kind: kind,
+            origin: origin,
         }),
     }
 }
@@ -213,12 +234,14 @@ fn read_agg(image: &[u8], widths: &[u32; Settings::PAGES], pos: usize) -> ReadNo
     requires { ⌜ (pos + 5 < length (now image)) × (pos < mostBytes) × Inner (now image) pos × Widths (now image) (now widths) ⌝ }
     ensures { λ r. ⌜ ((w : Inner (now (image .entry)) pos) → r ≡ aggRead (now (image .entry)) pos (w .row)) ⌝ }
 {
+    let origin = origin_at(image, pos);
     let label = label_at(image, pos);
     let end = pos + size_at(image, pos);
     let n = width(image, widths, pos + 6, end);
     ReadNode {
         number: 0,
         kind: 1,
+        origin: origin as u32,
         label: label as u32,
         children: n as u32,
         start: 0,
@@ -241,12 +264,14 @@ fn read_lit(image: &[u8], pos: usize) -> ReadNode
     requires { ⌜ (pos + 5 < length (now image)) × (pos < mostBytes) × (6 ≤ sizeAt (now image) pos) ⌝ }
     ensures { λ r. ⌜ r ≡ litRead (now (image .entry)) pos ⌝ }
 {
+    let origin = origin_at(image, pos);
     let label = label_at(image, pos);
     let len = size_at(image, pos) - 6;
     let start = content_at(pos, len);
     ReadNode {
         number: 0,
         kind: 2,
+        origin: origin as u32,
         label: label as u32,
         children: 0,
         start: start,
@@ -264,6 +289,7 @@ pub fn read_of(image: &[u8], widths: &[u32; Settings::PAGES], x: Place) -> ReadN
         return ReadNode {
             number: 10,
             kind: 0,
+            origin: 0,
             label: 0,
             children: 0,
             start: 0,

@@ -8,7 +8,7 @@ use lib.ListN.{length}
 use mathlib.Core.Bool.{cond}
 use Rattle.model.specs.Limits.{mostPages, pageSize, mostBytes}
 use Rattle.model.specs.Row.{Row, nil, agg, lit, rec, size, base, Config, Head, isAgg}
-use Rattle.model.specs.Reading.{Reads, kindAt}
+use Rattle.model.specs.Reading.{Reads, kindAt, headAt}
 use Rattle.model.specs.Tree.{shown, breadth, width, Node, below, further, nodes, places, placeOf}
 use Rattle.model.specs.declared.Place.{Place}
 use Rattle.theory_rows.specs.Laws.{breadth-shown}
@@ -124,9 +124,12 @@ module _ (img : List ℕ) where
       (read-all p (pageSize * p + base r) r (w .under .here) (omega arith) (omega arith))
       (all-map R (further k) (λ n s r. r) (nodes (shown rest)) (spots (pos + 8) rest) (read-all page (pos + 8) rest (w .after) (omega arith) (omega arith))))
 
-  -- The kind's byte is the node's.
+  -- The kind's byte is the node's, and so is what the header says besides.
   pub read-kind : (n : Node) (s : ℕ) → ReadAt img n s → kindAt img s ≡ n .kind
   read-kind n s r = view (r .here) (r .some) .kind-is ∙ sym (r .kind-is)
+
+  pub read-head : (n : Node) (s : ℕ) → ReadAt img n s → headAt img s ≡ n .head
+  read-head n s r = view (r .here) (r .some) .head-is ∙ sym (r .head-is)
 
 -- ── the places ──
 
