@@ -45,13 +45,14 @@ pub fn shut(widths: &mut [u32; Settings::PAGES], pages: usize)
 }
 
 // Writes the new node to the front of out; its size.
-pub fn put_node(out: &mut [u8], kind: usize, label: usize, content: &[u8]) -> usize
+pub fn put_node(out: &mut [u8], kind: usize, origin: usize, label: usize, content: &[u8]) -> usize
     requires { ⌜ Sound kind origin label (now content) × (6 + length (now content) ≤ length (now out)) ⌝ }
     ensures { λ r. ⌜ ((st : Config) → r ≡ size (asRow st (newOf kind origin label (now (content .entry))) nil)) ⌝ }
     ensures { λ _. ⌜ ((st : Config) → now (out .exit) ≡ over 0 (bytes (asRow st (newOf kind origin label (now (content .entry))) nil)) (now (out .entry))) ⌝ }
 {
     let n = 6 + content.len();
-    put16(out, 0, kind);
+    // a byte each
+    put16(out, 0, kind + 256 * origin);
     put16(out, 2, label);
     put16(out, 4, n);
     copy_in(content, out, 6);

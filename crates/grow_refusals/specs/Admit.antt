@@ -8,7 +8,7 @@ use native.Mathlib.Omega.{arith}
 use borrow.Author.Tests.{le-ltb, lt-ltb, leb-true, leb-false, eq-eqb, ne-eqb}
 use lib.ListN.{length}
 use lib.Dec.{leb, ltb, eqb}
-use Rattle.model.specs.Limits.{mostPages, pageSize, mostBytes, mostContent, longestPath, longestParent}
+use Rattle.model.specs.Limits.{mostPages, pageSize, mostBytes, mostContent, mostOrigin, longestPath, longestParent}
 use Rattle.model.specs.Row.{Head, Row, nil, agg, lit, rec, size, Config}
 use Rattle.model.specs.Tree.{Node, shown, named, placeOf}
 use Rattle.model.specs.Reading.{Reads, sizeAt, kindAt}
@@ -156,12 +156,13 @@ aims img st root reads path child kind origin label parent content z e =
 -- ── the numbers ──
 
 -- No test of the arguments alone applies.
-pub record Formed (path : List ℕ) (kind : ℕ) (content : List ℕ) : Type 0 where
+pub record Formed (path : List ℕ) (kind origin : ℕ) (content : List ℕ) : Type 0 where
   pub short : length path ≤ longestParent
   pub good : badKind kind (length content) ≡ false
+  pub known : origin ≤ mostOrigin
   pub small : length content ≤ mostContent
 
-module _ (img path : List ℕ) (child kind : ℕ) (content : List ℕ) where
+module _ (img path : List ℕ) (child kind origin : ℕ) (content : List ℕ) where
   -- The insert's number, whatever the store and the label.
   abbrev pub Number : ℕ → Type 0
   Number n = (st : Config) (root : Row) → Reads img st root → (label : ℕ) → n ≡ insertNumber (shown root) path child (newOf kind origin label content) false
@@ -184,19 +185,24 @@ module _ (img path : List ℕ) (child kind : ℕ) (content : List ℕ) where
   unfolding insertNumber
   wrong-kind a b = λ st root reads label. rw (le-ltb longestParent (length path) a, b)
 
-  pub long-content : length path ≤ longestParent → badKind kind (length content) ≡ false → mostContent < length content → Number 6
+  pub wrong-origin : length path ≤ longestParent → badKind kind (length content) ≡ false → mostOrigin < origin → Number 13
   unfolding insertNumber
-  long-content a b c = λ st root reads label. rw (le-ltb longestParent (length path) a, b, lt-ltb mostContent (length content) c)
+  wrong-origin a b o = λ st root reads label. rw (le-ltb longestParent (length path) a, b, lt-ltb mostOrigin origin o)
+
+  pub long-content : length path ≤ longestParent → badKind kind (length content) ≡ false → origin ≤ mostOrigin → mostContent < length content → Number 6
+  unfolding insertNumber
+  long-content a b o c = λ st root reads label. rw (le-ltb longestParent (length path) a, b, le-ltb mostOrigin origin o, lt-ltb mostContent (length content) c)
 
   -- ── by the parent ──
 
-  module _ (w : Formed path kind content) where
+  module _ (w : Formed path kind origin content) where
     -- The tests of the parent are left.
     formed : (st : Config) (root : Row) (label : ℕ) → let parent = namedBy (shown root) path in
         firstRefusal ((7, isNone parent) ∷ (8, isLiteral parent) ∷ (9, childrenBelow child parent) ∷ (12, false) ∷ []) ≡ insertNumber (shown root) path child
         (newOf kind origin label content) false
     unfolding insertNumber
-    formed st root label = rw (le-ltb longestParent (length path) (w .short), w .good, le-ltb mostContent (length content) (w .small))
+    formed st root label =
+        rw (le-ltb longestParent (length path) (w .short), w .good, le-ltb mostOrigin origin (w .known), le-ltb mostContent (length content) (w .small))
 
     module _ (f : FindAnswer) (is : f ≡ findOf img path) where
       pub no-node : (f .number ≡ 0 → ⊥) → Number 7

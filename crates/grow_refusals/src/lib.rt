@@ -78,13 +78,14 @@ fn try_parent(
     }
 }
 
-// The tests of an insert in the order of the refusal table.
+// The tests of an insert in the order of the refusal table, 13 directly after 5.
 pub fn admit(
     image: &[u8],
     widths: &[u32; Settings::PAGES],
     path: &[u8],
     child: usize,
     kind: usize,
+    origin: usize,
     content: &[u8],
 ) -> Admitted
     requires { ⌜ (checkOf (now image) ≡ 0) × Widths (now image) (now widths) ⌝ }
@@ -99,6 +100,9 @@ pub fn admit(
     }
     if kind_bad(kind, content.len()) {
         return refused(5);
+    }
+    if Settings::MOST_ORIGIN < origin {
+        return refused(13);
     }
     if Settings::CONTENT < content.len() {
         return refused(6);

@@ -8,6 +8,7 @@ use lib.Seq.{getD-drop}
 use Rattle.model.specs.Row.{two, header}
 use Rattle.model.specs.Reading.{twoAt, headAt}
 use Rattle.theory_rows.specs.Fits.{IsByte}
+use Rattle.theory_decoding.specs.Decode.{two-is}
 use Rattle.theory_check.specs.Steps.{Passing}
 
 -- ── bytes ──
@@ -28,14 +29,6 @@ all-take (suc n) (x ∷ xs) h (suc i) = all-take n xs (λ j. h (suc j)) i
 pub is-byte : (s : List ℕ) → AllBytes s → IsByte s
 is-byte [] h = tt
 is-byte (x ∷ s) h = (h 0, is-byte s (λ i. h (suc i)))
-
--- two bytes and their number
-two-is : (a b : ℕ) → a < 256 → b < 256 → two (a + 256 * b) ≡ a ∷ b ∷ []
-two-is a b h k =
-    let low : (a + 256 * b) % 256 ≡ a = omega arith in
-    let high : (a + 256 * b) / 256 ≡ b = omega arith in
-    let whole : b % 256 ≡ b = omega arith in
-    rw (low, high, whole)
 
 pub two-at : (s : List ℕ) (i : ℕ) → AllBytes s → two (twoAt s i) ≡ getD s i 0 ∷ getD s (i + 1) 0 ∷ []
 unfolding twoAt
