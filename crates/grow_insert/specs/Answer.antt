@@ -5,7 +5,7 @@ use mathlib.Core.List.{List, _++_}
 use mathlib.Core.Option.{Option, none, some}
 use Prim.Native.Nat.{ℕ, _+_, _<_, _≤_}
 use native.Mathlib.Omega.{arith}
-use borrow.Author.Tests.{ne-eqb, lt-ltb}
+use borrow.Author.Tests.{ne-eqb}
 use lib.ListN.{length}
 use lib.IntN.{ℤ}
 use Rattle.model.specs.Row.{Row, nil, bytes, count, image, Config}
@@ -89,10 +89,10 @@ module _ {img path : List ℕ} {child kind origin label : ℕ} {content : List �
 
   -- What the code of the new node's bytes requires.
   pub sound : Sound kind origin label content
-  sound = record { kinds = tests .kind; label-fits = p .small; small = tests .small }
+  sound = record { kinds = tests .kind; origin-fits = tests .origin; label-fits = p .small; small = tests .small }
 
   pub new-fits : NewFits X
-  new-fits = record { head = record { label = p .small }; long = tests .small; byte = p .byte }
+  new-fits = record { head = record { origin = tests .origin; label = p .small }; long = tests .small; byte = p .byte }
 
   pub short : length (pathOf path) ≤ 22
   short = omega (arith, path-length path, tests .short)
@@ -134,7 +134,7 @@ module _ {img path : List ℕ} {child kind origin label : ℕ} {content : List �
     -- What holds of growth: the new store is valid, and the new node's path names it.
     grows : GrowthHolds (p .st) (p .root) path child X
     grows =
-        growth (p .st) (p .root) path child X (p .reads .passes) (lt-ltb label 65536 (p .small)) (bytes-hold content (p .byte))
+        growth (p .st) (p .root) path child X (p .reads .passes) (p .small) (bytes-hold content (p .byte))
         (ap (insertNumber (shown (p .root)) path child X) room ∙ sym (p .zero))
 
     pub new-reads : {i : List ℕ} → i ≡ image (p .st) (made .0) → Reads i (p .st) (made .0)

@@ -36,6 +36,7 @@ pub fn insert_of(
     path: &[u8],
     child: u32,
     kind: usize,
+    origin: usize,
     label: u16,
     content: &[u8],
 ) -> InsertAnswer
@@ -46,7 +47,7 @@ pub fn insert_of(
 {
     let k = child as usize;
     let l = label as usize;
-    let a = admit(image, widths, path, k, kind, content);
+    let a = admit(image, widths, path, k, kind, origin, content);
     if a.number != 0 {
         return refused(a.number);
     }
@@ -54,7 +55,7 @@ pub fn insert_of(
     let mut whole = [0u8; Settings::PATH];
     let end = child_path(path, child, &mut whole);
     let mut node = [0u8; Settings::NODE];
-    let n = put_node(&mut node, kind, l, content);
+    let n = put_node(&mut node, kind, origin, l, content);
     let setup = setup_on(image);
     shut(widths, setup.pages);
     let mut trial = *widths;

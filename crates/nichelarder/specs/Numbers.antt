@@ -12,9 +12,9 @@ settings p t o f = record { pages = p; target = t; tolerance = o; form = f }
 abbrev pub placeNumbers : Place → List ℕ
 placeNumbers x = x .page ∷ x .offset ∷ []
 
--- Kind, label, number of children, start of the content in the image, its length.
+-- Kind, label, number of children, start of the content in the image, its length, origin.
 abbrev pub readNumbers : ReadNode → List ℕ
-readNumbers r = r .kind ∷ r .label ∷ r .children ∷ r .start ∷ r .len ∷ []
+readNumbers r = r .kind ∷ r .label ∷ r .children ∷ r .start ∷ r .len ∷ r .origin ∷ []
 
 -- Page and offset of the new node, records split.
 abbrev pub insertNumbers : InsertAnswer → List ℕ

@@ -5,7 +5,7 @@ use mathlib.Core.List.{List, [], _∷_, _++_}
 use mathlib.Core.Option.{Option, none, some}
 use Prim.Native.Nat.{ℕ, _+_, _*_, _≤_, _<_}
 use native.Mathlib.Omega.{arith}
-use borrow.Author.Tests.{eqb-true, eqb-false, lt-ltb}
+use borrow.Author.Tests.{eqb-true, eqb-false}
 use lib.ListN.{length}
 use lib.Dec.{ltb, eqb}
 use Rattle.model.specs.Limits.{mostPages, pageSize, mostBytes, longestPath}
@@ -192,7 +192,7 @@ module _ (img path : List ℕ) (child kind origin label : ℕ) (content : List �
 
       accepted : n ≡ 0 → SmallInsert answer
       accepted e =
-          let v = growth st root path child x (r .passes) (lt-ltb label 65536 small) (bytes-hold content byte) e in
+          let v = growth st root path child x (r .passes) small (bytes-hold content byte) e in
           record { place = small-place (image st (o .0)) st (o .0) (record { passes = v .keeps; same = refl }) (pathOf path ++ child ∷ []); lean = v .lean }
 
       go : (b : Bool) → eqb n 0 ≡ b → SmallInsert (cond {A = InsertAnswer × List ℕ} b (answer, image st (o .0)) (insertRefused n, img) .0)

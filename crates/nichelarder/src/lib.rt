@@ -58,6 +58,7 @@ pub extern "C" fn nl_insert(
     parent: &[u8],
     child: u32,
     kind: u32,
+    origin: u32,
     label: u16,
     content: &[u8],
     answer: &mut [u32; 3],
@@ -69,7 +70,7 @@ pub extern "C" fn nl_insert(
     ensures lean { λ _. ⌜ now (lean .exit) ≡ insertOf (now (image .entry)) (now (parent .entry)) child kind origin label (now (content .entry)) .0 .lean ⌝ }
     ensures image { λ _. ⌜ now (image .exit) ≡ insertOf (now (image .entry)) (now (parent .entry)) child kind origin label (now (content .entry)) .1 ⌝ }
 {
-    let a = store::insert(image, parent, child, kind as usize, label, content);
+    let a = store::insert(image, parent, child, kind as usize, origin as usize, label, content);
     *answer = [a.place.page as u32, a.place.offset as u32, a.splits];
     let l = a.lean;
     *lean = l;
@@ -108,31 +109,32 @@ pub extern "C" fn nl_climb(
 }
 
 #[no_mangle]
-pub extern "C" fn nl_read(image: &[u8], page: u32, offset: u32, answer: &mut [u32; 5]) -> u32
+pub extern "C" fn nl_read(image: &[u8], page: u32, offset: u32, answer: &mut [u32; 6]) -> u32
     ensures number { λ r. ⌜ r ≡ readOf (now (image .entry)) (record { page = page; offset = offset }) .number ⌝ }
     ensures answer { λ _. ⌜ now (answer .exit) ≡ readNumbers (readOf (now (image .entry)) (record { page = page; offset = offset })) ⌝ }
 {
     let a = store::read_at(image, page as usize, offset as usize);
-    *answer = [a.kind, a.label, a.children, a.start as u32, a.len as u32];
+    *answer = [a.kind, a.label, a.children, a.start as u32, a.len as u32, a.origin];
     a.number
 }
 
 // The numbers of each case of Next.
-fn next_numbers(next: Next) -> [u32; 4]
+fn next_numbers(next: Next) -> [u32; 5]
     requires { ⌜ SmallNext next ⌝ }
     ensures { λ r. ⌜ r ≡ nextNumbers next ⌝ }
 {
     match next {
         Next::Node(n) => {
             let k = n.kind;
-            [1, n.place.page as u32, n.place.offset as u32, k.number()]
+            let o = n.origin;
+            [1, n.place.page as u32, n.place.offset as u32, k.number(), o.number()]
         }
-        Next::End => [0, 0, 0, 0],
+        Next::End => [0, 0, 0, 0, 0],
     }
 }
 
 #[no_mangle]
-pub extern "C" fn nl_next(image: &[u8], page: u32, offset: u32, answer: &mut [u32; 4]) -> u32
+pub extern "C" fn nl_next(image: &[u8], page: u32, offset: u32, answer: &mut [u32; 5]) -> u32
     ensures number { λ r. ⌜ r ≡ nextOf (now (image .entry)) (record { page = page; offset = offset }) .number ⌝ }
     ensures answer { λ _. ⌜ now (answer .exit) ≡ nextNumbers (nextOf (now (image .entry)) (record { page = page; offset = offset }) .next) ⌝ }
 {

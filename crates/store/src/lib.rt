@@ -1,4 +1,4 @@
-// The public calls: each for any bytes and arguments, the lowest refusal number first, and nothing written where it is refused.
+// The public calls: each for any bytes and arguments, the first refusal that applies, and nothing written where it is refused.
 use model::FindAnswer;
 use model::InsertAnswer;
 use model::Next;
@@ -50,6 +50,7 @@ pub fn insert(
     path: &[u8],
     child: u32,
     kind: usize,
+    origin: usize,
     label: u16,
     content: &[u8],
 ) -> InsertAnswer
@@ -66,7 +67,7 @@ pub fn insert(
             lean: 0,
         };
     }
-    grow_insert::insert_of(image, &mut widths, path, child, kind, label, content)
+    grow_insert::insert_of(image, &mut widths, path, child, kind, origin, label, content)
 }
 
 // The place of the node that a path names.
@@ -100,7 +101,7 @@ pub fn climb(image: &[u8], place: Place, buffer: &mut [u8]) -> WriteAnswer
     read_climb::climb_of(image, &widths, place, buffer)
 }
 
-// Kind, label, number of children and where the content is, of the node at a place.
+// Kind, origin, label, number of children and where the content is, of the node at a place.
 pub fn read_node(image: &[u8], place: Place) -> ReadNode
     ensures { λ r. ⌜ r ≡ readOf (now (image .entry)) place ⌝ }
 {
@@ -110,6 +111,7 @@ pub fn read_node(image: &[u8], place: Place) -> ReadNode
         return ReadNode {
             number: n,
             kind: 0,
+            origin: 0,
             label: 0,
             children: 0,
             start: 0,

@@ -53,7 +53,7 @@ returns c =
     let v = s .args in
     let r = passing (v .image .now) (s .pre .0) .1 in
     let n = c .before .before .before .admit .ensures .0 _ _ r (v .label) in
-    let e = refused-early r (v .path .now) (v .child) (v .kind) (v .label) (v .content .now) _ n (c .before .if1 .taken) in
+    let e = refused-early r (v .path .now) (v .child) (v .kind) (v .origin) (v .label) (v .content .now) _ n (c .before .if1 .taken) in
     (c .refused .ensures ∙ ap (λ (z : InsertAnswer × List ℕ). z .0) e, (ap (λ (z : InsertAnswer × List ℕ). z .1) e, s .pre .1))
 
 -- the tests passed
@@ -61,7 +61,7 @@ abbrev start : tie.After-whole → tie.Start
 start a = a .before .before .before .before .before .before .before .before .before .before
 
 passed : (a : tie.After-whole) → let v = start a .args in
-    Passed (v .image .now) (v .path .now) (v .child) (v .kind) (v .label) (v .content .now) (a .before .before .before .before .admit .result)
+    Passed (v .image .now) (v .path .now) (v .child) (v .kind) (v .origin) (v .label) (v .content .now) (a .before .before .before .before .admit .result)
 passed a =
     let v = start a .args in
     let (z, r) = passing (v .image .now) (start a .pre .0) in

@@ -18,10 +18,10 @@ insert-requires c κs = search needs
 
 -- the answer's numbers are small
 answer-small : (a : tie.After-insert) → let s = a .before .before .before .before .before .args in SmallInsert
-    (insertOf (s .image .now) (s .parent .now) (s .child) (s .kind) (s .label) (s .content .now) .0)
+    (insertOf (s .image .now) (s .parent .now) (s .child) (s .kind) (s .origin) (s .label) (s .content .now) .0)
 answer-small a =
     let s = a .before .before .before .before .before in
-    insert-small (s .args .image .now) (s .args .parent .now) (s .args .child) (s .args .kind) (s .args .label) (s .args .content .now)
+    insert-small (s .args .image .now) (s .args .parent .now) (s .args .child) (s .args .kind) (s .args .origin) (s .args .label) (s .args .content .now)
     (omega (arith, s .fits)) (is-byte (s .args .content .now) (λ i. omega (arith, a .before .before .shared-slice-known2 .given i)))
 
 cast-t14 : tie.Need-cast-t14

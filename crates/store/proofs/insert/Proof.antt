@@ -19,7 +19,7 @@ returns : tie.Need-returns
 returns c =
     let s = c .before .before .before .before .before .before .before in
     let e = insert-refused (now (s .args .image)) (c .before .check-widths .result) (c .before .check-widths .ensures .0) (c .if1 .taken)
-    (now (s .args .path)) (s .args .child) (s .args .kind) (s .args .label) (now (s .args .content)) in
+    (now (s .args .path)) (s .args .child) (s .args .kind) (s .args .origin) (s .args .label) (now (s .args .content)) in
     (ap (λ (z : InsertAnswer × List ℕ). z .0) e, ap (λ (z : InsertAnswer × List ℕ). z .1) e)
 
 insert-of-requires : tie.Need-insert-of-requires
