@@ -256,12 +256,12 @@ static int plain_once(uint8_t *image, size_t len, size_t parent, size_t goes, co
 }
 
 /* The number of splits, or -1 if refused; the new node's position. */
-static int plain_insert(uint8_t *image, size_t len, const uint8_t *path, size_t path_len, uint32_t child, unsigned kind, unsigned label,
+static int plain_insert(uint8_t *image, size_t len, const uint8_t *path, size_t path_len, uint32_t child, unsigned kind, unsigned origin, unsigned label,
                         const uint8_t *content, size_t content_len, size_t *place) {
     uint8_t node[526], whole[92];
     size_t parent, goes;
     int full, splits;
-    if (plain_check(image, len) || path_len > 88 || path_len % 4 || content_len > 520) return -1;
+    if (plain_check(image, len) || path_len > 88 || path_len % 4 || origin > 3 || content_len > 520) return -1;
     parent = walk_path(image, path, path_len);
     if (!parent || image[parent] != 1) return -1;
     goes = parent + 6;
@@ -273,6 +273,7 @@ static int plain_insert(uint8_t *image, size_t len, const uint8_t *path, size_t 
         if (left % 4096 == 0) goes = proxy_to(image, get16(image + left + 4084), (unsigned)(left / 4096)) + 8;
     }
     memcpy(put_node(node, kind, label, (unsigned)content_len + 6), content, content_len);
+    node[1] = (uint8_t)origin;
     plain_once(image, len, parent, goes, node, content_len + 6, 1, &full);
     if (full) return -1;
     splits = plain_once(image, len, parent, goes, node, content_len + 6, 0, &full);

@@ -10,6 +10,7 @@ static inline void put16(uint8_t *at, unsigned v) {
     at[1] = (uint8_t)(v / 256);
 }
 
+/* A header with origin 0. */
 static inline uint8_t *put_node(uint8_t *at, unsigned kind, unsigned label, unsigned size) {
     at[0] = (uint8_t)kind;
     at[1] = 0;

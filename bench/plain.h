@@ -22,9 +22,9 @@ static int plain_record(struct plain *c, unsigned page, unsigned holder, unsigne
     const uint8_t *p = c->image + 4096u * page;
     unsigned used = get16(p + 4082);
     if (p[4080] != 1 || get16(p + 4084) != holder || used < 6) return 0;
-    if (p[1] || get16(p + 4) != used) return 0;
+    if (p[1] > 3 || get16(p + 4) != used) return 0;
     if (p[0] == 4) {
-        if (p[4081] || get16(p + 2) || used < 12) return 0;
+        if (p[4081] || p[1] || get16(p + 2) || used < 12) return 0;
         unsigned first = get16(p + 10);
         if (first < 6 || 6 + first >= used) return 0;
         return plain_list(c, p + 6, p + used, page, level);
@@ -38,9 +38,9 @@ static int plain_list(struct plain *c, const uint8_t *p, const uint8_t *end, uns
     while (p < end) {
         if (end - p < 6) return 0;
         unsigned n = get16(p + 4);
-        if (n < 6 || n > (size_t)(end - p) || p[1]) return 0;
+        if (n < 6 || n > (size_t)(end - p) || p[1] > 3) return 0;
         if (p[0] == 3) {
-            if (n != 8 || get16(p + 2)) return 0;
+            if (n != 8 || p[1] || get16(p + 2)) return 0;
             unsigned q = get16(p + 6);
             if (q < 2 || q >= c->pages || c->seen[q]) return 0;
             c->seen[q] = 1;

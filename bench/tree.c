@@ -64,12 +64,12 @@ static void grown(uint8_t *image, unsigned pages, uint32_t *children) {
     if (pages > 8) make_nested(image, pages, 16, 0, 0, fill_literals);
     *children = width_of(image, 4096 + 6, 4096 + get16(image + 4096 + 4));
     for (int i = 0; i < 5; i++, ++*children)
-        if (nl_insert(image, 4096u * (size_t)pages, content, 0, any(*children + 1), NL_LITERAL, 9, content, 100, answer, &lean)) fail("insert");
+        if (nl_insert(image, 4096u * (size_t)pages, content, 0, any(*children + 1), NL_LITERAL, NL_WIRE, 9, content, 100, answer, &lean)) fail("insert");
 }
 
 static void growth(unsigned pages, uint8_t *image, uint8_t *copy) {
     size_t len = 4096u * (size_t)pages, at;
-    uint32_t children, place[2], written, next[4], answer[3];
+    uint32_t children, place[2], written, next[5], answer[3];
     uint8_t path[4], back[92], content[100] = {2};
     int32_t lean;
     double s, p, l;
@@ -91,12 +91,12 @@ static void growth(unsigned pages, uint8_t *image, uint8_t *copy) {
     size_t after = 0;
     LEAST(p, 30, , after = plain_next(image, len, at));
     LEAST(l, 30, , sink += nl_next(image, len, place[0], place[1], next));
-    if (after != 4096u * (size_t)next[1] + next[2]) fail("next differs");
+    if (after != 4096u * (size_t)next[1] + next[2] || next[3] != image[after] || next[4] != image[after + 1]) fail("next differs");
     row("next", pages, s, p, l);
     int splits = 0;
-    LEAST(p, 30, memcpy(copy, image, len), splits = plain_insert(copy, len, path, 0, children / 2, 2, 9, content, 100, &after));
+    LEAST(p, 30, memcpy(copy, image, len), splits = plain_insert(copy, len, path, 0, children / 2, 2, NL_TYPED, 9, content, 100, &after));
     uint64_t want = sum(copy, len);
-    LEAST(l, 30, memcpy(copy, image, len), sink += nl_insert(copy, len, path, 0, children / 2, NL_LITERAL, 9, content, 100, answer, &lean));
+    LEAST(l, 30, memcpy(copy, image, len), sink += nl_insert(copy, len, path, 0, children / 2, NL_LITERAL, NL_TYPED, 9, content, 100, answer, &lean));
     if (splits != (int)answer[2] || after != 4096u * (size_t)answer[0] + answer[1] || want != sum(copy, len)) fail("insert differs");
     row("insert", pages, s, p, l);
 }
@@ -134,7 +134,7 @@ static void path_of(uint32_t parent, uint8_t *path) {
 static void tree(uint8_t *image, size_t pages, uint8_t *copy) {
     size_t len = 4096 * pages, at = 4096, count;
     uint8_t matrix[256], content[60] = {3}, path[8];
-    uint32_t answer[3], place[2], next[4];
+    uint32_t answer[3], place[2], next[5];
     int32_t lean;
     double t[3][3], a;
     plan();
@@ -144,31 +144,32 @@ static void tree(uint8_t *image, size_t pages, uint8_t *copy) {
     if (nl_format(image, len, (uint32_t)pages, 128, 409, 1, matrix, 256, 7)) fail("format");
     for (uint32_t i = 0; i < NODES; i++) {
         path_of(parents[i], path);
-        if (nl_insert(image, len, path, parents[i] ? 4 : 0, places[i], parents[i] ? NL_LITERAL : NL_AGGREGATE, 9, content, parents[i] ? 60 : 0, answer,
-                      &lean)) fail("insert");
+        if (nl_insert(image, len, path, parents[i] ? 4 : 0, places[i], parents[i] ? NL_LITERAL : NL_AGGREGATE, i % 4, 9, content, parents[i] ? 60 : 0,
+                      answer, &lean)) fail("insert");
     }
     t[0][0] = now() - a;
     a = now();
     nl_format(copy, len, (uint32_t)pages, 128, 409, 1, matrix, 256, 7);
     for (uint32_t i = 0; i < NODES; i++) {
         path_of(parents[i], path);
-        if (plain_insert(copy, len, path, parents[i] ? 4 : 0, places[i], parents[i] ? 2 : 1, 9, content, parents[i] ? 60 : 0, &at) < 0) fail("plain insert");
+        if (plain_insert(copy, len, path, parents[i] ? 4 : 0, places[i], parents[i] ? 2 : 1, i % 4, 9, content, parents[i] ? 60 : 0, &at) < 0)
+            fail("plain insert");
     }
     t[0][1] = now() - a;
     if (memcmp(image, copy, len)) fail("the images differ");
 
     if (sqlite3_open(":memory:", &db) != SQLITE_OK) fail("sqlite");
-    sqlite3_exec(db, "create table node(id integer primary key, parent integer, pos integer, kind integer, label integer, content blob);"
+    sqlite3_exec(db, "create table node(id integer primary key, parent integer, pos integer, kind integer, origin integer, label integer, content blob);"
                      "create index child on node(parent, pos);", NULL, NULL, NULL);
-    sqlite3_stmt *move = stmt("update node set pos = pos + 1 where parent = ? and pos >= ?"), *put = stmt("insert into node values(?, ?, ?, ?, ?, ?)");
+    sqlite3_stmt *move = stmt("update node set pos = pos + 1 where parent = ? and pos >= ?"), *put = stmt("insert into node values(?, ?, ?, ?, ?, ?, ?)");
     a = now();
-    sqlite3_exec(db, "begin; insert into node values(1, 0, 0, 1, 7, null)", NULL, NULL, NULL);
+    sqlite3_exec(db, "begin; insert into node values(1, 0, 0, 1, 0, 7, null)", NULL, NULL, NULL);
     for (uint32_t i = 0; i < NODES; i++) {
         sqlite3_int64 parent = 1 + (sqlite3_int64)parents[i];
         sqlite3_bind_int64(move, 1, parent), sqlite3_bind_int64(move, 2, places[i]), run(move);
         sqlite3_bind_int64(put, 1, 2 + (sqlite3_int64)i), sqlite3_bind_int64(put, 2, parent), sqlite3_bind_int64(put, 3, places[i]);
-        sqlite3_bind_int(put, 4, parents[i] ? 2 : 1), sqlite3_bind_int(put, 5, 9),
-            sqlite3_bind_blob(put, 6, content, parents[i] ? 60 : 0, SQLITE_STATIC), run(put);
+        sqlite3_bind_int(put, 4, parents[i] ? 2 : 1), sqlite3_bind_int(put, 5, (int)(i % 4)), sqlite3_bind_int(put, 6, 9),
+            sqlite3_bind_blob(put, 7, content, parents[i] ? 60 : 0, SQLITE_STATIC), run(put);
     }
     sqlite3_exec(db, "commit", NULL, NULL, NULL);
     t[0][2] = now() - a;

@@ -5,6 +5,7 @@
 #include <string.h>
 
 static const char *const names[] = NL_REFUSAL_NAMES;
+static const char *const origins[] = NL_ORIGIN_NAMES;
 static uint8_t image[3 * NL_PAGE];
 
 /* Says what a refused call refused; every call can be checked this way. */
@@ -21,14 +22,14 @@ static int format(void) {
     return refused("format", nl_format(image, sizeof image, 3, 128, 409, 1, matrix, sizeof matrix, 7));
 }
 
-/* Literal 9 with two bytes as the root's first child, then aggregate 300 in front of it. The root's path is empty: no bytes. */
+/* Literal 9 with two bytes, typed in, as the root's first child, then aggregate 300, derived, in front of it. The root's path is empty: no bytes. */
 static int fill(void) {
     const uint8_t root[1] = {0}, content[2] = {0x41, 0x42};
     uint32_t answer[3];
     int32_t lean;
-    if (refused("insert", nl_insert(image, sizeof image, root, 0, 0, NL_LITERAL, 9, content, 2, answer, &lean)))
+    if (refused("insert", nl_insert(image, sizeof image, root, 0, 0, NL_LITERAL, NL_TYPED, 9, content, 2, answer, &lean)))
         return 1;
-    if (refused("insert", nl_insert(image, sizeof image, root, 0, 0, NL_AGGREGATE, 300, content, 0, answer, &lean)))
+    if (refused("insert", nl_insert(image, sizeof image, root, 0, 0, NL_AGGREGATE, NL_DERIVED, 300, content, 0, answer, &lean)))
         return 1;
     printf("aggregate 300 stands on page %u at byte %u; %u records were split\n", (unsigned)answer[0], (unsigned)answer[1], (unsigned)answer[2]);
     return 0;
@@ -50,11 +51,11 @@ static int find_and_climb(void) {
 
 /* Every node in document order, from the root on page 1 at byte 0: read it, then go to the next. */
 static int print_all(void) {
-    uint32_t node[5], next[4] = {1, 1, 0, NL_AGGREGATE}, i;
+    uint32_t node[6], next[5] = {1, 1, 0, NL_AGGREGATE, NL_WIRE}, i;
     while (next[0]) {
         if (refused("read", nl_read(image, sizeof image, next[1], next[2], node)))
             return 1;
-        printf("%s %u, %u children,", node[0] == NL_AGGREGATE ? "aggregate" : "literal", (unsigned)node[1], (unsigned)node[2]);
+        printf("%s %u, origin %s, %u children,", node[0] == NL_AGGREGATE ? "aggregate" : "literal", (unsigned)node[1], origins[node[5]], (unsigned)node[2]);
         for (i = 0; i < node[4]; i++)
             printf(" %02x", image[node[3] + i]);
         printf(node[4] ? "\n" : " no content\n");

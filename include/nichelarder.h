@@ -1,12 +1,13 @@
 /* Nichelarder: a proved tree store in a block of memory that the caller lends.
  *
  * An image is 2 to 1,024 pages of 4,096 bytes. Page 0 holds the settings, page 1 the root record, every other page is free or holds one
- * record. The store keeps one ordered tree: an aggregate has a label and children, a literal a label and 0 to 520 content bytes.
+ * record. The store keeps one ordered tree: an aggregate has a label and children, a literal a label and 0 to 520 content bytes; both have an
+ * origin, which says where the field came from.
  * A path is a list of child numbers from 0, four bytes each, low byte first; the empty path is the root. A place is a page and a byte
  * offset at which a node starts; it lasts until the next accepted insert or format.
  *
- * Each function returns 0, or the number of the first refusal that applies. A refused call writes zeros to its answer numbers and changes no
- * byte of the image or of a byte buffer. Any bytes and any numbers may be handed over, but
+ * Each function returns 0, or the number of the first refusal that applies, in the order in which its comment names them. A refused call writes
+ * zeros to its answer numbers and changes no byte of the image or of a byte buffer. Any bytes and any numbers may be handed over, but
  *  - a pointer may be null only where it has a length, and that is 0: an empty path or content may be NULL, 0;
  *  - a length is the number of bytes that the pointer leads to;
  *  - a buffer that is lent for writing, as are all answer numbers, overlaps neither the image nor another buffer of the same call.
@@ -16,10 +17,10 @@
  * from several threads on different images. They need up to 28 KB of stack or, where records are nested deeply in one another, 10 KB and some
  * 390 bytes for each: up to 416 KB.
  *
- * The format, for those who look at bytes: a record is a tree of nodes, each a header of six bytes (kind, label, size, two bytes each, low byte first)
- * and what it holds. Kind 1 is an aggregate, 2 a literal, 3 a proxy: two bytes that name the page of the record that stands in its place, 4 a helper:
- * the root of a record that holds several nodes. A page ends in 16 bytes: whether it has a record, whether that is settled, its length and the
- * page that holds its proxy. Calls show neither proxies nor helpers.
+ * The format, for those who look at bytes: a record is a tree of nodes, each a header of six bytes (kind, origin, one byte each; label, size, two bytes
+ * each, low byte first) and what it holds. Kind 1 is an aggregate, 2 a literal, 3 a proxy: two bytes that name the page of the record that stands in its
+ * place, 4 a helper: the root of a record that holds several nodes; proxies and helpers have zeros for origin and label. A page ends in 16 bytes: whether
+ * it has a record, whether that is settled, its length and the page that holds its proxy. Calls show neither proxies nor helpers.
  */
 #ifndef NICHELARDER_H
 #define NICHELARDER_H
@@ -41,6 +42,15 @@ extern "C" {
 #define NL_AGGREGATE 1u
 #define NL_LITERAL 2u
 
+/* Origins. A formatted root has 0, and so has every node of an image from before there were origins. */
+#define NL_WIRE 0u    /* seen on the wire */
+#define NL_STORED 1u  /* read from a store */
+#define NL_TYPED 2u   /* typed in */
+#define NL_DERIVED 3u /* derived */
+
+/* The names of the origins 0 to 3 for messages: static const char *const origins[] = NL_ORIGIN_NAMES; */
+#define NL_ORIGIN_NAMES { "wire", "store", "typed", "derived" }
+
 /* What a call returns: 0, or why it refused, and what to do about it. */
 enum nl_refusal {
     NL_OK = 0,
@@ -55,16 +65,17 @@ enum nl_refusal {
     NL_GAP = 9,       /* insert: the child number is above the number of children: the number of children itself appends */
     NL_STRAY = 10,    /* no node starts at the place: it is from before an insert or a format; find it again by its path */
     NL_SHORT = 11,    /* the lent buffer is too short, and nothing was written: NL_PATH bytes take every path, 2 * NL_PAGES every list of records */
-    NL_FULL = 12      /* insert: a page is needed and none is free: nothing was changed; format a larger image and insert again what this one holds */
+    NL_FULL = 12,     /* insert: a page is needed and none is free: nothing was changed; format a larger image and insert again what this one holds */
+    NL_ORIGIN = 13    /* insert: the origin is above 3: give one of the four; tested directly after 5 */
 };
 
-/* The names of the numbers 0 to 12 for messages: static const char *const names[] = NL_REFUSAL_NAMES; */
+/* The names of the numbers 0 to 13 for messages: static const char *const names[] = NL_REFUSAL_NAMES; */
 #define NL_REFUSAL_NAMES                                                                                                                  \
     { "ok", "wrong length", "wrong settings", "broken image", "path too long", "wrong kind", "content too long", "no such node",           \
-      "parent is a literal", "child number too high", "no node at this place", "buffer too short", "store full" }
+      "parent is a literal", "child number too high", "no node at this place", "buffer too short", "store full", "wrong origin" }
 
-/* Makes any bytes an image with a root aggregate alone. matrix: 256 entries, 16 * class of parent + class of child, each 0 (apart) or 2
- * (free choice); a label's class is the label below 15, else 15. Usual: target 128, tolerance 409, form 1, matrix all 2.
+/* Makes any bytes an image with a root aggregate alone, of origin 0. matrix: 256 entries, 16 * class of parent + class of child, each 0
+ * (apart) or 2 (free choice); a label's class is the label below 15, else 15. Usual: target 128, tolerance 409, form 1, matrix all 2.
  * Refusals 1, 2. */
 uint32_t nl_format(uint8_t *image, size_t image_len, uint32_t pages, uint32_t target, uint32_t tolerance, uint32_t form,
                    const uint8_t *matrix, size_t matrix_len, uint16_t root_label);
@@ -73,11 +84,11 @@ uint32_t nl_format(uint8_t *image, size_t image_len, uint32_t pages, uint32_t ta
 uint32_t nl_check(const uint8_t *image, size_t image_len);
 
 /* Puts a new node as child number `child` (0 is first) of the aggregate that the path `parent` names: kind NL_AGGREGATE without content or
- * NL_LITERAL, its label, and its content. The answer: page and offset of the new node, how many records were split; *lean is how far the first
- * split was from its aim, in bytes, -525 to 132, or 0 without a split. An accepted insert may move other nodes: places from before it are void.
- * Refusals 1, 3, 4, 5, 6, 7, 8, 9, 12. */
-uint32_t nl_insert(uint8_t *image, size_t image_len, const uint8_t *parent, size_t parent_len, uint32_t child, uint32_t kind, uint16_t label,
-                   const uint8_t *content, size_t content_len, uint32_t answer[3], int32_t *lean);
+ * NL_LITERAL, its origin, its label, and its content. The answer: page and offset of the new node, how many records were split; *lean is how far
+ * the first split was from its aim, in bytes, -525 to 132, or 0 without a split. An accepted insert may move other nodes: places from before it
+ * are void. No insert changes the origin of another node. Refusals 1, 3, 4, 5, 13, 6, 7, 8, 9, 12. */
+uint32_t nl_insert(uint8_t *image, size_t image_len, const uint8_t *parent, size_t parent_len, uint32_t child, uint32_t kind, uint32_t origin,
+                   uint16_t label, const uint8_t *content, size_t content_len, uint32_t answer[3], int32_t *lean);
 
 /* Path to place: page, offset. Refusals 1, 3, 4, 7. */
 uint32_t nl_find(const uint8_t *image, size_t image_len, const uint8_t *path, size_t path_len, uint32_t place[2]);
@@ -85,11 +96,11 @@ uint32_t nl_find(const uint8_t *image, size_t image_len, const uint8_t *path, si
 /* Place to path: written to the front of the lent buffer, the rest unchanged; the bytes written go to *written. Refusals 1, 3, 10, 11. */
 uint32_t nl_climb(const uint8_t *image, size_t image_len, uint32_t page, uint32_t offset, uint8_t *path, size_t path_len, uint32_t *written);
 
-/* Of the node at a place: kind, label, number of children, start of the content in the image, its length. Refusals 1, 3, 10. */
-uint32_t nl_read(const uint8_t *image, size_t image_len, uint32_t page, uint32_t offset, uint32_t answer[5]);
+/* Of the node at a place: kind, label, number of children, start of the content in the image, its length, origin. Refusals 1, 3, 10. */
+uint32_t nl_read(const uint8_t *image, size_t image_len, uint32_t page, uint32_t offset, uint32_t answer[6]);
 
-/* The following node in document order: 1 and its page, offset, kind; or 0 0 0 0 at the end. Refusals 1, 3, 10. */
-uint32_t nl_next(const uint8_t *image, size_t image_len, uint32_t page, uint32_t offset, uint32_t answer[4]);
+/* The following node in document order: 1 and its page, offset, kind, origin; or 0 0 0 0 0 at the end. Refusals 1, 3, 10. */
+uint32_t nl_next(const uint8_t *image, size_t image_len, uint32_t page, uint32_t offset, uint32_t answer[5]);
 
 /* All record pages, two bytes each, low byte first, in any order, to the front of the lent buffer. Refusals 1, 3, 11. */
 uint32_t nl_records(const uint8_t *image, size_t image_len, uint8_t *pages, size_t pages_len, uint32_t *written);

@@ -43,14 +43,14 @@ static uint32_t format_within(uint32_t pages, size_t at, size_t entries) {
     return a;
 }
 
-/* Insert with path and content in the image, and with copies of them. */
+/* Insert with path and content in the image, and with copies of them; of any origin. */
 static uint32_t insert_within(size_t path, size_t path_len, uint32_t child, uint32_t kind, uint16_t label, size_t content, size_t content_len) {
-    uint32_t a, b, here[3], there[3];
+    uint32_t a, b, origin = below(4), here[3], there[3];
     int32_t lean, other;
     memcpy(copy, image + path, path_len);
     memcpy(copy + 128, image + content, content_len);
-    a = nl_insert(image, len, image + path, path_len, child, kind, label, image + content, content_len, here, &lean);
-    b = nl_insert(twin, len, copy, path_len, child, kind, label, copy + 128, content_len, there, &other);
+    a = nl_insert(image, len, image + path, path_len, child, kind, origin, label, image + content, content_len, here, &lean);
+    b = nl_insert(twin, len, copy, path_len, child, kind, origin, label, copy + 128, content_len, there, &other);
     expect(a == b && !memcmp(here, there, sizeof here) && lean == other && !memcmp(image, twin, len), "insert from the image differs from insert from copies");
     return a;
 }
@@ -87,7 +87,7 @@ static size_t zeros_at(void) {
 
 /* Content is taken from where Read finds it, and paths from zeros of the image: appended, put in front and below the first child, to many splits. */
 static void copies(int apart) {
-    uint32_t place[2], node[5], n, i;
+    uint32_t place[2], node[6], n, i;
     len = MOST;
     memset(copy, apart ? 0 : 2, 256);
     expect(nl_format(image, len, MOST / NL_PAGE, 128, 409, 1, copy, 256, 7) == 0, "format refused");
@@ -99,8 +99,8 @@ static void copies(int apart) {
         uint8_t *to = i ? twin : image;
         uint32_t answer[3];
         int32_t lean;
-        expect(nl_insert(to, len, NULL, 0, 0, NL_AGGREGATE, 3, NULL, 0, answer, &lean) == 0, "an empty path and empty content, both null");
-        expect(nl_insert(to, len, NULL, 0, 1, NL_LITERAL, 4, before, NL_CONTENT, answer, &lean) == 0, "an empty path that is null");
+        expect(nl_insert(to, len, NULL, 0, 0, NL_AGGREGATE, NL_WIRE, 3, NULL, 0, answer, &lean) == 0, "an empty path and empty content, both null");
+        expect(nl_insert(to, len, NULL, 0, 1, NL_LITERAL, NL_WIRE, 4, before, NL_CONTENT, answer, &lean) == 0, "an empty path that is null");
     }
     for (;;) {
         uint32_t below_first = below(3) == 0;
@@ -121,21 +121,21 @@ static void copies(int apart) {
 }
 
 static void empty(void) {
-    uint32_t number, five[5];
+    uint32_t number, six[6];
     int32_t lean;
     uint8_t *none = NULL, zeros[4] = {0, 0, 0, 0};
-    expect(nl_find(image, len, none, 0, five) == 0 && five[0] == 1 && five[1] == 0, "find with an empty path that is null");
+    expect(nl_find(image, len, none, 0, six) == 0 && six[0] == 1 && six[1] == 0, "find with an empty path that is null");
     expect(nl_climb(image, len, 1, 0, none, 0, &number) == 0 && number == 0, "climb from the root to a buffer that is null");
-    expect(nl_find(image, len, zeros, 4, five) == 0, "no first child");
-    expect(nl_climb(image, len, five[0], five[1], none, 0, &number) == NL_SHORT && number == 0, "climb to a buffer that is null");
+    expect(nl_find(image, len, zeros, 4, six) == 0, "no first child");
+    expect(nl_climb(image, len, six[0], six[1], none, 0, &number) == NL_SHORT && number == 0, "climb to a buffer that is null");
     expect(nl_records(image, len, none, 0, &number) == NL_SHORT && number == 0, "records to a buffer that is null");
     memcpy(before, image, len);
     expect(nl_format(image, len, MOST / NL_PAGE, 128, 409, 1, none, 0, 7) == NL_SETTINGS && !memcmp(before, image, len), "format with a matrix that is null");
     /* an image of no bytes */
     expect(nl_format(none, 0, 2, 128, 409, 1, copy, 256, 7) == NL_LENGTH && nl_check(none, 0) == NL_LENGTH, "an image that is null");
-    expect(nl_insert(none, 0, none, 0, 0, NL_AGGREGATE, 1, none, 0, five, &lean) == NL_LENGTH, "an image that is null: insert");
-    expect(nl_find(none, 0, none, 0, five) == NL_LENGTH && nl_read(none, 0, 1, 0, five) == NL_LENGTH, "an image that is null: find, read");
-    expect(nl_climb(none, 0, 1, 0, none, 0, &number) == NL_LENGTH && nl_next(none, 0, 1, 0, five) == NL_LENGTH, "an image that is null: climb, next");
+    expect(nl_insert(none, 0, none, 0, 0, NL_AGGREGATE, NL_WIRE, 1, none, 0, six, &lean) == NL_LENGTH, "an image that is null: insert");
+    expect(nl_find(none, 0, none, 0, six) == NL_LENGTH && nl_read(none, 0, 1, 0, six) == NL_LENGTH, "an image that is null: find, read");
+    expect(nl_climb(none, 0, 1, 0, none, 0, &number) == NL_LENGTH && nl_next(none, 0, 1, 0, six) == NL_LENGTH, "an image that is null: climb, next");
     expect(nl_records(none, 0, none, 0, &number) == NL_LENGTH, "an image that is null: records");
 }
 

@@ -17,17 +17,18 @@ static uint32_t insert_deep(uint8_t *image, size_t len, unsigned chain, uint32_t
     memset(image, 0, len);
     make_chain(image, chain, fill_small);
     put16(image, (unsigned)(len / 4096));
-    return nl_insert(image, len, content, 0, 1, NL_LITERAL, 9, content, sizeof content, answer, &lean);
+    return nl_insert(image, len, content, 0, 1, NL_LITERAL, NL_DERIVED, 9, content, sizeof content, answer, &lean);
 }
 
 static int inserts(uint8_t *image, size_t len) {
-    uint32_t answer[3], read[5];
+    uint32_t answer[3], read[6];
     /* a chain through all pages: none is free, and nothing changes */
     if (insert_deep(image, len, 1024, answer) != NL_FULL || answer[0] || answer[1] || answer[2]) return wrong("insert into a full image");
     if (nl_check(image, len) || nl_read(image, len, 1, 0, read) || read[2] != 677u * 1023u) return wrong("the full image after it");
     /* 511 records, the root's among them: a cascade of 511 splits, after which every page is taken */
     if (insert_deep(image, len, 512, answer) || answer[2] != 511) return wrong("insert, a cascade of 511 splits");
     if (nl_check(image, len) || nl_read(image, len, 1, 0, read) || read[2] != 677u * 511u + 1u) return wrong("the image after the cascade");
+    if (nl_read(image, len, answer[0], answer[1], read) || read[0] != NL_LITERAL || read[5] != NL_DERIVED) return wrong("the new node after the cascade");
     /* with one record more the last split finds no page */
     if (insert_deep(image, len, 513, answer) != NL_FULL) return wrong("insert, a cascade one page too long");
     return 0;
@@ -36,7 +37,7 @@ static int inserts(uint8_t *image, size_t len) {
 int main(void) {
     size_t len = 4194304;
     uint8_t *image = malloc(len), path[4];
-    uint32_t place[2], written, answer[5], following[4];
+    uint32_t place[2], written, answer[6], following[5];
     if (!image) return 2;
     make_chain(image, 1024, fill_small);
     if (nl_check(image, len)) return wrong("check");

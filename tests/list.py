@@ -19,12 +19,12 @@ def number(image, at):
 def lines(image, start, end, level):
     """A line for each logical node in these bytes; a proxy stands for its record, and a helper for what it holds."""
     while start < end:
-        kind, label, after = image[start], number(image, start + 2), start + number(image, start + 4)
+        kind, origin, label, after = image[start], image[start + 1], number(image, start + 2), start + number(image, start + 4)
         if kind == 1:
-            yield "%d A %d -" % (level, label)
+            yield "%d A %d - %d" % (level, label, origin)
             yield from lines(image, start + 6, after, level + 1)
         elif kind == 2:
-            yield "%d L %d %s" % (level, label, bytes(image[start + 6:after]).hex() or "-")
+            yield "%d L %d %s %d" % (level, label, bytes(image[start + 6:after]).hex() or "-", origin)
         elif kind == 3:
             yield from record(image, number(image, start + 6), level)
         elif kind == 4:

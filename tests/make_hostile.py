@@ -14,7 +14,7 @@ import make_scripts as made
 import reference as ref
 
 LONGEST = 9000                                        # no line is longer
-SHAPES = [(2, 4), (2, 12), (3, 30), (4, 60)]          # small images, so that many calls take little time
+SHAPES = [(2, 4), (3, 12), (4, 30), (5, 60)]          # small images, so that many calls take little time
 uncached = ref.read_store
 stores = {}
 
@@ -34,6 +34,19 @@ def read_store(image):
     return stores[key]
 
 
+def grow_store(rng):
+    """A random image; to two in three so many bytes are added that the root's record splits, if there are pages: then it has helpers."""
+    image = made.grow_store(rng)
+    for _ in range(rng.choice((0, 9, 9))):
+        ref.insert(image, b"", 0, ref.LITERAL, rng.randrange(ref.ORIGINS), 300, bytes([rng.randrange(256)]) * ref.CONTENT)
+    return image
+
+
+def origin_bytes(rng, image):
+    """Where to put which byte: on a node of each kind an origin that aggregates and literals may have, and one that they may not."""
+    return [(at, rng.choice(values)) for at in made.origin_places(rng, image) for values in ((1, 2, 3), (4, 255))]
+
+
 def some_number(rng):
     return rng.choice((0, 1, 2, 3, rng.randrange(30), rng.randrange(5000), 65535, 65536, 2**31, 2**32 - 1))
 
@@ -44,8 +57,9 @@ def some_call(rng, entries):
     if kind < 5:
         content = bytes([rng.randrange(256)]) * rng.choice((0, 0, 1, 6, 100, 519, 520, 521, 600))
         child = rng.choice((0, 0, 1, rng.randrange(8), some_number(rng)))
-        return "insert %s %d %d 0 %d %s" % (ref.to_hex(made.some_path(rng, entries)), child, rng.choice((1, 1, 2, 2, 2, 0, 3, 258)),
-                                                rng.choice((0, 7, 15, 65535)), ref.to_hex(content))
+        origin = rng.choice((0, 1, 2, 3, rng.randrange(4), rng.choice(made.WRONG_ORIGINS)))
+        return "insert %s %d %d %d %d %s" % (ref.to_hex(made.some_path(rng, entries)), child, rng.choice((1, 1, 2, 2, 2, 0, 3, 258)), origin,
+                                             rng.choice((0, 7, 15, 65535)), ref.to_hex(content))
     if kind < 8:
         return "find " + ref.to_hex(made.some_path(rng, entries))
     if kind < 11:
@@ -68,18 +82,21 @@ def main(seed, calls):
     rng = random.Random(seed)
     made.SHAPES = SHAPES
     numbers = collections.Counter()
-    out = ["V 1 0 %d" % LONGEST]
+    out = ["V 1 %s %d" % (ref.RULES, LONGEST)]
     done, said = 0, 0
     while done < calls:
         ref.read_store = uncached
-        image = made.grow_store(rng)
+        image = grow_store(rng)
         ref.read_store = read_store
         made.put_image(image, out)
         out.append("S")
+        origins = origin_bytes(rng, image)
         for _ in range(60):
             out.append("R")
             hurt = bytearray(image)
-            if rng.random() < 0.7:
+            if origins:
+                made.put_byte(*origins.pop(), hurt, out)
+            elif rng.random() < 0.7:
                 made.damage(rng, hurt, out)
             if rng.random() < 0.05:
                 cut = rng.choice((0, 1, 4095, 4096, 8191, len(hurt) - 1))

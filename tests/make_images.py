@@ -26,8 +26,8 @@ def formatted(pages, label, tolerance=409, matrix=bytes([2] * 256)):
     return image
 
 
-def put(image, parent, child, kind, label, content=b""):
-    answer = reference.insert(image, path(*parent), child, kind, label, content)
+def put(image, parent, child, kind, label, content=b"", origin=0):
+    answer = reference.insert(image, path(*parent), child, kind, origin, label, content)
     assert answer[0] == 0, answer
     return answer
 
@@ -44,8 +44,8 @@ def chain():
     """A literal at the last level."""
     image = formatted(2, 65535)
     for level in range(22):
-        put(image, (0,) * level, 0, AGGREGATE, 256 + level)
-    put(image, (0,) * 22, 0, LITERAL, 0, bytes(range(256)))
+        put(image, (0,) * level, 0, AGGREGATE, 256 + level, origin=level % 4)
+    put(image, (0,) * 22, 0, LITERAL, 0, bytes(range(256)), origin=3)
     return image
 
 
@@ -54,6 +54,24 @@ def empties():
     for child, (kind, label, content) in enumerate([(LITERAL, 256, b""), (AGGREGATE, 65535, b""), (LITERAL, 9, b"\0"), (LITERAL, 10, b""),
                                                    (LITERAL, 0, b"\xff")]):
         put(image, (), child, kind, label, content)
+    return image
+
+
+def origins():
+    """Each origin on each kind, with content and without."""
+    image = formatted(2, 7)
+    for origin in range(4):
+        put(image, (), 0, LITERAL, 9, origin=origin)
+        put(image, (), 0, LITERAL, 9, b"\x41", origin=origin)
+        put(image, (), 0, AGGREGATE, 9, origin=origin)
+    return image
+
+
+def with_origin(image, kind, origin):
+    """A copy with this byte as the origin of its last node of the kind."""
+    image = bytearray(image)
+    starts = [start for page in range(1, len(image) // PAGE) for start in reference.headers(image, page) if image[start] == kind]
+    image[starts[-1] + 1] = origin
     return image
 
 
@@ -67,8 +85,8 @@ def grown(pages, seed, **settings):
         parent = chance.choice(parents)
         kind = chance.choice([AGGREGATE, LITERAL, LITERAL])
         content = chance.randbytes(chance.choice([0, 3, 40, 520])) if kind == LITERAL else b""
-        answer = reference.insert(image, path(*parent.path), chance.randint(0, parent.children), kind, chance.randrange(1 << chance.choice([3, 8, 16])),
-                                  content)
+        answer = reference.insert(image, path(*parent.path), chance.randint(0, parent.children), kind, chance.randrange(4),
+                                  chance.randrange(1 << chance.choice([3, 8, 16])), content)
         if answer[0] == reference.FULL:
             return image
 
@@ -96,7 +114,9 @@ def inputs():
     yield "fresh15", formatted(15, 300)
     yield "chain", chain()
     yield "empties", empties()
-    yield "grown5", grown(5, 1)
+    yield "origins", origins()
+    small = grown(5, 11)                              # with splits and helpers
+    yield "grown5", small
     yield "grown15", grown(15, 2)
     yield "apart15", grown(15, 3, matrix=bytes([2, 0] * 128))
     yield "full15", full()
@@ -106,6 +126,9 @@ def inputs():
     yield "odd", formatted(2, 7) + b"\0"
     yield "junk", random.Random(4).randbytes(2 * PAGE)
     yield "broken", sample()[:PAGE] + bytes(2 * PAGE)
+    for name, kind in ("aggregate", AGGREGATE), ("literal", LITERAL), ("proxy", reference.PROXY), ("helper", reference.HELPER):
+        for origin in 1, 3, 4, 255:
+            yield "%s_origin%d" % (name, origin), with_origin(small, kind, origin)
     yield "over", formatted(16, 7)
     yield "over_one", formatted(15, 7) + b"\0"
 

@@ -11,11 +11,13 @@ import random
 import sys
 import time
 
+import make_scripts as made
 import reference as ref
 
 LONGEST = 9000                                        # no line is longer
 NEAR = ref.CAPACITY - ref.HEADER - ref.CONTENT        # from here on the biggest literal splits the record
 LABELS = (0, 1, 2, 3, 7, 13, 14, 15, 16, 300, 65535)
+FAULTS = (ref.LEVEL, ref.BAD_KIND, ref.BAD_ORIGIN, ref.LONG, ref.ABSENT, ref.CLOSED, ref.GAP)      # what a refused insert may have wrong
 
 
 # ---- Where nodes stand
@@ -84,11 +86,12 @@ class Counts:
     def __init__(self):
         self.inserts = self.stores = self.near = self.apart = self.longest = self.pages = self.deepest = self.records = 0
         self.refused = {}
+        self.origins = [0] * ref.ORIGINS              # of accepted ones
         self.splits = [0, 0, 0, 0]                    # none, one, two, three or more
         self.leans = [0, 0]
 
     def lines(self):
-        yield "%d inserts in %d stores; accepted %d" % (self.inserts, self.stores, sum(self.splits))
+        yield "%d inserts in %d stores; accepted %d, by origin %d, %d, %d, %d" % (self.inserts, self.stores, sum(self.splits), *self.origins)
         yield "splits: none %d, one %d, two %d, three or more %d; longest cascade %d; leans %d to %d" % (*self.splits, self.longest, *self.leans)
         yield "refused: " + ", ".join("%d of %d" % (count, number) for number, count in sorted(self.refused.items()))
         yield "records with over %d bytes, or split: %d; set apart: %d" % (NEAR, self.near, self.apart)
@@ -129,23 +132,25 @@ class Larder:
         self.write("= " + " ".join([str(field) for field in answer] + [ref.checksum(self.image)]))
         return answer
 
-    def insert(self, path, child, kind, label, content=b""):
-        """One insert; gives its number."""
+    def insert(self, path, child, kind, label, content=b"", origin=None):
+        """One insert, of any origin if none is given; gives its number."""
         if self.counts.inserts == self.limit:
             raise Done
+        if origin is None:
+            origin = self.origin()
         try:
-            answer = (0,) + ref.insert_node(self.store, path, child, kind, label, content)
+            answer = (0,) + ref.insert_node(self.store, path, child, kind, origin, label, content)
             ref.write_changes(self.store, self.image)
         except ref.Refused as refusal:
             answer = (refusal.number, 0, 0, 0, 0)
             if refusal.number == ref.FULL:
                 self.store = ref.read_store(self.image)
-        self.write("insert %s %d %d 0 %d %s" % (ref.to_hex(path), child, kind, label, ref.to_hex(content)))
+        self.write("insert %s %d %d %d %d %s" % (ref.to_hex(path), child, kind, origin, label, ref.to_hex(content)))
         self.write("= %d %d %d %d %d %s" % (answer + (ref.checksum(self.image),)))
-        self.count(answer, len(path) // 4 + 2)
+        self.count(answer, len(path) // 4 + 2, origin)
         return answer[0]
 
-    def count(self, answer, level):
+    def count(self, answer, level, origin):
         number, page, _, splits, lean = answer
         counts = self.counts
         counts.inserts += 1
@@ -158,6 +163,7 @@ class Larder:
         if record.settled and page != 1 and record.root.kind != ref.HELPER and not record.root.children:
             counts.apart += 1
             record = record.holder
+        counts.origins[origin] += 1
         counts.splits[min(splits, 3)] += 1
         counts.near += splits > 0 or used(self.image, record) > NEAR
         counts.longest = max(counts.longest, splits)
@@ -175,7 +181,7 @@ class Larder:
         free = free[:self.rng.randint(0, len(free))]
         root = ref.Record(1, True, None)
         self.store.records = {1: root}
-        root.root = ref.Node(ref.AGGREGATE, self.rng.choice(self.labels), children=self.some_list(2, self.some_size() - ref.HEADER, free))
+        root.root = self.some_node(ref.AGGREGATE, children=self.some_list(2, self.some_size() - ref.HEADER, free))
         self.store.changed = set(self.store.records)
         ref.write_changes(self.store, self.image)
         self.store = ref.read_store(self.image)       # it passes the check
@@ -184,6 +190,9 @@ class Larder:
             self.write("B %d %s" % (at, self.image[at:at + used(self.image, self.store.records[page])].hex()))
             self.write("B %d %s" % (at + ref.CAPACITY, self.image[at + ref.CAPACITY:at + ref.PAGE].hex()))
         self.write("C " + ref.checksum(self.image))
+
+    def some_node(self, kind, content=b"", children=None):
+        return ref.Node(kind, self.rng.choice(self.labels), content, children, origin=self.origin())
 
     def some_size(self):
         return self.rng.choice((ref.CAPACITY, ref.CAPACITY - self.rng.randrange(20), self.rng.randint(20, 300), self.rng.randint(20, ref.CAPACITY)))
@@ -196,13 +205,13 @@ class Larder:
                 nodes.append(ref.Node(ref.PROXY, record=self.some_record(level, free)))
             elif level < ref.LEVELS and 2 * ref.HEADER < tolerance < room and rng.random() < 0.2:      # as big as the tolerance, or nearly
                 content = bytes(tolerance - 2 * ref.HEADER - rng.choice((0, 0, 1)))
-                nodes.append(ref.Node(ref.AGGREGATE, rng.choice(self.labels), children=[ref.Node(ref.LITERAL, rng.choice(self.labels), content)]))
+                nodes.append(self.some_node(ref.AGGREGATE, children=[self.some_node(ref.LITERAL, content)]))
             elif rng.random() < 0.3:
                 inside = rng.choice((0, rng.randint(0, room), room)) - ref.HEADER
-                nodes.append(ref.Node(ref.AGGREGATE, rng.choice(self.labels), children=self.some_list(level + 1, inside, free)))
+                nodes.append(self.some_node(ref.AGGREGATE, children=self.some_list(level + 1, inside, free)))
             else:
                 content = self.content(max(8, self.longest))[:room - ref.HEADER]
-                nodes.append(ref.Node(ref.LITERAL, rng.choice(self.labels), content))
+                nodes.append(self.some_node(ref.LITERAL, content))
             room -= ref.size(nodes[-1])
         return nodes
 
@@ -220,7 +229,7 @@ class Larder:
             while len(children) < 2:
                 children.append(ref.Node(ref.LITERAL))
         record.settled = kind != ref.HELPER and rng.random() < 0.5
-        record.root = ref.Node(kind, 0 if kind == ref.HELPER else rng.choice(self.labels), content, children)
+        record.root = ref.Node(kind, children=children) if kind == ref.HELPER else self.some_node(kind, content, children)
         return record
 
     # ---- Choices
@@ -238,6 +247,9 @@ class Larder:
         longest = self.longest if longest is None else longest
         length = self.rng.choice((0, longest, self.rng.randint(0, longest), self.rng.randint(0, longest)))
         return self.rng.randbytes(length)
+
+    def origin(self):
+        return self.rng.randrange(ref.ORIGINS)
 
     def node(self, longest=None):
         """Kind, label and content of some node."""
@@ -419,11 +431,14 @@ class Larder:
         spot = self.spot(self.record()) or ([], 0)
         path, child = path_bytes(spot[0]), spot[1]
         kind, label, content = self.node()
-        for wrong in {rng.randint(4, 9), rng.choice((0, 0, 0, rng.randint(4, 9)))}:
+        origin = self.origin()
+        for wrong in {rng.choice(FAULTS), rng.choice((0, 0, ref.BAD_ORIGIN, rng.choice(FAULTS)))}:
             if wrong == ref.LEVEL:
                 path += bytes(rng.choice((92, 93, 96, 200)) - len(path))
             elif wrong == ref.BAD_KIND:
                 kind, content = rng.choice(((0, b""), (3, b""), (4, b""), (255, content), (ref.AGGREGATE, b"\1"), (ref.AGGREGATE, bytes(521))))
+            elif wrong == ref.BAD_ORIGIN:
+                origin = rng.choice(made.WRONG_ORIGINS)
             elif wrong == ref.LONG:
                 content = bytes(rng.choice((521, 522, 600)))
             elif wrong == ref.ABSENT:
@@ -435,7 +450,7 @@ class Larder:
                     path = path_bytes(path_to(record, rng.choice(literals)))
             elif wrong == ref.GAP:
                 child = 2**32 - 1 if rng.random() < 0.3 else self.row(path) + rng.randint(1, 3)
-        self.insert(path, child, kind, label, content)
+        self.insert(path, child, kind, label, content, origin)
 
     def damaged(self):
         """An insert into an image with one byte wrong; the byte is put right after it."""
@@ -443,10 +458,10 @@ class Larder:
             raise Done
         page = self.rng.randrange(self.pages) * ref.PAGE
         at = page + self.rng.choice((0, 1, 2, 4, 5, self.rng.randrange(ref.PAGE), 4080, 4081, 4082, 4084, 4090))
-        old, new = self.image[at], self.rng.randrange(256)
+        old, new, origin = self.image[at], self.rng.choice((self.rng.randrange(256), self.rng.randrange(6))), self.origin()
         self.image[at] = new
         self.write("B %d %02x" % (at, new))
-        answer = self.ask("insert - 0 2 0 %d 41" % self.labels[0])
+        answer = self.ask("insert - 0 2 %d %d 41" % (origin, self.labels[0]))
         if answer[0]:
             self.image[at] = old
             self.write("B %d %02x" % (at, old))
@@ -454,7 +469,7 @@ class Larder:
             self.counts.refused[answer[0]] = self.counts.refused.get(answer[0], 0) + 1
         else:
             self.store = ref.read_store(self.image)
-            self.count(answer, 2)
+            self.count(answer, 2, origin)
 
     def grow(self):
         """Grows the store in a few of the ways until it has had its share of inserts or has been full for a while."""
@@ -481,7 +496,7 @@ class Larder:
 
 def main(seed, count, out=sys.stdout):
     rng, counts, start = random.Random(seed), Counts(), time.time()
-    out.write("V 1 0 %d\n" % LONGEST)
+    out.write("V 1 %s %d\n" % (ref.RULES, LONGEST))
     while counts.inserts < count:
         larder = Larder(rng, counts, out, count)
         try:

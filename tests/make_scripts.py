@@ -2,8 +2,8 @@
 
     make_scripts.py SEED STORES DAMAGED > SCRIPT
 
-STORES images are grown; after each, calls that need no insert are asked, then DAMAGED variants of the image are checked (and, now and then,
-asked). The same seed gives the same script.
+STORES images are grown; after each, calls that need no insert are asked, then inserts with right and wrong origins; nodes of each kind get right and
+wrong origins, and DAMAGED variants of the image are made: all these are checked (and, now and then, asked). The same seed gives the same script.
 """
 
 import random
@@ -12,6 +12,8 @@ import sys
 import reference as ref
 
 SHAPES = [(2, 6), (3, 12), (5, 60), (8, 160), (13, 400), (40, 900)]
+ORIGIN_BYTES = (0, 1, 2, 3, 4, 255)
+WRONG_ORIGINS = (4, 255, 256, 65536, 2**32 - 1)       # above 3, also where the low byte or two are not
 
 
 def grow_store(rng):
@@ -34,7 +36,7 @@ def grow_store(rng):
         kind = rng.choice((1, 2))
         size = rng.choice((0, 1, 30, 200, 520)) if rng.random() < long else rng.randrange(40)
         content = bytes([rng.randrange(256)]) * size if kind == 2 else b""
-        ref.insert(image, path, child, kind, rng.choice((0, 3, 14, 15, 300, 65535)), content)
+        ref.insert(image, path, child, kind, rng.randrange(ref.ORIGINS), rng.choice((0, 3, 14, 15, 300, 65535)), content)
     return image
 
 
@@ -55,11 +57,12 @@ def put_image(image, out):
 
 
 def ask(call, image, out):
-    """A call and its answer."""
+    """A call and its answer, which it gives."""
     words = call.split(" ")
     answer = ref.RUNS[words[0]](image, words[1:])
     out.append(call)
     out.append("= " + " ".join([str(field) for field in answer] + [ref.checksum(image)]))
+    return answer
 
 
 def some_place(rng, entries):
@@ -94,16 +97,51 @@ def ask_all(rng, image, count, out):
     ask("records %d" % rng.choice((0, 1, 2, 7, 64)), image, out)
 
 
+def ask_inserts(rng, image, out):
+    """Each origin put in and read back; then a wrong one alone and beside every other fault."""
+    for origin in range(ref.ORIGINS):
+        _, page, offset, *_ = ask("insert - 0 %d %d 9 -" % (rng.choice((1, 2)), origin), image, out)
+        ask("read %d %d" % (page, offset), image, out)
+    ask("next 1 0", image, out)
+    literals = [e.path for e in ref.document_order(ref.read_store(image)) if e.node.kind == ref.LITERAL]
+    literal = ref.to_hex(b"".join(n.to_bytes(4, "little") for n in literals[-1])) if literals else "-"
+    for path, child, kind, content in (("-", 0, 2, "41"), ("00" * 92, 0, 2, "41"), ("-", 0, 3, "-"), ("-", 0, 1, "41"), ("-", 0, 2, "41" * 521),
+                                       ("ff" * 4, 0, 2, "41"), ("00" * 3, 0, 1, "-"), (literal, 0, 2, "41"), ("-", 2**32 - 1, 2, "41")):
+        ask("insert %s %d %d %d 9 %s" % (path, child, kind, rng.choice(WRONG_ORIGINS), content), image, out)
+
+
+def origin_places(rng, image):
+    """Where the origin stands of some node of each kind that there is."""
+    starts = [at for page in range(1, len(image) // ref.PAGE) for at in ref.headers(image, page)]
+    return [rng.choice([at for at in starts if image[at] == kind]) + 1 for kind in sorted({image[at] for at in starts})]
+
+
+def put_byte(at, value, image, out):
+    image[at] = value
+    out.append("B %d %02x" % (at, value))
+
+
+def check_origins(rng, image, out):
+    for at in origin_places(rng, image):
+        for origin in ORIGIN_BYTES:
+            out.append("R")
+            hurt = bytearray(image)
+            put_byte(at, origin, hurt, out)
+            ask("check", hurt, out)
+
+
 def damage(rng, image, out):
-    """Puts a few bytes wrong, mostly where the check has something to say."""
+    """Puts a few bytes wrong, mostly where the check has something to say; of the origins some are right."""
     for _ in range(rng.choice((1, 1, 1, 2, 3))):
         page = ref.PAGE * rng.randrange(len(image) // ref.PAGE)
         used = min(4080, image[page + 4082] + 256 * image[page + 4083])
         at = page + rng.choice((rng.randrange(4096), 4080 + rng.randrange(16), 4080 + rng.randrange(6), rng.randrange(8), rng.randrange(max(1, used)),
                                 rng.randrange(272), max(0, used - 1), min(used, 4079)))
         value = rng.choice((0, 1, 2, 3, 4, 6, 8, 255, rng.randrange(256), image[at] ^ (1 << rng.randrange(8)), (image[at] + 1) % 256, (image[at] - 1) % 256))
-        image[at] = value
-        out.append("B %d %02x" % (at, value))
+        origins = origin_places(rng, image) if rng.random() < 0.1 else []
+        if origins:
+            at, value = rng.choice(origins), rng.choice(ORIGIN_BYTES)
+        put_byte(at, value, image, out)
 
 
 def formats(rng, out):
@@ -132,6 +170,8 @@ def main(seed, stores, damaged):
         put_image(image, out)
         out.append("S")
         ask_all(rng, image, 6, out)
+        ask_inserts(rng, bytearray(image), out)
+        check_origins(rng, image, out)
         for number in range(damaged):
             out.append("R")
             hurt = bytearray(image)
@@ -142,7 +182,7 @@ def main(seed, stores, damaged):
                 ask("check", hurt, out)
         out.append("R")
     longest = max(len(line) + 1 for line in out)
-    print("V 1 0 %d" % max(longest, 100))
+    print("V 1 %s %d" % (ref.RULES, max(longest, 100)))
     print("\n".join(out))
 
 

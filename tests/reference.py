@@ -1,4 +1,4 @@
-"""A second implementation of the base rules, for the tests: small, made from the rules' text alone.
+"""A second implementation of the rules, for the tests: small, made from their text alone (the base with change E1).
 
 As a module it offers the calls over an image held in a bytearray: format_image, check, insert, find, climb, read,
 next_node, records and listing. Each answer is a tuple that begins with the number. To make many inserts in one image,
@@ -19,6 +19,7 @@ LEVELS = 24
 CONTENT = 520
 SETTINGS_LENGTH = 272
 CLASSES = 16
+ORIGINS = 4                                           # seen on the wire, read from a store, typed in, derived
 
 AGGREGATE, LITERAL, PROXY, HELPER = 1, 2, 3, 4
 FREE, RECORD, SETTINGS = 0, 1, 2                      # the first byte of a trailer
@@ -33,7 +34,7 @@ MAY_STAND = {
     HELPER: (AGGREGATE, LITERAL, PROXY),
 }
 
-MISFIT, BAD_SETTINGS, BROKEN, LEVEL, BAD_KIND, LONG, ABSENT, CLOSED, GAP, STRAY, SHORT, FULL = range(1, 13)
+MISFIT, BAD_SETTINGS, BROKEN, LEVEL, BAD_KIND, LONG, ABSENT, CLOSED, GAP, STRAY, SHORT, FULL, BAD_ORIGIN = range(1, 14)
 
 sys.setrecursionlimit(20000)
 
@@ -46,11 +47,16 @@ class Refused(Exception):
         self.number = number
 
 
-class Node:
-    """A node in a record. A proxy carries the record that it stands for."""
+class BadScript(Exception):
+    """A script that cannot be replayed."""
 
-    def __init__(self, kind, label=0, content=b"", children=None, record=None):
+
+class Node:
+    """A node in a record. A proxy carries the record that it stands for; proxies and helpers have origin 0."""
+
+    def __init__(self, kind, label=0, content=b"", children=None, record=None, origin=0):
         self.kind = kind
+        self.origin = origin
         self.label = label
         self.content = bytes(content)
         self.children = [] if children is None else children
@@ -140,6 +146,15 @@ def page_of(image, page):
     return bytes(image[page * PAGE:(page + 1) * PAGE])
 
 
+def headers(image, page):
+    """Where the nodes of a page's record start, by their sizes: for tests that change bytes there."""
+    at = page * PAGE
+    end = at + min(two(image, at + CAPACITY + 2), CAPACITY)
+    while at + HEADER <= end:
+        yield at
+        at += HEADER if image[at] in (AGGREGATE, HELPER) else max(HEADER, two(image, at + 4))
+
+
 def trailer(page):
     """Kind, settled byte, length used and back link; what must be zero is."""
     kind, settled, used, back = page[CAPACITY], page[CAPACITY + 1], two(page, CAPACITY + 2), two(page, CAPACITY + 4)
@@ -182,13 +197,13 @@ def read_list(image, part, record, holder, level, records):
 
 
 def read_node(image, part, record, holder, level, records):
-    kind, zero, label, inside = part[0], part[1], two(part, 2), part[HEADER:]
-    require(kind in MAY_STAND[holder] and zero == 0, BROKEN)
-    require(label == 0 or kind in (AGGREGATE, LITERAL), BROKEN)
+    kind, origin, label, inside = part[0], part[1], two(part, 2), part[HEADER:]
+    require(kind in MAY_STAND[holder], BROKEN)
+    require(origin < ORIGINS if kind in (AGGREGATE, LITERAL) else (origin == 0 and label == 0), BROKEN)
     require(level <= LEVELS or kind in (PROXY, HELPER), BROKEN)
     if kind == LITERAL:
         require(len(inside) <= CONTENT, BROKEN)
-        return Node(LITERAL, label, content=inside)
+        return Node(LITERAL, label, content=inside, origin=origin)
     if kind == PROXY:
         require(len(inside) == 2, BROKEN)
         number = two(inside, 0)
@@ -196,7 +211,7 @@ def read_node(image, part, record, holder, level, records):
         return Node(PROXY, record=read_record(image, number, record, level, records))
     children = read_list(image, inside, record, kind, level + (kind == AGGREGATE), records)
     require(kind == AGGREGATE or len(children) >= 2, BROKEN)
-    return Node(kind, label, children=children)
+    return Node(kind, label, children=children, origin=origin)
 
 
 def read_store(image):
@@ -219,7 +234,7 @@ def node_bytes(node):
         inside = two_bytes(node.record.page)
     else:
         inside = node.content + b"".join(node_bytes(child) for child in node.children)
-    return bytes([node.kind, 0]) + two_bytes(node.label) + two_bytes(HEADER + len(inside)) + inside
+    return bytes([node.kind, node.origin]) + two_bytes(node.label) + two_bytes(HEADER + len(inside)) + inside
 
 
 def page_bytes(kind, settled, used, back):
@@ -452,15 +467,16 @@ def grow(store, parent, record, child, node):
     return len(leans), leans[0] if leans else 0
 
 
-def insert_node(store, path, child, kind, label, content):
+def insert_node(store, path, child, kind, origin, label, content):
     """The insert on a store; gives (page, offset, splits, lean). A refusal with 12 leaves the store half changed."""
     require(len(path) <= 4 * (LEVELS - 2), LEVEL)
     require(kind == LITERAL or (kind == AGGREGATE and not content), BAD_KIND)
+    require(origin < ORIGINS, BAD_ORIGIN)
     require(len(content) <= CONTENT, LONG)
     parent, record = node_of_path(store, path)
     require(parent.kind == AGGREGATE, CLOSED)
     require(child <= nodes_shown(parent.children), GAP)
-    node = Node(kind, label, content)
+    node = Node(kind, label, content, origin=origin)
     splits, lean = grow(store, parent, record, child, node)
     for page in store.changed & store.records.keys():
         start = start_of(node, [store.records[page].root], 0)
@@ -525,10 +541,10 @@ def check(image):
 
 
 @answered
-def insert(image, path, child, kind, label, content):
+def insert(image, path, child, kind, origin, label, content):
     """Gives (number, page, offset, splits, lean)."""
     store = read_store(image)
-    answer = insert_node(store, path, child, kind, label, content)
+    answer = insert_node(store, path, child, kind, origin, label, content)
     write_changes(store, image)
     return (0,) + answer
 
@@ -554,21 +570,22 @@ def climb(image, page, offset, buffer):
 
 @answered
 def read(image, page, offset):
-    """Gives (number, kind, label, children, content, its start in the image)."""
+    """Gives (number, kind, label, origin, children, content, its start in the image)."""
     entries = document_order(read_store(image))
     entry = entries[number_of_place(entries, page, offset)]
-    start = page * PAGE + offset + HEADER if entry.node.content else 0
-    return (0, entry.node.kind, entry.node.label, entry.children, entry.node.content, start)
+    node = entry.node
+    start = page * PAGE + offset + HEADER if node.content else 0
+    return (0, node.kind, node.label, node.origin, entry.children, node.content, start)
 
 
 @answered
 def next_node(image, page, offset):
-    """Gives (number, 1 or 0 for the end, page, offset, kind)."""
+    """Gives (number, 1 or 0 for the end, page, offset, kind, origin)."""
     entries = document_order(read_store(image))
     following = entries[number_of_place(entries, page, offset) + 1:]
     if not following:
-        return (0, 0, 0, 0, 0)
-    return (0, 1) + following[0].place() + (following[0].node.kind,)
+        return (0, 0, 0, 0, 0, 0)
+    return (0, 1) + following[0].place() + (following[0].node.kind, following[0].node.origin)
 
 
 @answered
@@ -591,12 +608,15 @@ def listing(image):
     pages, count = store.settings.pages, len(store.records)
     lines = ["pages %d free %d records %d" % (pages, pages - 1 - count, count)]
     for entry in document_order(store):
-        kind = "A" if entry.node.kind == AGGREGATE else "L"
-        lines.append("%d %s %d %s" % (len(entry.path) + 1, kind, entry.node.label, entry.node.content.hex() or "-"))
+        node, level = entry.node, len(entry.path) + 1
+        lines.append("%d %s %d %s %d" % (level, "A" if node.kind == AGGREGATE else "L", node.label, to_hex(node.content), node.origin))
     return "\n".join(lines) + "\n"
 
 
 # ---- Replay of call scripts
+
+RULES = "1"                                           # the rule set: the base with E1
+
 
 def from_hex(text):
     return b"" if text == "-" else bytes.fromhex(text)
@@ -625,7 +645,7 @@ def run_check(image, a):
 
 
 def run_insert(image, a):
-    return filled(insert(image, from_hex(a[0]), int(a[1]), int(a[2]), int(a[4]), from_hex(a[5])), 5)
+    return filled(insert(image, from_hex(a[0]), int(a[1]), int(a[2]), int(a[3]), int(a[4]), from_hex(a[5])), 5)
 
 
 def run_find(image, a):
@@ -637,12 +657,12 @@ def run_climb(image, a):
 
 
 def run_read(image, a):
-    number, kind, label, children, content, start = filled(read(image, int(a[0]), int(a[1])), 6)
-    return (number, kind, label, 0, children, to_hex(content or b""), start)
+    *numbers, content, start = filled(read(image, int(a[0]), int(a[1])), 7)
+    return (*numbers, to_hex(content or b""), start)
 
 
 def run_next(image, a):
-    return filled(next_node(image, int(a[0]), int(a[1])), 5) + (0,)
+    return filled(next_node(image, int(a[0]), int(a[1])), 6)
 
 
 def run_records(image, a):
@@ -668,9 +688,9 @@ def replay(lines):
     for number, line in enumerate(lines, 1):
         line = line.rstrip("\n")
         word, *rest = line.split(" ")
-        if word == "V":
-            if rest[:2] != ["1", "0"]:
-                raise ValueError("not a script of version 1 for the base rules")
+        if number == 1:
+            if [word] + rest[:2] != ["V", "1", RULES]:
+                raise BadScript("not a script of version 1 and rule set " + RULES)
         elif word == "I":
             image = bytearray(int(rest[0]))
         elif word == "B":
@@ -688,7 +708,7 @@ def replay(lines):
         elif word in RUNS:
             call = [word] + rest
         elif word != "#" and line:
-            raise ValueError("line %d: %s" % (number, word))
+            raise BadScript("line %d: %s" % (number, word))
 
 
 def replay_file(name):
@@ -709,7 +729,14 @@ def main(names):
     if not names:
         print("usage: reference.py SCRIPT..", file=sys.stderr)
         return 2
-    return 1 if sum([replay_file(name) for name in names]) else 0
+    differences = 0
+    for name in names:
+        try:
+            differences += replay_file(name)
+        except BadScript as bad:
+            print("%s: %s" % (name, bad), file=sys.stderr)
+            return 2
+    return 1 if differences else 0
 
 
 if __name__ == "__main__":

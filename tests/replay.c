@@ -6,6 +6,8 @@
 
 #include "../include/nichelarder.h"
 
+#define RULES 1u /* the rule set: the base with E1 */
+
 static uint8_t *image, *kept;
 static size_t image_len, kept_len;
 static uint32_t crc_table[8][256];
@@ -80,7 +82,7 @@ static int call(char **w, int words, char *out) {
         uint32_t answer[3] = {77, 77, 77};
         int32_t lean = 77;
         uint8_t *p = bytes(w[1], &a), *c = bytes(w[6], &b);
-        uint32_t r = nl_insert(image, image_len, p, a, number(w[2]), number(w[3]), (uint16_t)number(w[5]), c, b, answer, &lean);
+        uint32_t r = nl_insert(image, image_len, p, a, number(w[2]), number(w[3]), number(w[4]), (uint16_t)number(w[5]), c, b, answer, &lean);
         sprintf(out, "%u %u %u %u %d", r, answer[0], answer[1], answer[2], (int)lean);
         free(p);
         free(c);
@@ -106,16 +108,16 @@ static int call(char **w, int words, char *out) {
         hex(out, p, n);
         free(p);
     } else if (!strcmp(w[0], "read")) {
-        uint32_t v[5] = {77, 77, 77, 77, 77};
+        uint32_t v[6] = {77, 77, 77, 77, 77, 77};
         uint32_t r = nl_read(image, image_len, number(w[1]), number(w[2]), v);
-        out += sprintf(out, "%u %u %u 0 %u ", r, v[0], v[1], v[2]);
+        out += sprintf(out, "%u %u %u %u %u ", r, v[0], v[1], v[5], v[2]);
         b = (size_t)v[3] + v[4] <= image_len ? v[4] : 0;
         out = hex(out, image + (b ? v[3] : 0), b);
         sprintf(out, " %u", v[3]);
     } else if (!strcmp(w[0], "next")) {
-        uint32_t v[4] = {77, 77, 77, 77};
+        uint32_t v[5] = {77, 77, 77, 77, 77};
         uint32_t r = nl_next(image, image_len, number(w[1]), number(w[2]), v);
-        sprintf(out, "%u %u %u %u %u 0", r, v[0], v[1], v[2], v[3]);
+        sprintf(out, "%u %u %u %u %u %u", r, v[0], v[1], v[2], v[3], v[4]);
     } else
         return 0;
     return 1;
@@ -169,9 +171,14 @@ static void line(char *s, char *out, char *want, int *waiting) {
 static int replay(const char *name) {
     FILE *f = fopen(name, "r");
     unsigned long longest = 0;
+    unsigned rules = 0;
     char first[64];
-    if (!f || !fgets(first, sizeof first, f) || sscanf(first, "V 1 %*u %lu", &longest) != 1) {
+    if (!f || !fgets(first, sizeof first, f) || sscanf(first, "V 1 %u %lu", &rules, &longest) != 2) {
         fprintf(stderr, "replay: %s is no script\n", name);
+        return 2;
+    }
+    if (rules != RULES) {
+        fprintf(stderr, "replay: %s is of rule set %u, not %u\n", name, rules, RULES);
         return 2;
     }
     longest += 400000;

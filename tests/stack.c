@@ -27,7 +27,7 @@ static void *check(void *unused) {
 
 static void *insert(void *unused) {
     (void)unused;
-    number = nl_insert(image, image_len, content, above, child, NL_LITERAL, 9, content, 520, answer, &lean);
+    number = nl_insert(image, image_len, content, above, child, NL_LITERAL, NL_WIRE, 9, content, 520, answer, &lean);
     return NULL;
 }
 
@@ -53,7 +53,7 @@ static size_t used(void *(*run)(void *)) {
 /* Check and insert, as the first and as the last child of the parent; the image stays. The most that an insert took beside the check so far. */
 static size_t worst, base;
 static void measure(const char *name) {
-    uint32_t place[2], parent[5];
+    uint32_t place[2], parent[6];
     size_t c = used(check), i;
     int last;
     nl_find(image, image_len, content, above, place);
@@ -106,7 +106,7 @@ int main(void) {
     measure("small");
     /* aggregates in front of each other: separators pile up in the root's record until splits cascade */
     for (k = 0; k < 40; k++) {
-        if (nl_insert(image, image_len, content, 0, 0, k % 3 ? NL_LITERAL : NL_AGGREGATE, 9, content, k % 3 ? 520 : 0, answer, &lean))
+        if (nl_insert(image, image_len, content, 0, 0, k % 3 ? NL_LITERAL : NL_AGGREGATE, k % 4, 9, content, k % 3 ? 520 : 0, answer, &lean))
             break;
         measure(NULL);
     }
@@ -115,10 +115,10 @@ int main(void) {
     if (format(64, 0))
         return 2;
     for (above = 0; above < 88; above += 4)
-        if (nl_insert(image, image_len, content, above, 0, NL_AGGREGATE, 9, content, 0, answer, &lean))
+        if (nl_insert(image, image_len, content, above, 0, NL_AGGREGATE, NL_WIRE, 9, content, 0, answer, &lean))
             return 2;
     for (k = 0; k < 7; k++)
-        if (nl_insert(image, image_len, content, above, 0, NL_LITERAL, 9, content, 520, answer, &lean))
+        if (nl_insert(image, image_len, content, above, 0, NL_LITERAL, NL_WIRE, 9, content, 520, answer, &lean))
             return 2;
     measure("nested");
     above = 0;

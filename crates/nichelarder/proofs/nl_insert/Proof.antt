@@ -24,13 +24,13 @@ answer-small a =
     insert-small (s .args .image .now) (s .args .parent .now) (s .args .child) (s .args .kind) (s .args .origin) (s .args .label) (s .args .content .now)
     (omega (arith, s .fits)) (is-byte (s .args .content .now) (λ i. omega (arith, a .before .before .shared-slice-known2 .given i)))
 
-cast-t14 : tie.Need-cast-t14
-cast-t14 c =
+cast-t16 : tie.Need-cast-t16
+cast-t16 c =
     let a = c .before .before .before in
     record { fits = omega (arith, ap (λ (r : InsertAnswer). r .place .page) (a .insert .ensures .0), answer-small a .place .page) }
 
-cast-t15 : tie.Need-cast-t15
-cast-t15 c =
+cast-t17 : tie.Need-cast-t17
+cast-t17 c =
     let a = c .before .before .before .before in
     record { fits = omega (arith, ap (λ (r : InsertAnswer). r .place .offset) (a .insert .ensures .0), answer-small a .place .offset) }
 
@@ -50,4 +50,4 @@ returns c =
     )
 
 pub nl-insert-spec : {M : Type 1} → statement M
-nl-insert-spec = tie.close (tie.spec insert-requires cast-t14 cast-t15 same-length returns)
+nl-insert-spec = tie.close (tie.spec insert-requires cast-t16 cast-t17 same-length returns)
