@@ -39,7 +39,7 @@ static int row(const char *name, const char *where, const uint8_t *image, uint8_
         check[i] = b - a;
         memcpy(copy, image, LEN);
         a = now();
-        uint32_t inserted = nl_insert(copy, LEN, content, 0, child, NL_LITERAL, NL_TYPED, 9, content, size, answer, &lean);
+        uint32_t inserted = nl_insert(copy, LEN, content, 0, child, NL_LITERAL, NL_TYPED_IN, 9, content, size, answer, &lean);
         b = now();
         insert[i] = b - a;
         ratio[i] = insert[i] / check[i];

@@ -94,9 +94,9 @@ static void growth(unsigned pages, uint8_t *image, uint8_t *copy) {
     if (after != 4096u * (size_t)next[1] + next[2] || next[3] != image[after] || next[4] != image[after + 1]) fail("next differs");
     row("next", pages, s, p, l);
     int splits = 0;
-    LEAST(p, 30, memcpy(copy, image, len), splits = plain_insert(copy, len, path, 0, children / 2, 2, NL_TYPED, 9, content, 100, &after));
+    LEAST(p, 30, memcpy(copy, image, len), splits = plain_insert(copy, len, path, 0, children / 2, 2, NL_TYPED_IN, 9, content, 100, &after));
     uint64_t want = sum(copy, len);
-    LEAST(l, 30, memcpy(copy, image, len), sink += nl_insert(copy, len, path, 0, children / 2, NL_LITERAL, NL_TYPED, 9, content, 100, answer, &lean));
+    LEAST(l, 30, memcpy(copy, image, len), sink += nl_insert(copy, len, path, 0, children / 2, NL_LITERAL, NL_TYPED_IN, 9, content, 100, answer, &lean));
     if (splits != (int)answer[2] || after != 4096u * (size_t)answer[0] + answer[1] || want != sum(copy, len)) fail("insert differs");
     row("insert", pages, s, p, l);
 }

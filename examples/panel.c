@@ -27,7 +27,7 @@ static int fill(void) {
     const uint8_t root[1] = {0}, content[2] = {0x41, 0x42};
     uint32_t answer[3];
     int32_t lean;
-    if (refused("insert", nl_insert(image, sizeof image, root, 0, 0, NL_LITERAL, NL_TYPED, 9, content, 2, answer, &lean)))
+    if (refused("insert", nl_insert(image, sizeof image, root, 0, 0, NL_LITERAL, NL_TYPED_IN, 9, content, 2, answer, &lean)))
         return 1;
     if (refused("insert", nl_insert(image, sizeof image, root, 0, 0, NL_AGGREGATE, NL_DERIVED, 300, content, 0, answer, &lean)))
         return 1;

@@ -45,7 +45,7 @@ extern "C" {
 /* Origins. A formatted root has 0, and so has every node of an image from before there were origins. */
 #define NL_WIRE 0u    /* seen on the wire */
 #define NL_STORED 1u  /* read from a store */
-#define NL_TYPED 2u   /* typed in */
+#define NL_TYPED_IN 2u   /* typed in */
 #define NL_DERIVED 3u /* derived */
 
 /* The names of the origins 0 to 3 for messages: static const char *const origins[] = NL_ORIGIN_NAMES; */
