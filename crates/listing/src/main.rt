@@ -3,10 +3,10 @@ ghost use mathlib.Core.Path.{_≡_};
 ghost use lib.ListN.{length};
 
 // Room for the longest listing. The `ensures` gives only the length, which lending the array needs.
-fn room() -> [u8; 135168]
-    ensures { λ r. ⌜ 135168 ≡ length r ⌝ }
+fn room() -> [u8; 155648]
+    ensures { λ r. ⌜ 155648 ≡ length r ⌝ }
 {
-    [0u8; 135168]
+    [0u8; 155648]
 }
 
 // Reads on, and answers whether more may follow.

@@ -98,20 +98,31 @@ unfolding contentOf
 content-length [] = omega arith
 content-length (b ∷ c) = omega (arith, length-hex (b ∷ c))
 
-pub line-length : (level letter label : ℕ) (c : List ℕ) → level < 100 → label < 65536 → length (lineOf level letter label c) ≤ 13 + 2 * length c
+pub line-length : (level letter label : ℕ) (c : List ℕ) (origin : ℕ) → level < 100 → label < 65536 → origin < 10
+    → length (lineOf level letter label c origin) ≤ 15 + 2 * length c
 unfolding lineOf
-line-length level letter label c a b =
-    simp length-append (omega (arith, two-digits level a, five-digits label b, content-length c))
+line-length level letter label c origin a b o =
+    simp length-append (omega (arith, two-digits level a, five-digits label b, content-length c, one-digit origin o))
 
 -- ── lengths of the pieces of a line ──
 
 pub decimal-long : (n : ℕ) → 10 ≤ n → length (decimalOf n) ≡ length (decimalOf (n / 10)) + 1
 decimal-long n h = ap length (decimal-more n h) ∙ length-append (decimalOf (n / 10)) (digit (n % 10) ∷ [])
 
-pub line-long : (level letter label : ℕ) (c : List ℕ)
-    → length (lineOf level letter label c) ≡ length (decimalOf level) + length (decimalOf label) + length (contentOf c) + 5
-unfolding lineOf
-line-long level letter label c = simp length-append (omega arith)
+-- A line but for its last field, the origin, and what ends it.
+unfoldable pub fieldsOf : (level letter label : ℕ) → (content : List ℕ) → List ℕ
+fieldsOf level letter label c =
+    decimalOf level ++ (32 ∷ []) ++ (letter ∷ []) ++ (32 ∷ []) ++ decimalOf label ++ (32 ∷ []) ++ contentOf c
+
+pub fields-long : (level letter label : ℕ) (c : List ℕ)
+    → length (fieldsOf level letter label c) ≡ length (decimalOf level) + length (decimalOf label) + length (contentOf c) + 4
+unfolding fieldsOf
+fields-long level letter label c = simp length-append (omega arith)
+
+pub line-long : (level letter label : ℕ) (c : List ℕ) (origin : ℕ)
+    → length (lineOf level letter label c origin) ≡ length (fieldsOf level letter label c) + length (decimalOf origin) + 2
+unfolding lineOf fieldsOf
+line-long level letter label c origin = simp length-append (omega arith)
 
 pub head-long : (p f r : ℕ) → length (headLine p f r) ≡ length (decimalOf p) + length (decimalOf f) + length (decimalOf r) + 22
 unfolding headLine

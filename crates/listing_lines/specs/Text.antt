@@ -30,10 +30,11 @@ unfoldable pub contentOf : List ℕ → List ℕ
 contentOf [] = 45 ∷ []
 contentOf (b ∷ bs) = hexOf (b ∷ bs)
 
--- The line of a node: level, A or L, label, content; a space between them.
-unfoldable pub lineOf : (level letter label : ℕ) → (content : List ℕ) → List ℕ
-lineOf level letter label content =
-    decimalOf level ++ (32 ∷ []) ++ (letter ∷ []) ++ (32 ∷ []) ++ decimalOf label ++ (32 ∷ []) ++ contentOf content ++ (10 ∷ [])
+-- The line of a node: level, A or L, label, content, origin; a space between them.
+unfoldable pub lineOf : (level letter label : ℕ) → (content : List ℕ) → (origin : ℕ) → List ℕ
+lineOf level letter label content origin =
+    decimalOf level ++ (32 ∷ []) ++ (letter ∷ []) ++ (32 ∷ []) ++ decimalOf label ++ (32 ∷ []) ++ contentOf content
+    ++ (32 ∷ []) ++ decimalOf origin ++ (10 ∷ [])
 
 -- The letters A and L.
 abbrev pub letterOf : (kind : ℕ) → ℕ
@@ -42,7 +43,7 @@ letterOf kind = cond (eqb kind 1) 65 76
 -- The lines of nodes in the order given; a node with an empty path has the level `top`.
 unfoldable pub linesOf : (top : ℕ) → List Node → List ℕ
 linesOf top [] = []
-linesOf top (n ∷ ns) = lineOf (top + length (n .path)) (letterOf (n .kind)) (n .head .label) (n .content) ++ linesOf top ns
+linesOf top (n ∷ ns) = lineOf (top + length (n .path)) (letterOf (n .kind)) (n .head .label) (n .content) (n .head .origin) ++ linesOf top ns
 
 -- `pages P free F records R`.
 unfoldable pub headLine : (pages free records : ℕ) → List ℕ

@@ -5,6 +5,7 @@ ghost use mathlib.Core.Path.{_≡_};
 ghost use mathlib.Core.List.{[], _∷_};
 ghost use Prim.Native.Nat.{_<_};
 ghost use Rattle.listing_lines.specs.Text.{digit, decimalOf, hexOf, contentOf, lineOf, headLine, refusedLine};
+ghost use Rattle.listing_lines.specs.Digits.{fieldsOf};
 ghost use Rattle.listing_lines.specs.Wrote.{Room, Wrote};
 
 // ── numbers, bytes, words ──
@@ -76,8 +77,8 @@ fn content(bytes: &[u8], out: &mut [u8], at: usize) -> usize
 
 // ── lines ──
 
-// One line of a node.
-pub fn line(
+// The fields of a node's line but the last.
+fn fields(
     level: usize,
     letter: u8,
     label: usize,
@@ -85,8 +86,8 @@ pub fn line(
     out: &mut [u8],
     at: usize,
 ) -> usize
-    requires { ⌜ Room (lineOf level letter label (now bytes)) at (now out) ⌝ }
-    ensures { λ r. ⌜ Wrote (lineOf level letter label (now (bytes .entry))) at (now (out .entry)) (now (out .exit)) r ⌝ }
+    requires { ⌜ Room (fieldsOf level letter label (now bytes)) at (now out) ⌝ }
+    ensures { λ r. ⌜ Wrote (fieldsOf level letter label (now (bytes .entry))) at (now (out .entry)) (now (out .exit)) r ⌝ }
 {
     let a = decimal(level, out, at);
     let b = put(b' ', out, a);
@@ -94,8 +95,26 @@ pub fn line(
     let d = put(b' ', out, c);
     let e = decimal(label, out, d);
     let f = put(b' ', out, e);
-    let g = content(bytes, out, f);
-    put(b'\n', out, g)
+    content(bytes, out, f)
+}
+
+// One line of a node.
+pub fn line(
+    level: usize,
+    letter: u8,
+    label: usize,
+    bytes: &[u8],
+    origin: usize,
+    out: &mut [u8],
+    at: usize,
+) -> usize
+    requires { ⌜ Room (lineOf level letter label (now bytes) origin) at (now out) ⌝ }
+    ensures { λ r. ⌜ Wrote (lineOf level letter label (now (bytes .entry)) origin) at (now (out .entry)) (now (out .exit)) r ⌝ }
+{
+    let a = fields(level, letter, label, bytes, out, at);
+    let b = put(b' ', out, a);
+    let c = decimal(origin, out, b);
+    put(b'\n', out, c)
 }
 
 // The head line.

@@ -1,4 +1,4 @@
--- How long a listing can be: 13 bytes for each 6 of its records.
+-- How long a listing can be: 15 bytes for each 6 of its records.
 use mathlib.Core.List.{[], _++_}
 use Prim.Native.Nat.{ℕ, _+_, _*_, _≤_, _<_}
 use native.Mathlib.Omega.{arith}
@@ -10,24 +10,28 @@ use Rattle.listing_lines.specs.Text.{lineOf, headLine}
 use Rattle.listing_lines.specs.Digits.{two-digits, line-length, head-long}
 use Rattle.listing_text.specs.Lined.{rowText, span}
 
-pub row-bound : (l : ℕ) (r : Row) → Fits r → l + height r ≤ 100 → 6 * length (rowText l r) ≤ 13 * size r + 53040 * recordCount r
+-- Room for the longest one: a head line and 15 records.
+abbrev pub listingRoom : ℕ
+listingRoom = 155648
+
+pub row-bound : (l : ℕ) (r : Row) → Fits r → l + height r ≤ 100 → 6 * length (rowText l r) ≤ 15 * size r + 61200 * recordCount r
 unfolding rowText
 row-bound l nil f h = omega arith
 row-bound l (agg k cs rest) f h =
-    let own = lineOf l 65 (k .label) [] in
+    let own = lineOf l 65 (k .label) [] (k .origin) in
     omega (
       arith,
       length-append (own ++ rowText (l + 1) cs) (rowText l rest),
       length-append own (rowText (l + 1) cs),
-      line-length l 65 (k .label) [] (omega arith) (f .0 .label),
+      line-length l 65 (k .label) [] (k .origin) (omega arith) (f .0 .label) (omega (arith, f .0 .origin)),
       row-bound (l + 1) cs (f .1) (omega arith),
       row-bound l rest (f .2) (omega arith),
     )
 row-bound l (lit k c rest) f h =
     omega (
       arith,
-      length-append (lineOf l 76 (k .label) c) (rowText l rest),
-      line-length l 76 (k .label) c (omega arith) (f .0 .label),
+      length-append (lineOf l 76 (k .label) c (k .origin)) (rowText l rest),
+      line-length l 76 (k .label) c (k .origin) (omega arith) (f .0 .label) (omega (arith, f .0 .origin)),
       row-bound l rest
           (f .3) (omega arith),
     )

@@ -23,15 +23,15 @@ use Rattle.listing_text.specs.declared.Extent.{Extent}
 -- The lines of what a row shows; its nodes have this level.
 unfoldable pub rowText : (level : ℕ) → Row → List ℕ
 rowText l nil = []
-rowText l (agg h cs rest) = lineOf l 65 (h .label) [] ++ rowText (l + 1) cs ++ rowText l rest
-rowText l (lit h c rest) = lineOf l 76 (h .label) c ++ rowText l rest
+rowText l (agg h cs rest) = lineOf l 65 (h .label) [] (h .origin) ++ rowText (l + 1) cs ++ rowText l rest
+rowText l (lit h c rest) = lineOf l 76 (h .label) c (h .origin) ++ rowText l rest
 rowText l (rec p s r rest) = rowText l r ++ rowText l rest
 
 lines-append : (l : ℕ) (a b : List Node) → linesOf l (a ++ b) ≡ linesOf l a ++ linesOf l b
 unfolding linesOf
 lines-append l [] b = refl
 lines-append l (n ∷ a) b =
-    rw (lines-append l a b) (sym (append-assoc (lineOf (l + length (n .path)) (letterOf (n .kind)) (n .head .label) (n .content)) (linesOf l a)
+    rw (lines-append l a b) (sym (append-assoc (lineOf (l + length (n .path)) (letterOf (n .kind)) (n .head .label) (n .content) (n .head .origin)) (linesOf l a)
     (linesOf l b)))
 
 -- A node's level does not depend on its number in its row, and is one more from the row above.
@@ -49,14 +49,14 @@ lines-below l (n ∷ a) =
 
 -- The lines of a branch: its own, those of its children, those of the nodes after it.
 lines-branch : (l : ℕ) (h : Head) (cs rest : Tree)
-    → linesOf l (nodes (branch h cs rest)) ≡ lineOf l 65 (h .label) [] ++ linesOf (l + 1) (nodes cs) ++ linesOf l (nodes rest)
+    → linesOf l (nodes (branch h cs rest)) ≡ lineOf l 65 (h .label) [] (h .origin) ++ linesOf (l + 1) (nodes cs) ++ linesOf l (nodes rest)
 unfolding linesOf
 lines-branch l h cs rest =
     let e : l + 0 ≡ l = omega arith in
     rw (e, lines-append l (map below (nodes cs)) (map (further 1) (nodes rest)), lines-below l (nodes cs), lines-further l 1 (nodes rest))
-    (sym (append-assoc (lineOf l 65 (h .label) []) (linesOf (l + 1) (nodes cs)) (linesOf l (nodes rest))))
+    (sym (append-assoc (lineOf l 65 (h .label) [] (h .origin)) (linesOf (l + 1) (nodes cs)) (linesOf l (nodes rest))))
 
-lines-leaf : (l : ℕ) (h : Head) (c : List ℕ) (rest : Tree) → linesOf l (nodes (leaf h c rest)) ≡ lineOf l 76 (h .label) c ++ linesOf l (nodes rest)
+lines-leaf : (l : ℕ) (h : Head) (c : List ℕ) (rest : Tree) → linesOf l (nodes (leaf h c rest)) ≡ lineOf l 76 (h .label) c (h .origin) ++ linesOf l (nodes rest)
 unfolding linesOf
 lines-leaf l h c rest =
     let e : l + 0 ≡ l = omega arith in
@@ -66,10 +66,10 @@ lines-join : (l : ℕ) (a b : Tree) → linesOf l (nodes (a ⊞ b)) ≡ linesOf 
 unfolding linesOf
 lines-join l end b = refl
 lines-join l (branch h cs rest) b =
-    lines-branch l h cs (rest ⊞ b) ∙ ap (λ (t : List ℕ). lineOf l 65 (h .label) [] ++ linesOf (l + 1) (nodes cs) ++ t) (lines-join l rest b)
+    lines-branch l h cs (rest ⊞ b) ∙ ap (λ (t : List ℕ). lineOf l 65 (h .label) [] (h .origin) ++ linesOf (l + 1) (nodes cs) ++ t) (lines-join l rest b)
     ∙ sym (ap (λ (t : List ℕ). t ++ linesOf l (nodes b)) (lines-branch l h cs rest) ∙ simp append-assoc)
 lines-join l (leaf h c rest) b =
-    lines-leaf l h c (rest ⊞ b) ∙ ap (λ (t : List ℕ). lineOf l 76 (h .label) c ++ t) (lines-join l rest b)
+    lines-leaf l h c (rest ⊞ b) ∙ ap (λ (t : List ℕ). lineOf l 76 (h .label) c (h .origin) ++ t) (lines-join l rest b)
     ∙ sym (ap (λ (t : List ℕ). t ++ linesOf l (nodes b)) (lines-leaf l h c rest) ∙ simp append-assoc)
 
 -- They are the lines of the tree shown, in document order.
@@ -107,8 +107,8 @@ pub record LinedNode (img : List ℕ) (i next end level depth : ℕ) : Type 0 wh
 -- What a node at i that ends at next prints by itself, and the row that it holds.
 abbrev pub ownOf : (img : List ℕ) → (i next level : ℕ) → List ℕ
 ownOf img i next level =
-    let aggregate = lineOf level 65 (headAt img i .label) [] in
-    let literal = lineOf level 76 (headAt img i .label) (take (next - (i + 6)) (drop (i + 6) img)) in
+    let aggregate = lineOf level 65 (headAt img i .label) [] (headAt img i .origin) in
+    let literal = lineOf level 76 (headAt img i .label) (take (next - (i + 6)) (drop (i + 6) img)) (headAt img i .origin) in
     cond (eqb (kindAt img i) 1) aggregate (cond (eqb (kindAt img i) 2) literal [])
 
 abbrev pub insideOf : (img : List ℕ) → (i next level : ℕ) → Extent
@@ -171,6 +171,7 @@ module _ {img : List ℕ} {i next end level depth : ℕ} (a : LinedNode img i ne
   lines-by (agg k cs rest) h e d =
       let v = view h (omega arith) in
       let label : headAt img i .label ≡ k .label = ap (λ (h : Head). h .label) (v .head-is) in
+      let origin : headAt img i .origin ≡ k .origin = ap (λ (h : Head). h .origin) (v .head-is) in
       rw (v .kind-is) record {
         below = omega arith;
         names = λ y. absurd (omega (arith, v .kind-is));
@@ -184,18 +185,19 @@ module _ {img : List ℕ} {i next end level depth : ℕ} (a : LinedNode img i ne
               omega (arith, low);
         };
         after = behind (agg k cs rest) h e d;
-        text = rw label;
+        text = rw (label, origin);
       }
   lines-by (lit k c rest) h e d =
       let v = view h (omega arith) in
       let label : headAt img i .label ≡ k .label = ap (λ (h : Head). h .label) (v .head-is) in
+      let origin : headAt img i .origin ≡ k .origin = ap (λ (h : Head). h .origin) (v .head-is) in
       let n : next - (i + 6) ≡ length c = omega (arith, a .long, v .size-is) in
       rw (v .kind-is) record {
         below = omega arith;
         names = λ y. absurd (omega (arith, v .kind-is));
         inside = record { page = page; row = nil; here = none; ends = omega arith; deep = omega arith; low = omega (arith, low) };
         after = behind (lit k c rest) h e d;
-        text = rw (label, n, v .content, append-nil);
+        text = rw (label, origin, n, v .content, append-nil);
       }
     where
       none : Here img page next nil
@@ -304,12 +306,13 @@ module _ (img : List ℕ) (i next level : ℕ) where
   pub inside-none : (kindAt img i ≡ 1 → ⊥) → (kindAt img i ≡ 3 → ⊥) → record { start = next; stop = next; level = level } ≡ insideOf img i next level
   inside-none k m = rw (ne-eqb (kindAt img i) 1 k, ne-eqb (kindAt img i) 3 m)
 
-  pub own-aggregate : (label : ℕ) → kindAt img i ≡ 1 → label ≡ headAt img i .label → ownOf img i next level ≡ lineOf level 65 label []
-  own-aggregate label k e = rw (eq-eqb (kindAt img i) 1 k, e)
+  pub own-aggregate : (label origin : ℕ) → kindAt img i ≡ 1 → label ≡ headAt img i .label → origin ≡ headAt img i .origin
+      → ownOf img i next level ≡ lineOf level 65 label [] origin
+  own-aggregate label origin k e o = rw (eq-eqb (kindAt img i) 1 k, e, o)
 
-  pub own-literal : (label : ℕ) → (kindAt img i ≡ 1 → ⊥) → kindAt img i ≡ 2 → label ≡ headAt img i .label
-      → ownOf img i next level ≡ lineOf level 76 label (take (next - (i + 6)) (drop (i + 6) img))
-  own-literal label k m e = rw (ne-eqb (kindAt img i) 1 k, eq-eqb (kindAt img i) 2 m, e)
+  pub own-literal : (label origin : ℕ) → (kindAt img i ≡ 1 → ⊥) → kindAt img i ≡ 2 → label ≡ headAt img i .label → origin ≡ headAt img i .origin
+      → ownOf img i next level ≡ lineOf level 76 label (take (next - (i + 6)) (drop (i + 6) img)) origin
+  own-literal label origin k m e o = rw (ne-eqb (kindAt img i) 1 k, eq-eqb (kindAt img i) 2 m, e, o)
 
   pub own-none : (kindAt img i ≡ 1 → ⊥) → (kindAt img i ≡ 2 → ⊥) → ownOf img i next level ≡ []
   own-none k m = rw (ne-eqb (kindAt img i) 1 k, ne-eqb (kindAt img i) 2 m)

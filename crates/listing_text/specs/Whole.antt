@@ -24,7 +24,7 @@ use Rattle.listing_lines.specs.Text.{overLine, refusedLine, headLine, listingOf
 use Rattle.listing_lines.specs.Digits.{two-digits, refused-long}
 use Rattle.listing_lines.specs.Wrote.{Room, Wrote, then, same-text}
 use Rattle.listing_text.specs.Lined.{rowText, row-text, Lined, Fitting, Texted}
-use Rattle.listing_text.specs.Bound.{row-bound, head-bound, span-steps}
+use Rattle.listing_text.specs.Bound.{listingRoom, row-bound, head-bound, span-steps}
 
 -- The head line of an image with n record pages.
 abbrev pub headOf : (img : List ℕ) → (n : ℕ) → List ℕ
@@ -36,7 +36,7 @@ pub record Plan (img : List ℕ) (n : ℕ) : Type 0 where
   pub few : n < length img / pageSize
   pub lined : Lined img (startOn img 1) (endOn img 1) 1 mostBytes
   pub text : headOf img n ++ rowText 1 (lined .row) ≡ listingOn img
-  pub most : length (headOf img n) + length (rowText 1 (lined .row)) ≤ 135168
+  pub most : length (headOf img n) + length (rowText 1 (lined .row)) ≤ listingRoom
 
 module _ (img : List ℕ) (st : Config) (root : Row) (r : Reads img st root) (short : length img ≤ 61440) (n : ℕ) (e : n ≡ length (recordPages root)) where
   planned : Plan img n
@@ -89,7 +89,7 @@ pub refused-printed : (input : List ℕ) (n : ℕ) → length input ≤ 61440 �
 unfolding printed listingOn
 refused-printed input n h e z = rw (le-ltb 61440 (length input) h, refuses input n (sym e) z)
 
-pub refused-room : (input out : List ℕ) (n : ℕ) → n ≡ checkOf input → (n ≡ 0 → ⊥) → 135168 ≤ length out → Room (refusedLine n) 0 out
+pub refused-room : (input out : List ℕ) (n : ℕ) → n ≡ checkOf input → (n ≡ 0 → ⊥) → listingRoom ≤ length out → Room (refusedLine n) 0 out
 refused-room input out n e z h =
     let small : (b : Bool) → n ≡ cond {A = ℕ} b 3 1 → n < 100 = λ b w. go b w in
     let s = small (lengthOk (length input)) (e ∙ not-passing input (λ y. z (e ∙ y))) in
@@ -102,7 +102,7 @@ refused-room input out n e z h =
 -- ── the walk of the whole ──
 
 module _ {img : List ℕ} {n : ℕ} (p : Plan img n) {a b : ℕ} (first : a ≡ startOn img 1) (last : b ≡ endOn img 1) {out mid : List ℕ} {k : ℕ}
-    (w : Wrote (headOf img n) 0 out mid k) (long : 135168 ≤ length out) where
+    (w : Wrote (headOf img n) 0 out mid k) (long : listingRoom ≤ length out) where
   pub whole-fitting : Fitting img a b 1 mostBytes k mid
   whole-fitting =
       let l = p .lined in

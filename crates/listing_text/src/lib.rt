@@ -1,6 +1,7 @@
 // The text that the listing program prints for an input, written to a lent buffer.
 use base_layout::label_at;
 use base_layout::name_at;
+use base_layout::origin_at;
 use base_layout::size_at;
 use listing_lines::head;
 use listing_lines::line;
@@ -16,6 +17,7 @@ ghost use lib.ListN.{length};
 ghost use Rattle.model.specs.Calls.Check.{checkOf};
 ghost use Rattle.listing_lines.specs.Text.{listingOn, printed};
 ghost use Rattle.listing_lines.specs.Wrote.{Room, Wrote};
+ghost use Rattle.listing_text.specs.Bound.{listingRoom};
 ghost use Rattle.listing_text.specs.Lined.{ownOf, insideOf, LinedNode, Fitting, Texted};
 
 // The row that a node holds: where it starts and ends, and the level of its nodes.
@@ -68,12 +70,13 @@ fn own(
     ensures { λ r. ⌜ Wrote (ownOf (now (image .entry)) i next level) at (now (out .entry)) (now (out .exit)) r ⌝ }
 {
     let label = label_at(image, i);
+    let origin = origin_at(image, i);
     if image[i] == 1 {
-        return line(level, b'A', label, &image[0..0], out, at);
+        return line(level, b'A', label, &image[0..0], origin, out, at);
     }
     if image[i] == 2 {
         let a = i + 6;
-        return line(level, b'L', label, &image[a..next], out, at);
+        return line(level, b'L', label, &image[a..next], origin, out, at);
     }
     at
 }
@@ -107,7 +110,7 @@ fn walk(
 
 // The listing of an image that passes the check.
 pub fn listing(image: &[u8], out: &mut [u8]) -> usize
-    requires { ⌜ (checkOf (now image) ≡ 0) × (length (now image) ≤ 61440) × (135168 ≤ length (now out)) ⌝ }
+    requires { ⌜ (checkOf (now image) ≡ 0) × (length (now image) ≤ 61440) × (listingRoom ≤ length (now out)) ⌝ }
     ensures { λ r. ⌜ Wrote (listingOn (now (image .entry))) 0 (now (out .entry)) (now (out .exit)) r ⌝ }
 {
     let pages = image.len() / Settings::PAGE;
@@ -135,7 +138,7 @@ fn number(image: &[u8]) -> u32
 
 // What is printed for an input, from the buffer's front on.
 pub fn print(input: &[u8], out: &mut [u8]) -> usize
-    requires { ⌜ 135168 ≤ length (now out) ⌝ }
+    requires { ⌜ listingRoom ≤ length (now out) ⌝ }
     ensures { λ r. ⌜ Wrote (printed (now (input .entry))) 0 (now (out .entry)) (now (out .exit)) r ⌝ }
 {
     if 61440 < input.len() {
