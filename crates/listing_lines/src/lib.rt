@@ -78,14 +78,7 @@ fn content(bytes: &[u8], out: &mut [u8], at: usize) -> usize
 // ── lines ──
 
 // The fields of a node's line but the last.
-fn fields(
-    level: usize,
-    letter: u8,
-    label: usize,
-    bytes: &[u8],
-    out: &mut [u8],
-    at: usize,
-) -> usize
+fn fields(level: usize, letter: u8, label: usize, bytes: &[u8], out: &mut [u8], at: usize) -> usize
     requires { ⌜ Room (fieldsOf level letter label (now bytes)) at (now out) ⌝ }
     ensures { λ r. ⌜ Wrote (fieldsOf level letter label (now (bytes .entry))) at (now (out .entry)) (now (out .exit)) r ⌝ }
 {

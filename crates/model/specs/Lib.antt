@@ -9,3 +9,4 @@ pub mod Common
 pub mod Effect
 pub mod Calls
 pub mod Claims
+pub mod OldImages

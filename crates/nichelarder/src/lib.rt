@@ -70,7 +70,15 @@ pub extern "C" fn nl_insert(
     ensures lean { λ _. ⌜ now (lean .exit) ≡ insertOf (now (image .entry)) (now (parent .entry)) child kind origin label (now (content .entry)) .0 .lean ⌝ }
     ensures image { λ _. ⌜ now (image .exit) ≡ insertOf (now (image .entry)) (now (parent .entry)) child kind origin label (now (content .entry)) .1 ⌝ }
 {
-    let a = store::insert(image, parent, child, kind as usize, origin as usize, label, content);
+    let a = store::insert(
+        image,
+        parent,
+        child,
+        kind as usize,
+        origin as usize,
+        label,
+        content,
+    );
     *answer = [a.place.page as u32, a.place.offset as u32, a.splits];
     let l = a.lean;
     *lean = l;
@@ -114,7 +122,14 @@ pub extern "C" fn nl_read(image: &[u8], page: u32, offset: u32, answer: &mut [u3
     ensures answer { λ _. ⌜ now (answer .exit) ≡ readNumbers (readOf (now (image .entry)) (record { page = page; offset = offset })) ⌝ }
 {
     let a = store::read_at(image, page as usize, offset as usize);
-    *answer = [a.kind, a.label, a.children, a.start as u32, a.len as u32, a.origin];
+    *answer = [
+        a.kind,
+        a.label,
+        a.children,
+        a.start as u32,
+        a.len as u32,
+        a.origin,
+    ];
     a.number
 }
 
@@ -127,7 +142,13 @@ fn next_numbers(next: Next) -> [u32; 5]
         Next::Node(n) => {
             let k = n.kind;
             let o = n.origin;
-            [1, n.place.page as u32, n.place.offset as u32, k.number(), o.number()]
+            [
+                1,
+                n.place.page as u32,
+                n.place.offset as u32,
+                k.number(),
+                o.number(),
+            ]
         }
         Next::End => [0, 0, 0, 0, 0],
     }

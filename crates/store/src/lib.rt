@@ -67,7 +67,16 @@ pub fn insert(
             lean: 0,
         };
     }
-    grow_insert::insert_of(image, &mut widths, path, child, kind, origin, label, content)
+    grow_insert::insert_of(
+        image,
+        &mut widths,
+        path,
+        child,
+        kind,
+        origin,
+        label,
+        content,
+    )
 }
 
 // The place of the node that a path names.

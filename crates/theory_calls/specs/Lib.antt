@@ -15,6 +15,7 @@ pub mod Read
 pub mod Next
 pub mod Records
 pub mod Demand
+pub mod OldImages
 pub mod Navigate
 pub mod Split
 pub mod Added

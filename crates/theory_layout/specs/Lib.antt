@@ -3,3 +3,4 @@ pub mod Widths
 pub mod Items
 pub mod Order
 pub mod Nodes
+pub mod Origins

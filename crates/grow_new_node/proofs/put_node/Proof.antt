@@ -35,8 +35,7 @@ returns c =
     let e = d .before .before .before .before in
     let b = e .before .before .before .before in
     let a = b .before .before .before .before in
-    let s = a .before .before .before .before in
-    (
+    let s = a .before .before .before .before in (
       λ st. node-size st (s .pre .0),
       λ st. node-written st (s .pre .0) _ _ _ _ _ (s .pre .1) (a .put16 .ensures) (b .put162 .ensures) (e .put163 .ensures) (d .copy-in .ensures),
     )
