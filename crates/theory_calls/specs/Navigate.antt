@@ -3,19 +3,20 @@ use mathlib.Core.Path.{_≡_, refl, ap, _∙_}
 use mathlib.Core.Bool.{Bool, true, false, cond}
 use mathlib.Core.List.{List, [], _∷_, _++_, List·Memᴰ·head, List·Memᴰ·tail, Memᴰ·append-right}
 use mathlib.Core.Option.{Option, some}
-use Prim.Native.Nat.{ℕ, _*_, _≤_, _<_}
+use Prim.Native.Nat.{ℕ, zero, suc, _*_, _≤_, _<_}
 use native.Mathlib.Omega.{arith}
 use borrow.Author.Tests.{le-ltb, lt-ltb}
 use lib.ListN.{length, drop}
 use lib.Dec.{ltb}
+use Rattle.model.specs.Limits.{mostOrigin}
 use Rattle.model.specs.Row.{Row, store, count, Config}
 use Rattle.model.specs.Tree.{Tree, shown, Node, nodes, placeOf, isPlace, fromPlace}
 use Rattle.model.specs.Reading.{Reads}
-use Rattle.model.specs.Answers.{noPlaceThere, shortBuffer, writeRefused, readRefused, nextRefused}
+use Rattle.model.specs.Answers.{kindNumber, originNumber, noPlaceThere, shortBuffer, writeRefused, readRefused, nextRefused}
 use Rattle.model.specs.Common.{write, pathBytes, recordPages}
 use Rattle.model.specs.Calls.Climb.{climbIn, climbOf}
 use Rattle.model.specs.Calls.Read.{readIn, readOf}
-use Rattle.model.specs.Calls.Next.{asNext, nextIn, nextFrom, nextOf}
+use Rattle.model.specs.Calls.Next.{kindOf, originOf, asNext, nextIn, nextFrom, nextOf}
 use Rattle.model.specs.Calls.Records.{pageBytes, times, IsOrder, recordsOf}
 use Rattle.model.specs.declared.Place.{Place}
 use Rattle.model.specs.declared.Next.the-variants as next-is
@@ -24,7 +25,8 @@ use Rattle.model.specs.declared.WriteAnswer.{WriteAnswer}
 use Rattle.theory_rows.specs.Fits.{Valid}
 use Rattle.theory_rows.specs.Laws.{cond-case}
 use Rattle.theory_decoding.specs.Reading.{reads-valid}
-use Rattle.theory_places.specs.Member.{Mem}
+use Rattle.theory_places.specs.Member.{Mem, each-of}
+use Rattle.theory_places.specs.Kinds.{NodeFits, nodes-fit}
 use Rattle.theory_places.specs.Named.{in-place}
 use Rattle.theory_places.specs.From.{from-none, from-stands, from-split, from-found, places-differ}
 use Rattle.theory_places.specs.Pages.{pages-count, pages-once}
@@ -56,6 +58,20 @@ write-not-10 bytes buffer =
 next-not-10 : (t : Tree) (place : List ℕ → Option Place) (n : Node) (ns : List Node) → nextFrom place (n ∷ ns) .number ≡ 10 → ⊥
 next-not-10 t place n [] e = omega arith
 next-not-10 t place n (m ∷ ns) e = omega arith
+
+-- The values of Next name the numbers.
+kind-numbered : (k : ℕ) → 1 ≤ k → k ≤ 2 → kindNumber (kindOf k) ≡ k
+kind-numbered zero a b = absurd (omega arith)
+kind-numbered (suc zero) a b = refl
+kind-numbered (suc (suc zero)) a b = refl
+kind-numbered (suc (suc (suc k))) a b = absurd (omega arith)
+
+origin-numbered : (o : ℕ) → o ≤ mostOrigin → originNumber (originOf o) ≡ o
+origin-numbered zero h = refl
+origin-numbered (suc zero) h = refl
+origin-numbered (suc (suc zero)) h = refl
+origin-numbered (suc (suc (suc zero))) h = refl
+origin-numbered (suc (suc (suc (suc o)))) h = absurd (omega arith)
 
 module _ (img : List ℕ) (st : Config) (root : Row) (r : Reads img st root) where
   v : Valid st root
@@ -108,6 +124,13 @@ module _ (img : List ℕ) (st : Config) (root : Row) (r : Reads img st root) whe
       let i : Mem m (nodes (shown root)) = rw e (Memᴰ·append-right before (List·Memᴰ·tail (List·Memᴰ·head refl))) in
       let y = in-place st root v m i in
       (y .0, y .1, rw (opens img st root r, from-split st root v x before (m ∷ after) n e p))
+
+  -- Its kind and origin are those of the node.
+  pub next-numbered : (m : Node) → Mem m (nodes (shown root))
+      → (kindNumber (asNext (placeOf root) m .kind) ≡ m .kind) × (originNumber (asNext (placeOf root) m .origin) ≡ m .head .origin)
+  next-numbered m i =
+      let f = each-of NodeFits m (nodes (shown root)) (nodes-fit root (v .rows .1)) i in
+      (kind-numbered (m .kind) (f .some) (f .few), origin-numbered (m .head .origin) (f .fits .origin))
 
   pub next-last : (before : List Node) (n : Node) (x : Place) → nodes (shown root) ≡ before ++ n ∷ [] → placeOf root (n .path) ≡ some x
       → nextOf img x ≡ record { number = 0; next = next-is.End }

@@ -8,3 +8,4 @@ pub mod Pages
 pub mod Marks
 pub mod Widths
 pub mod Content
+pub mod Kinds
