@@ -8,7 +8,9 @@ use model::Settings;
 ghost use mathlib.Core.Path.{_≡_};
 ghost use Prim.Native.Nat.{_+_, _≤_, _<_};
 ghost use lib.ListN.{length};
-ghost use Rattle.model.specs.Limits.{mostLevels};
+ghost use lib.Dec.{leb};
+ghost use Rattle.model.specs.Limits.{mostLevels, mostOrigin};
+ghost use Rattle.model.specs.Reading.{headAt};
 ghost use Rattle.theory_check.specs.Tests.{wholeSize, twoChildren, bareHead, shapeOf, passingKind};
 ghost use Rattle.read_nodes.specs.Leaf.{standsOf, aggregateOf, literalOf, Only};
 
@@ -38,6 +40,14 @@ pub fn two_children(rest: &[u8]) -> bool
         return false;
     }
     n < rest.len()
+}
+
+// Whether a header's second byte is an origin.
+pub fn has_origin(part: &[u8]) -> bool
+    requires { ⌜ 6 ≤ length (now part) ⌝ }
+    ensures { λ r. ⌜ r ≡ leb (headAt (now (part .entry)) 0 .origin) mostOrigin ⌝ }
+{
+    origin_at(part, 0) <= Settings::MOST_ORIGIN
 }
 
 // Whether a header has neither origin nor label, as those of proxies and helpers.
@@ -86,7 +96,7 @@ pub fn head(part: &[u8], holder: usize) -> usize
     if !may_stand(holder, kind) {
         return 0;
     }
-    if Settings::MOST_ORIGIN < origin_at(part, 0) {
+    if !has_origin(part) {
         return 0;
     }
     if size_at(part, 0) != part.len() {
@@ -106,7 +116,7 @@ pub fn stands(part: &[u8], kind: usize, holder: usize, level: usize) -> bool
     if wide(part[0]) != kind {
         return false;
     }
-    if Settings::MOST_ORIGIN < origin_at(part, 0) {
+    if !has_origin(part) {
         return false;
     }
     if Settings::LEVELS < level {

@@ -75,7 +75,7 @@ page-old : (h : Held) → unmarked (h .row) ≡ true → recordPage h ≡ oldRec
 page-old h u =
     let n = recordSize (h .row) in
     ap (λ (l : List ℕ). cond (lone (h .row)) l (header 4 noHead (6 + size (h .row)) ++ l) ++ replicate (capacity - n) 0
-        ++ trailer 1 (cond (h .settled) 1 0) n (h .holder)) (bytes-old (h .row) u)
+    ++ trailer 1 (cond (h .settled) 1 0) n (h .holder)) (bytes-old (h .row) u)
 
 page-at-old : (hs : List Held) (q : ℕ) → AllOld hs → pageAt hs q ≡ oldPageAt hs q
 page-at-old [] q a = refl
@@ -127,8 +127,7 @@ nodes-old nil u = tt
 nodes-old (agg h cs rest) u =
     let t = parts h cs rest u in
     let a = nodes (shown cs) in
-    let b = nodes (shown rest) in
-    (
+    let b = nodes (shown rest) in (
       t .head,
       each-++ Bare (map below a) (map (further 1) b) (each-map Bare Bare below a (λ n e. e) (nodes-old cs (t .inner)))
           (each-map Bare Bare (further 1) b (λ n e. e) (nodes-old rest (t .after))),

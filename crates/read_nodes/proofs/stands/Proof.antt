@@ -1,6 +1,7 @@
 use mathlib.Core.Bool.{and-false}
 use borrow.Author.Needs.{needs}
 use borrow.Author.Tests.{le-leb, lt-leb, eq-eqb, ne-eqb}
+use Rattle.theory_check.specs.Facts.{passes, fails}
 use Rattle.read_nodes.specs.Leaf.{standsOf}
 use Rattle.read_nodes.proofs.stands.Statement.{statement}
 use Rattle.read_nodes.proofs.stands.Tie as tie
@@ -15,12 +16,12 @@ returns : tie.Need-returns
 unfolding standsOf
 returns c = simp (← c .before .wide .ensures .0, ne-eqb _ _ (c .if1 .taken))
 
-origin-at-requires : tie.Need-origin-at-requires
-origin-at-requires c κs = search needs
+has-origin-requires : tie.Need-has-origin-requires
+has-origin-requires c κs = search needs
 
 returns-2 : tie.Need-returns-2
 unfolding standsOf
-returns-2 c = simp (← c .before .origin-at .ensures .0, lt-leb _ _ (c .if2 .taken), and-false)
+returns-2 c = simp (fails (c .before .has-origin .ensures) (c .if2 .taken), and-false)
 
 returns-3 : tie.Need-returns-3
 unfolding standsOf
@@ -34,9 +35,9 @@ unfolding standsOf
 returns-4 c =
     let p2 = c .before .before in
     let p1 = p2 .before .before in
-    rw (← p1 .before .wide .ensures .0, eq-eqb _ _ (p1 .if1 .left), ← p2 .before .origin-at .ensures .0, le-leb _ _ (p2 .if2 .left), le-leb _ _ (c .before .if3 .left)) (c .may-stand .ensures)
+    rw (← p1 .before .wide .ensures .0, eq-eqb _ _ (p1 .if1 .left), passes (p2 .before .has-origin .ensures) (p2 .if2 .left), le-leb _ _ (c .before .if3 .left)) (c .may-stand .ensures)
 
 pub stands-spec : {M : Type 1} → statement M
 stands-spec =
     tie.close
-    (tie.spec shared-slice-read-wide wide-requires returns origin-at-requires returns-2 returns-3 may-stand-requires returns-4)
+    (tie.spec shared-slice-read-wide wide-requires returns has-origin-requires returns-2 returns-3 may-stand-requires returns-4)
