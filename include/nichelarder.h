@@ -43,13 +43,13 @@ extern "C" {
 #define NL_LITERAL 2u
 
 /* Origins. A formatted root has 0, and so has every node of an image from before there were origins. */
-#define NL_WIRE 0u    /* seen on the wire */
-#define NL_STORED 1u  /* read from a store */
-#define NL_TYPED_IN 2u   /* typed in */
-#define NL_DERIVED 3u /* derived */
+#define NL_WIRE 0u     /* seen on the wire */
+#define NL_STORED 1u   /* read from a store */
+#define NL_TYPED_IN 2u /* typed in */
+#define NL_DERIVED 3u  /* derived */
 
 /* The names of the origins 0 to 3 for messages: static const char *const origins[] = NL_ORIGIN_NAMES; */
-#define NL_ORIGIN_NAMES { "wire", "store", "typed", "derived" }
+#define NL_ORIGIN_NAMES { "wire", "stored", "typed in", "derived" }
 
 /* What a call returns: 0, or why it refused, and what to do about it. */
 enum nl_refusal {
@@ -84,9 +84,9 @@ uint32_t nl_format(uint8_t *image, size_t image_len, uint32_t pages, uint32_t ta
 uint32_t nl_check(const uint8_t *image, size_t image_len);
 
 /* Puts a new node as child number `child` (0 is first) of the aggregate that the path `parent` names: kind NL_AGGREGATE without content or
- * NL_LITERAL, its origin, its label, and its content. The answer: page and offset of the new node, how many records were split; *lean is how far
- * the first split was from its aim, in bytes, -525 to 132, or 0 without a split. An accepted insert may move other nodes: places from before it
- * are void. No insert changes the origin of another node. Refusals 1, 3, 4, 5, 13, 6, 7, 8, 9, 12. */
+ * NL_LITERAL, its origin, NL_WIRE to NL_DERIVED, its label, and its content. The answer: page and offset of the new node, how many records were
+ * split; *lean is how far the first split was from its aim, in bytes, -525 to 132, or 0 without a split. An accepted insert changes nothing of
+ * other nodes but may move them: places from before it are void. Refusals 1, 3, 4, 5, 13, 6, 7, 8, 9, 12. */
 uint32_t nl_insert(uint8_t *image, size_t image_len, const uint8_t *parent, size_t parent_len, uint32_t child, uint32_t kind, uint32_t origin,
                    uint16_t label, const uint8_t *content, size_t content_len, uint32_t answer[3], int32_t *lean);
 

@@ -98,7 +98,7 @@ def ask_all(rng, image, count, out):
 
 
 def ask_inserts(rng, image, out):
-    """Each origin put in and read back; then a wrong one alone and beside every other fault."""
+    """Each origin put in and read back; then a wrong one alone and beside every other fault of the arguments."""
     for origin in range(ref.ORIGINS):
         _, page, offset, *_ = ask("insert - 0 %d %d 9 -" % (rng.choice((1, 2)), origin), image, out)
         ask("read %d %d" % (page, offset), image, out)

@@ -32,7 +32,8 @@ use Rattle.grow_insert.specs.Answer.{Passed, spot, reads-as, receiver-is
 
 -- ── one node more at the spot ──
 
-module _ {img path : List ℕ} {child kind origin label : ℕ} {content : List ℕ} {d : Admitted} (p : Passed img path child kind origin label content d) {u : List ℕ}
+module _ {img path : List ℕ} {child kind origin label : ℕ} {content : List ℕ} {d : Admitted} (p : Passed img path child kind origin label content d)
+    {u : List ℕ}
     (b : Table (p .st) (p .root) u) where
   abbrev t : Spot
   t = spot p .0

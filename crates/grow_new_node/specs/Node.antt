@@ -52,9 +52,8 @@ module _ (st : Config) {k o l : ℕ} {c : List ℕ} (f : Sound k o l c) where
   pub node-size : 6 + length c ≡ size (asRow st (newOf k o l c) nil)
   node-size = ⊎-elim (λ e. rw (e .0, e .1)) (λ e. rw e (omega arith)) (kinds-are f)
 
-  pub node-written : (out p q s t : List ℕ) → 6 + length c ≤ length out → p ≡ over 0 (two (k + 256 * o)) out → q ≡ over 2 (two l) p → s ≡ over 4 (two (6 + length c)) q
-      → t ≡ over 6 c s
-      → t ≡ over 0 (bytes (asRow st (newOf k o l c) nil)) out
+  pub node-written : (out p q s t : List ℕ) → 6 + length c ≤ length out → p ≡ over 0 (two (k + 256 * o)) out → q ≡ over 2 (two l) p
+      → s ≡ over 4 (two (6 + length c)) q → t ≡ over 6 c s → t ≡ over 0 (bytes (asRow st (newOf k o l c) nil)) out
   node-written out p q s t h pp pq ps pt =
       let first = two (k + 256 * o) in
       let w1 : q ≡ over 0 (first ++ two l) out = over-then 0 2 first (two l) out p q pp pq refl (omega arith) in

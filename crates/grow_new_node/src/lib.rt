@@ -51,7 +51,7 @@ pub fn put_node(out: &mut [u8], kind: usize, origin: usize, label: usize, conten
     ensures { λ _. ⌜ ((st : Config) → now (out .exit) ≡ over 0 (bytes (asRow st (newOf kind origin label (now (content .entry))) nil)) (now (out .entry))) ⌝ }
 {
     let n = 6 + content.len();
-    // a byte each
+    // kind and origin, a byte each
     put16(out, 0, kind + 256 * origin);
     put16(out, 2, label);
     put16(out, 4, n);

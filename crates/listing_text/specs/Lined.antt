@@ -31,8 +31,8 @@ lines-append : (l : ℕ) (a b : List Node) → linesOf l (a ++ b) ≡ linesOf l 
 unfolding linesOf
 lines-append l [] b = refl
 lines-append l (n ∷ a) b =
-    rw (lines-append l a b) (sym (append-assoc (lineOf (l + length (n .path)) (letterOf (n .kind)) (n .head .label) (n .content) (n .head .origin)) (linesOf l a)
-    (linesOf l b)))
+    let line = lineOf (l + length (n .path)) (letterOf (n .kind)) (n .head .label) (n .content) (n .head .origin) in
+    rw (lines-append l a b) (sym (append-assoc line (linesOf l a) (linesOf l b)))
 
 -- A node's level does not depend on its number in its row, and is one more from the row above.
 lines-further : (l k : ℕ) (a : List Node) → linesOf l (map (further k) a) ≡ linesOf l a

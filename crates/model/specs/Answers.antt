@@ -4,8 +4,8 @@ use mathlib.Core.Bool.{Bool, cond}
 use Prim.Native.Nat.{ℕ}
 use lib.ListN.{replicate}
 use lib.IntN.{pos}
-use Rattle.model.specs.Limits.{pageSize, capacity, mostPages, mostLevels, mostContent, mostNode, mostOrigin, leastTarget, mostTarget, mostTolerance, theForm}
-use Rattle.model.specs.Limits.{matrixEntries, markBytes, longestPath, longestParent}
+use Rattle.model.specs.Limits.{pageSize, capacity, mostPages, mostLevels, mostContent, mostNode, mostOrigin, leastTarget, mostTarget, mostTolerance}
+use Rattle.model.specs.Limits.{theForm, matrixEntries, markBytes, longestPath, longestParent}
 use Rattle.model.specs.declared.Limits.{Limits}
 use Rattle.model.specs.declared.Settings.{Settings}
 use Rattle.model.specs.declared.Place.{Place}

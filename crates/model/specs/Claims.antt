@@ -102,7 +102,7 @@ pub record Matches (img : List ℕ) (t : Tree) : Type 0 where
       → ClimbsBack img path buffer
 
 module _ (order : (img buffer : List ℕ) → List ℕ) where
-  -- What holds of one call in a list. `full`: 12 comes exactly when, with no lower refusal, growth takes a page and none is free.
+  -- What holds of one call in a list. `full`: 12 comes exactly when, with no other refusal, growth takes a page and none is free.
   pub record CallHolds (img : List ℕ) (t : Tree) (c : Effect) : Type 0 where
     pub answer : c .onImage img .0 ≡ c .onTree (feedOf img c) (handedOf order img c) t .0
     pub full : (c .number (c .onImage img .0) ≡ noFreePage)

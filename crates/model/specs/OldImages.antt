@@ -1,5 +1,5 @@
--- Images from before E1, which have a zero byte in each header where the origin stands now: the base's definitions as far as E1 changed them, and what is
--- claimed of such images.
+-- Images from before E1, which have a zero byte in each header where the origin stands now: the base's definitions as far as E1 changed them, all else being
+-- today's, and what is claimed of such images.
 use mathlib.Core.Path.{_≡_}
 use mathlib.Core.Logic.{_↔_}
 use mathlib.Core.Bool.{Bool, true, cond, _&&_}
@@ -9,8 +9,8 @@ use Prim.Native.Nat.{ℕ, zero, suc, _+_, _-_, _*_}
 use lib.ListN.{length, getD, replicate}
 use lib.Dec.{leb, ltb, eqb}
 use Rattle.model.specs.Limits.{pageSize, capacity, mostLevels, mostContent}
-use Rattle.model.specs.Row.{Row, nil, agg, lit, rec, store, size, lone, recordSize, two, trailer, Held, records, Config, settingsPage, every, isByte, inRange}
-use Rattle.model.specs.Row.{recordFits, isAgg, height, placed}
+use Rattle.model.specs.Row.{Row, nil, agg, lit, rec, store, size, lone, recordSize, two, trailer, Held, records, Config, settingsPage, every, isByte}
+use Rattle.model.specs.Row.{inRange, recordFits, isAgg, height, placed}
 use Rattle.model.specs.Tree.{Tree, shown, Node, named, placeOf}
 use Rattle.model.specs.Reading.{Reads}
 use Rattle.model.specs.Common.{treeOn}
@@ -19,12 +19,12 @@ use Rattle.model.specs.declared.Place.{Place}
 
 -- ── the base's rows, bytes and check ──
 
--- A row of the base, which has no origins: origin 0 in each head of today's.
-abbrev pub unmarked : Row → Bool
-unmarked nil = true
-unmarked (agg h cs rest) = eqb (h .origin) 0 && unmarked cs && unmarked rest
-unmarked (lit h c rest) = eqb (h .origin) 0 && unmarked rest
-unmarked (rec p s r rest) = unmarked r && unmarked rest
+-- A row of the base, whose heads are a label alone: origin 0 in each head of today's.
+abbrev pub zeroOrigins : Row → Bool
+zeroOrigins nil = true
+zeroOrigins (agg h cs rest) = eqb (h .origin) 0 && zeroOrigins cs && zeroOrigins rest
+zeroOrigins (lit h c rest) = eqb (h .origin) 0 && zeroOrigins rest
+zeroOrigins (rec p s r rest) = zeroOrigins r && zeroOrigins rest
 
 -- A node's header: kind, a zero byte, label, size with header and all inside it.
 abbrev pub oldHeader : (kind label size : ℕ) → List ℕ
@@ -65,27 +65,28 @@ oldValid st root = inRange st && oldFits (store root) && isAgg root && leb (heig
 
 -- The bytes pass the base's check and read as the store with these settings and this root record.
 pub record OldReads (img : List ℕ) (st : Config) (root : Row) : Type 0 where
+  pub origins : zeroOrigins root ≡ true
   pub passes : oldValid st root ≡ true
   pub same : img ≡ oldImage st root
 
 -- ── what is claimed ──
 
 -- Every node has origin 0.
-abbrev pub NoOrigins : Tree → Type 0
-NoOrigins t = (path : List ℕ) (n : Node) → named t path ≡ some n → n .head .origin ≡ 0
+abbrev pub ShowsZero : Tree → Type 0
+ShowsZero t = (path : List ℕ) (n : Node) → named t path ≡ some n → n .head .origin ≡ 0
 
 -- What the base's check accepted passes still, and shows the same tree, with origin 0 at every node.
 pub record OldHolds (img : List ℕ) (root : Row) : Type 0 where
   pub passes : checkOf img ≡ 0
   pub shows : treeOn img ≡ some (shown root)
-  pub origins : NoOrigins (shown root)
+  pub origins : ShowsZero (shown root)
 
 abbrev pub OldImages : Type 0
-OldImages = (img : List ℕ) (st : Config) (root : Row) → unmarked root ≡ true → OldReads img st root → OldHolds img root
+OldImages = (img : List ℕ) (st : Config) (root : Row) → OldReads img st root → OldHolds img root
 
--- And the other way round: of what passes now, the base's check accepted what has no origins.
+-- And the other way round: of what passes now, the base's check accepted what has origin 0 at every node.
 abbrev pub OldExactly : Type 0
-OldExactly = (img : List ℕ) (st : Config) (root : Row) → unmarked root ≡ true → (OldReads img st root ↔ Reads img st root)
+OldExactly = (img : List ℕ) (st : Config) (root : Row) → OldReads img st root ↔ (Reads img st root × (zeroOrigins root ≡ true))
 
 -- The second byte of the header of the node at a place.
 abbrev pub secondByte : (img : List ℕ) → Place → ℕ
@@ -94,7 +95,7 @@ secondByte img x = getD img (pageSize * x .page + x .offset + 1) 0
 -- In any image that passes, this is the node's origin. So where it is zero in all headers, every node has origin 0.
 pub record OriginsRead (img : List ℕ) (root : Row) : Type 0 where
   pub each : (path : List ℕ) (n : Node) (x : Place) → named (shown root) path ≡ some n → placeOf root path ≡ some x → n .head .origin ≡ secondByte img x
-  pub zero : ((path : List ℕ) (x : Place) → placeOf root path ≡ some x → secondByte img x ≡ 0) → NoOrigins (shown root)
+  pub all : ((path : List ℕ) (x : Place) → placeOf root path ≡ some x → secondByte img x ≡ 0) → ShowsZero (shown root)
 
 abbrev pub Origins : Type 0
 Origins = (img : List ℕ) (st : Config) (root : Row) → Reads img st root → OriginsRead img root

@@ -4,8 +4,8 @@ use mathlib.Core.List.{List, [], _∷_, _++_}
 use Prim.Native.Nat.{ℕ, zero, suc, _+_, _*_, _-_, _/_, _%_, max}
 use lib.ListN.{length, getD, replicate}
 use lib.Dec.{leb, ltb, eqb}
-use Rattle.model.specs.Limits.{pageSize, capacity, mostPages, mostLevels, mostContent, mostOrigin, leastTarget, mostTarget, mostTolerance, theForm, matrixEntries}
-use Rattle.model.specs.Limits.{settingsSize}
+use Rattle.model.specs.Limits.{pageSize, capacity, mostPages, mostLevels, mostContent, mostOrigin, leastTarget, mostTarget, mostTolerance, theForm}
+use Rattle.model.specs.Limits.{matrixEntries, settingsSize}
 
 -- ── the row ──
 

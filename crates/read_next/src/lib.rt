@@ -165,6 +165,7 @@ pub fn next_in(image: &[u8], pos: usize) -> usize
     enter(image, item)
 }
 
+// The kind and the origin of the node at pos, as Next gives them.
 fn kind_at(image: &[u8], pos: usize) -> Kind
     requires { ⌜ pos < length (now image) ⌝ }
     ensures { λ r. ⌜ r ≡ kindOf (getD (now (image .entry)) pos 0) ⌝ }

@@ -1,8 +1,8 @@
 -- Nodes that the walk passes over or goes straight into: what the test by their first bytes says of their head.
 use mathlib.Core.Path.{_≡_, refl, ap, sym, _∙_}
 use mathlib.Core.List.{List}
-use mathlib.Core.Bool.{Bool, true, false}
-use Prim.Native.Nat.{ℕ, _≤_, _<_}
+use mathlib.Core.Bool.{Bool, true, false, _&&_}
+use Prim.Native.Nat.{ℕ, _+_, _≤_, _<_}
 use native.Mathlib.Omega.{arith}
 use lib.ListN.{length, take, getD}
 use lib.Seq.{length-take-le, getD-take}
@@ -16,6 +16,14 @@ use Rattle.theory_check.specs.Steps.{passing, size-long}
 use Rattle.theory_check.specs.Tests.{wholeSize, passingKind, shapeOf}
 use Rattle.theory_check.specs.Facts.{no}
 use Rattle.read_nodes.specs.Leaf.{standsOf, aggregateOf, literalOf}
+
+-- two numbers are zero where their sum is
+pub both-zero : (a b : ℕ) → eqb (a + b) 0 ≡ (eqb a 0 && eqb b 0)
+both-zero a b = go (eqb a 0) refl
+  where
+    go : (x : Bool) → eqb a 0 ≡ x → eqb (a + b) 0 ≡ (x && eqb b 0)
+    go true e = let s : a + b ≡ b = omega (arith, eqb-true a 0 e) in ap (λ (n : ℕ). eqb n 0) s
+    go false e = ne-eqb (a + b) 0 (λ s. eqb-false a 0 e (omega arith))
 
 -- what the test shows of the bytes
 record Stands (s : List ℕ) (kind holder level : ℕ) : Type 0 where

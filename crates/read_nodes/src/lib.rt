@@ -1,4 +1,4 @@
-// The check's tests of a node's bytes by themselves: its size, its kind, and what the walk can pass over or go straight into.
+// The check's tests of a node's bytes by themselves: its size, its kind, its origin and label, and what the walk can pass over or go straight into.
 use base_layout::label_at;
 use base_layout::origin_at;
 use base_layout::size_at;
@@ -42,23 +42,22 @@ pub fn two_children(rest: &[u8]) -> bool
     n < rest.len()
 }
 
-// Whether a header's second byte is an origin.
-pub fn has_origin(part: &[u8]) -> bool
+// Whether a header's second byte is 0 to 3, as an origin is.
+pub fn origin_fits(part: &[u8]) -> bool
     requires { ⌜ 6 ≤ length (now part) ⌝ }
     ensures { λ r. ⌜ r ≡ leb (headAt (now (part .entry)) 0 .origin) mostOrigin ⌝ }
 {
     origin_at(part, 0) <= Settings::MOST_ORIGIN
 }
 
-// Whether a header has neither origin nor label, as those of proxies and helpers.
+// Whether a header's second byte and label are zero, as those of proxies and helpers.
 pub fn bare(part: &[u8]) -> bool
     requires { ⌜ 6 ≤ length (now part) ⌝ }
     ensures { λ r. ⌜ r ≡ bareHead (now (part .entry)) ⌝ }
 {
-    if origin_at(part, 0) != 0 {
-        return false;
-    }
-    label_at(part, 0) == 0
+    let origin = origin_at(part, 0);
+    let label = label_at(part, 0);
+    origin + label == 0
 }
 
 // What a node's kind asks of it.
@@ -96,7 +95,7 @@ pub fn head(part: &[u8], holder: usize) -> usize
     if !may_stand(holder, kind) {
         return 0;
     }
-    if !has_origin(part) {
+    if !origin_fits(part) {
         return 0;
     }
     if size_at(part, 0) != part.len() {
@@ -116,7 +115,7 @@ pub fn stands(part: &[u8], kind: usize, holder: usize, level: usize) -> bool
     if wide(part[0]) != kind {
         return false;
     }
-    if !has_origin(part) {
+    if !origin_fits(part) {
         return false;
     }
     if Settings::LEVELS < level {

@@ -14,7 +14,8 @@ use Rattle.model.specs.declared.Place.{Place}
 use Rattle.theory_calls.specs.Open.{refuses}
 
 module _ (img : List ℕ) (n : ℕ) (e : n ≡ checkOf img) (z : n ≡ 0 → ⊥) where
-  pub insert-refused : (path : List ℕ) (child kind origin label : ℕ) (content : List ℕ) → (insertRefused n, img) ≡ insertOf img path child kind origin label content
+  pub insert-refused : (path : List ℕ) (child kind origin label : ℕ) (content : List ℕ)
+      → (insertRefused n, img) ≡ insertOf img path child kind origin label content
   unfolding insertOf
   insert-refused path child kind origin label content = rw (refuses img n (sym e) z)
 

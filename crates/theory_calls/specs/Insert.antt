@@ -89,7 +89,8 @@ module _ (order : (img buffer : List ℕ) → List ℕ) (img : List ℕ) (st : C
       let f = ap (λ (w : Work). w .full) growth-is in
       (λ z. (t .0 (sym number-is ∙ z) .0, f ∙ t .0 (sym number-is ∙ z) .1), λ z. number-is ∙ t .1 (z .0, sym f ∙ z .1))
 
-  same-answer : insertOf img path child kind origin label content .0 ≡ plain (insertOf img path child kind origin label content .1) (insertWork img path child x)
+  same-answer : insertOf img path child kind origin label content .0
+      ≡ plain (insertOf img path child kind origin label content .1) (insertWork img path child x)
   unfolding outcome new-answer plain n
   same-answer = rw (insert-is, growth-is) (go (eqb n 0) refl)
     where

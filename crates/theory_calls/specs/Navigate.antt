@@ -26,7 +26,7 @@ use Rattle.theory_rows.specs.Fits.{Valid}
 use Rattle.theory_rows.specs.Laws.{cond-case}
 use Rattle.theory_decoding.specs.Reading.{reads-valid}
 use Rattle.theory_places.specs.Member.{Mem, each-of}
-use Rattle.theory_places.specs.Kinds.{NodeFits, nodes-fit}
+use Rattle.theory_places.specs.Kinds.{OfNode, KindFits, nodes-fit}
 use Rattle.theory_places.specs.Named.{in-place}
 use Rattle.theory_places.specs.From.{from-none, from-stands, from-split, from-found, places-differ}
 use Rattle.theory_places.specs.Pages.{pages-count, pages-once}
@@ -129,7 +129,7 @@ module _ (img : List ℕ) (st : Config) (root : Row) (r : Reads img st root) whe
   pub next-numbered : (m : Node) → Mem m (nodes (shown root))
       → (kindNumber (asNext (placeOf root) m .kind) ≡ m .kind) × (originNumber (asNext (placeOf root) m .origin) ≡ m .head .origin)
   next-numbered m i =
-      let f = each-of NodeFits m (nodes (shown root)) (nodes-fit root (v .rows .1)) i in
+      let f = each-of (OfNode KindFits) m (nodes (shown root)) (nodes-fit root (v .rows .1)) i in
       (kind-numbered (m .kind) (f .some) (f .few), origin-numbered (m .head .origin) (f .fits .origin))
 
   pub next-last : (before : List Node) (n : Node) (x : Place) → nodes (shown root) ≡ before ++ n ∷ [] → placeOf root (n .path) ≡ some x

@@ -21,6 +21,7 @@ use Rattle.theory_decoding.specs.Steps.{steps, named-inside, few-steps}
 pub two-bytes : (n : ℕ) → n < 65536 → n % 256 + 256 * (n / 256 % 256) ≡ n
 two-bytes n h = omega arith
 
+-- and back, for any two bytes
 pub two-is : (a b : ℕ) → a < 256 → b < 256 → two (a + 256 * b) ≡ a ∷ b ∷ []
 two-is a b h k =
     let low : (a + 256 * b) % 256 ≡ a = omega arith in

@@ -21,5 +21,5 @@ module _ (img : List ℕ) (st : Config) (root : Row) (r : Reads img st root) whe
 pub origins : Origins
 origins img st root r = record {
   each = origin-read img st root r;
-  zero = λ all path n e. let (x, p) = named-place root path n e in origin-read img st root r path n x e p ∙ all path x p;
+  all = λ zero path n e. let (x, p) = named-place root path n e in origin-read img st root r path n x e p ∙ zero path x p;
 }

@@ -76,7 +76,8 @@ returns-5 c =
 parent-at : (f : tie.After-find-in) → (f .find-in .result .number ≡ 0) → let s = f .before .before .before .before .before .before .before .before .before in
     pageSize * f .find-in .result .place .page + f .find-in .result .place .offset ≡ foundAt (s .args .image .now) (s .args .path .now)
 parent-at f z =
-    parent-is _ _ (f .before .before .before .before .before .before .before .before .before .args .child) _ _ _ (formed (f .before)) _ (f .find-in .ensures) z refl
+    let s = f .before .before .before .before .before .before .before .before .before in
+    parent-is _ _ (s .args .child) _ _ _ (formed (f .before)) _ (f .find-in .ensures) z refl
 
 -- What is read there.
 parent-node : (f : tie.After-find-in) → (f .find-in .result .number ≡ 0) → let s = f .before .before .before .before .before .before .before .before .before in

@@ -32,7 +32,8 @@ returns : tie.Need-returns
 returns c =
     let c5 = c .before .before .before .before .before in
     let c7 = c5 .before .before in
-    same-text (sym (own-aggregate _ _ _ _ _ _ (c5 .if1 .taken) (c7 .before .label-at .ensures .0) (c7 .origin-at .ensures .0))) (c .before .before .line .ensures)
+    same-text (sym (own-aggregate _ _ _ _ _ _ (c5 .if1 .taken) (c7 .before .label-at .ensures .0) (c7 .origin-at .ensures .0)))
+    (c .before .before .line .ensures)
 
 shared-slice-read-if2 : tie.Need-shared-slice-read-if2
 shared-slice-read-if2 c =
@@ -87,6 +88,5 @@ returns-3 c =
 pub own-spec : {M : Type 1} → statement M
 own-spec =
     tie.close
-    (tie.spec label-at-requires origin-at-requires shared-slice-read-if1 (λ c. search needs) (λ c. search needs) (λ c. search needs) line-requires same-length returns
-    shared-slice-read-if2 add-a
-    sub-line-2 part-line-start-2 part-line-end-2 line-requires-2 same-length-2 returns-2 returns-3)
+    (tie.spec label-at-requires origin-at-requires shared-slice-read-if1 (λ c. search needs) (λ c. search needs) (λ c. search needs) line-requires
+    same-length returns shared-slice-read-if2 add-a sub-line-2 part-line-start-2 part-line-end-2 line-requires-2 same-length-2 returns-2 returns-3)

@@ -10,7 +10,8 @@ use Rattle.model.specs.Limits.{mostContent, mostOrigin, longestParent}
 use Rattle.model.specs.Row.{Row, Config, image, every, isByte}
 use Rattle.model.specs.Tree.{Tree, shown, Node, New, insertAt, placeOf}
 use Rattle.model.specs.Growth.{Work, noWork, Out, grow}
-use Rattle.model.specs.Answers.{longPath, wrongKind, wrongOrigin, longContent, noNode, literalParent, pastChildren, noFreePage, firstRefusal, insertRefused}
+use Rattle.model.specs.Answers.{longPath, wrongKind, wrongOrigin, longContent, noNode, literalParent, pastChildren, noFreePage, firstRefusal}
+use Rattle.model.specs.Answers.{insertRefused}
 use Rattle.model.specs.Common.{namedBy, pathOf, accept, isNone, placeOr, opened, onStore}
 use Rattle.model.specs.Effect.{Effect}
 use Rattle.model.specs.declared.InsertAnswer.{InsertAnswer}
@@ -27,13 +28,13 @@ abbrev pub childrenBelow : (child : ℕ) → Option Node → Bool
 childrenBelow k none = false
 childrenBelow k (some n) = ltb (n .children) k
 
--- The number of an insert as child k of the node that the path names; `full`: growth takes a page and none is free. The origin is tested directly after the kind.
+-- The number of an insert as child k of the node that the path names; `full`: growth takes a page and none is free. 13 is tested directly after 5.
 unfoldable pub insertNumber : Tree → (path : List ℕ) → (k : ℕ) → New → (full : Bool) → ℕ
 insertNumber t path k x full =
     let parent = namedBy t path in
     firstRefusal ((longPath, ltb longestParent (length path)) ∷ (wrongKind, kindBad x) ∷ (wrongOrigin, ltb mostOrigin (x .head .origin))
-    ∷ (longContent, ltb mostContent (length (x .content))) ∷ (noNode, isNone parent) ∷ (literalParent, isLiteral parent) ∷ (pastChildren, childrenBelow k parent)
-    ∷ (noFreePage, full) ∷ [])
+    ∷ (longContent, ltb mostContent (length (x .content))) ∷ (noNode, isNone parent) ∷ (literalParent, isLiteral parent)
+    ∷ (pastChildren, childrenBelow k parent) ∷ (noFreePage, full) ∷ [])
 
 abbrev pub newOf : (kind origin label : ℕ) → (content : List ℕ) → New
 newOf kind origin label content = record { kind = kind; head = record { origin = origin; label = label }; content = content }

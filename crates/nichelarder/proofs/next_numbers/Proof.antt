@@ -34,7 +34,8 @@ enum-told c = search needs
 returns : tie.Need-returns
 returns c =
     let g = c .before .before .before .before .before .next .given in
-    ap₂ (λ (k o : ℕ). 1 ∷ g .0 .0 .place .page ∷ g .0 .0 .place .offset ∷ k ∷ o ∷ []) (c .before .number .ensures) (c .number2 .ensures) ∙ sym (ap nextNumbers (g .1))
+    ap₂ (λ (k o : ℕ). 1 ∷ g .0 .0 .place .page ∷ g .0 .0 .place .offset ∷ k ∷ o ∷ []) (c .before .number .ensures) (c .number2 .ensures)
+    ∙ sym (ap nextNumbers (g .1))
 
 returns-2 : tie.Need-returns-2
 returns-2 c = search needs

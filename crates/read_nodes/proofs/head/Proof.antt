@@ -27,12 +27,12 @@ returns-3 : tie.Need-returns-3
 unfolding passingKind
 returns-3 c = simp (← c .before .before .before .wide .ensures .0, fails (c .before .may-stand .ensures) (c .if3 .taken), and-false)
 
-has-origin-requires : tie.Need-has-origin-requires
-has-origin-requires c κs = search needs
+origin-fits-requires : tie.Need-origin-fits-requires
+origin-fits-requires c κs = search needs
 
 returns-4 : tie.Need-returns-4
 unfolding passingKind
-returns-4 c = simp (fails (c .before .has-origin .ensures) (c .if4 .taken), and-false)
+returns-4 c = simp (fails (c .before .origin-fits .ensures) (c .if4 .taken), and-false)
 
 size-at-requires : tie.Need-size-at-requires
 size-at-requires c κs = search needs
@@ -62,7 +62,7 @@ returns-7 c =
       le-leb _ _ (p2 .before .before .before .if1 .left),
       le-leb _ _ (p2 .if2 .left),
       passes (p3 .before .may-stand .ensures) (p3 .if3 .left),
-      passes (p4 .before .has-origin .ensures) (p4 .if4 .left),
+      passes (p4 .before .origin-fits .ensures) (p4 .if4 .left),
       ← p5 .before .size-at .ensures .0,
       eq-eqb _ _ (p5 .if5 .left),
       passes (c .before .shaped .ensures) (c .if6 .left),
@@ -71,5 +71,5 @@ returns-7 c =
 pub head-spec : {M : Type 1} → statement M
 head-spec =
     tie.close
-    (tie.spec returns shared-slice-read-wide wide-requires returns-2 may-stand-requires returns-3 has-origin-requires returns-4 size-at-requires returns-5
+    (tie.spec returns shared-slice-read-wide wide-requires returns-2 may-stand-requires returns-3 origin-fits-requires returns-4 size-at-requires returns-5
     shaped-requires returns-6 returns-7)

@@ -16,12 +16,12 @@ returns : tie.Need-returns
 unfolding standsOf
 returns c = simp (← c .before .wide .ensures .0, ne-eqb _ _ (c .if1 .taken))
 
-has-origin-requires : tie.Need-has-origin-requires
-has-origin-requires c κs = search needs
+origin-fits-requires : tie.Need-origin-fits-requires
+origin-fits-requires c κs = search needs
 
 returns-2 : tie.Need-returns-2
 unfolding standsOf
-returns-2 c = simp (fails (c .before .has-origin .ensures) (c .if2 .taken), and-false)
+returns-2 c = simp (fails (c .before .origin-fits .ensures) (c .if2 .taken), and-false)
 
 returns-3 : tie.Need-returns-3
 unfolding standsOf
@@ -35,9 +35,10 @@ unfolding standsOf
 returns-4 c =
     let p2 = c .before .before in
     let p1 = p2 .before .before in
-    rw (← p1 .before .wide .ensures .0, eq-eqb _ _ (p1 .if1 .left), passes (p2 .before .has-origin .ensures) (p2 .if2 .left), le-leb _ _ (c .before .if3 .left)) (c .may-stand .ensures)
+    let fits = passes (p2 .before .origin-fits .ensures) (p2 .if2 .left) in
+    rw (← p1 .before .wide .ensures .0, eq-eqb _ _ (p1 .if1 .left), fits, le-leb _ _ (c .before .if3 .left)) (c .may-stand .ensures)
 
 pub stands-spec : {M : Type 1} → statement M
 stands-spec =
     tie.close
-    (tie.spec shared-slice-read-wide wide-requires returns has-origin-requires returns-2 returns-3 may-stand-requires returns-4)
+    (tie.spec shared-slice-read-wide wide-requires returns origin-fits-requires returns-2 returns-3 may-stand-requires returns-4)
