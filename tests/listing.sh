@@ -5,7 +5,7 @@ cd "$(dirname "$0")/.."
 rt check listing >/dev/null
 program=target/bin/listing
 images=target/images
-python3 tests/make_images.py "$images"
+python3 -B tests/make_images.py "$images"
 count=0
 for image in "$images"/*.img; do
     "$program" <"$image" | cmp - "${image%.img}.txt"

@@ -43,7 +43,7 @@ pub fn two_children(rest: &[u8]) -> bool
 }
 
 // Whether a header's second byte is 0 to 3, as an origin is.
-pub fn origin_fits(part: &[u8]) -> bool
+fn origin_fits(part: &[u8]) -> bool
     requires { ⌜ 6 ≤ length (now part) ⌝ }
     ensures { λ r. ⌜ r ≡ leb (headAt (now (part .entry)) 0 .origin) mostOrigin ⌝ }
 {
@@ -51,7 +51,7 @@ pub fn origin_fits(part: &[u8]) -> bool
 }
 
 // Whether a header's second byte and label are zero, as those of proxies and helpers.
-pub fn bare(part: &[u8]) -> bool
+fn bare(part: &[u8]) -> bool
     requires { ⌜ 6 ≤ length (now part) ⌝ }
     ensures { λ r. ⌜ r ≡ bareHead (now (part .entry)) ⌝ }
 {

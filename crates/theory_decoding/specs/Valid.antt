@@ -98,12 +98,12 @@ record-says s r e =
 record-holds : (s : Bool) (r : Row) → RecordFits s r → recordFits s r ≡ true
 record-holds s r f = rw (le-leb (recordSize r) capacity (f .fits)) (shape-holds (f .shape))
 
-pub head-says : (h : Head) → headFits h ≡ true → HeadFits h
+head-says : (h : Head) → headFits h ≡ true → HeadFits h
 head-says h e =
     let t = both (leb (h .origin) mostOrigin) (ltb (h .label) 65536) e in
     record { origin = leb-true (h .origin) mostOrigin (t .0); label = ltb-true (h .label) 65536 (t .1) }
 
-pub head-holds : (h : Head) → HeadFits h → headFits h ≡ true
+head-holds : (h : Head) → HeadFits h → headFits h ≡ true
 head-holds h f = rw (le-leb (h .origin) mostOrigin (f .origin)) (lt-ltb (h .label) 65536 (f .label))
 
 pub fits-says : (r : Row) → fits r ≡ true → Fits r
