@@ -1,7 +1,6 @@
 // How the bytes of an image are laid out: a node's header, a page's trailer, page 0.
 use base_numbers::two;
 use base_numbers::wide;
-use model::Settings;
 ghost use mathlib.Core.Path.{_≡_};
 ghost use Prim.Native.Nat.{_+_, _≤_, _<_};
 ghost use lib.ListN.{length};
