@@ -1,4 +1,4 @@
-"""A second implementation of the rules, for the tests: small, made from their text alone (the base with change E1).
+"""A second implementation of the rules, for the tests: small, made from their text alone (the base with changes E1 and E2).
 
 As a module it offers the calls over an image held in a bytearray: format_image, check, insert, find, climb, read,
 next_node, records and listing. Each answer is a tuple that begins with the number. To make many inserts in one image,
@@ -10,6 +10,7 @@ answer and the checksum of the image, and exits with 1 on any difference:
 
 import sys
 import zlib
+from fractions import Fraction
 
 PAGE = 4096
 CAPACITY = 4080
@@ -391,9 +392,14 @@ def choose(nodes, start, point):
     return chosen, chosen_start
 
 
-def split_point(root, settings):
+def split_point(target, record_size):
+    """p: the nearest whole number, at an exact half the even one, which is how Python rounds."""
+    return round(Fraction(target * record_size, 256))
+
+
+def way_to_d(root, settings):
     """Step 3: the child numbers of the path from the root down to d, and the start of d minus p."""
-    point = settings.target * size(root) // 256
+    point = split_point(settings.target, size(root))
     node, start, way = root, 0, []
     while True:
         number, start = choose(node.children, start + HEADER, point)
@@ -436,7 +442,7 @@ def proxy_position(record):
 
 def split(store, record):
     """Steps 4 to 6 for one record; gives the lean and the holding record, or None if the record is settled."""
-    way, lean = split_point(record.root, store.settings)
+    way, lean = way_to_d(record.root, store.settings)
     if record.settled:
         separate(store, record.page, record.root, way)
         return lean, None
@@ -615,7 +621,7 @@ def listing(image):
 
 # ---- Replay of call scripts
 
-RULES = "1"                                           # the rule set: the base with E1
+RULES = "2"                                           # the rule set: the base with E1 and E2
 
 
 def from_hex(text):

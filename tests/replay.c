@@ -6,7 +6,7 @@
 
 #include "../include/nichelarder.h"
 
-#define RULES 1u /* the rule set: the base with E1 */
+#define RULES 2u /* the rule set: the base with E1 and E2 */
 
 static uint8_t *image, *kept;
 static size_t image_len, kept_len;

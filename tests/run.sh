@@ -18,7 +18,7 @@ strict=(-Wall -Wextra -Wpedantic -Wconversion -Wshadow -Werror)
 "$cc" -std=c99 "${strict[@]}" examples/panel.c target/staticlib/libnichelarder.a -o target/panel
 target/panel | diff examples/panel.txt -
 at 3 "the stored scripts${VECTORS:+, and those of $VECTORS}"
-target/replay tests/scripts/*.txt ${VECTORS:+"$VECTORS"/e01-*.txt}
+target/replay tests/scripts/*.txt ${VECTORS:+"$VECTORS"/e02-*.txt}
 at 4 "random inserts"
 REPLAY=target/replay bash tests/random.sh inserts 8000
 at 5 "hostile calls"

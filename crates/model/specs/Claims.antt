@@ -4,7 +4,7 @@ use mathlib.Core.Logic.{_↔_}
 use mathlib.Core.Bool.{true, false}
 use mathlib.Core.List.{List, [], _∷_, _++_, map}
 use mathlib.Core.Option.{none, some}
-use Prim.Native.Nat.{ℕ, _+_, _≤_, _<_, max}
+use Prim.Native.Nat.{ℕ, _+_, _-_, _*_, _%_, _≤_, _<_, max}
 use lib.ListN.{length, drop}
 use lib.IntN.{ℤ, pos, negsuc, subℕ}
 use Rattle.model.specs.Limits.{capacity}
@@ -37,6 +37,19 @@ pub record CheckExact (img : List ℕ) : Type 0 where
 abbrev pub largest : List Held → ℕ
 largest [] = 0
 largest (h ∷ hs) = max (recordSize (h .row)) (largest hs)
+
+-- How far apart two numbers are.
+abbrev pub distance : ℕ → ℕ → ℕ
+distance a b = (a - b) + (b - a)
+
+-- The nearest whole number to n / 256, as one says it: 256 p is at most 128 from n, and where it is just 128 from it, p is even.
+pub record Nearest (n p : ℕ) : Type 0 where
+  pub near : distance (256 * p) n ≤ 128
+  pub even : distance (256 * p) n ≡ 128 → p % 2 ≡ 0
+
+-- The split point is that number and no other, for every target and S.
+abbrev pub SplitPoint : Type 0
+SplitPoint = (st : Config) (S p : ℕ) → (p ≡ splitPoint st S) ↔ Nearest (st .target * S) p
 
 -- From -525 to 132.
 abbrev pub InLean : ℤ → Type 0

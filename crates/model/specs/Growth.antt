@@ -2,7 +2,7 @@
 use mathlib.Core.Bool.{Bool, true, false, cond, not, _&&_, _||_}
 use mathlib.Core.List.{List}
 use mathlib.Core.Option.{Option, none, some}
-use Prim.Native.Nat.{ℕ, zero, suc, _+_, _*_, _/_}
+use Prim.Native.Nat.{ℕ, zero, suc, _+_, _*_, _/_, _%_}
 use lib.ListN.{length, getD}
 use lib.Dec.{leb, ltb, eqb}
 use lib.IntN.{ℤ, pos, subℕ}
@@ -56,9 +56,12 @@ module _ (st : Config) where
 
   -- ── the split (steps 3 and 4) ──
 
-  -- p: target × S / 256, rounded down.
-  abbrev pub splitPoint : (S : ℕ) → ℕ
-  splitPoint S = st .target * S / 256
+  -- p: the nearest whole number to target × S / 256, and at an exact half the even one.
+  unfoldable pub splitPoint : (S : ℕ) → ℕ
+  splitPoint S =
+      let n = st .target * S in
+      let down = n / 256 in
+      cond (ltb (n % 256) 128) down (cond (eqb (n % 256) 128) (down + down % 2) (down + 1))
 
   -- A later child starts at or before p too: a node of n bytes starts at `at`, and `rest` follows it.
   abbrev pub goOn : (p at n : ℕ) → (rest : Row) → Bool
