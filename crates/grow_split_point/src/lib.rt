@@ -14,12 +14,21 @@ ghost use Rattle.model.specs.Claims.{InLean};
 ghost use Rattle.grow_split_point.specs.Kids.{Kids};
 ghost use Rattle.grow_split_point.specs.Chosen.{passed, goesInto};
 
-// p: target × size / 256, rounded down.
+// p: the nearest whole number to target × size / 256, and at an exact half the even one.
 pub fn split_point(target: usize, size: usize) -> usize
     requires { ⌜ (target ≤ 192) × (size ≤ 4608) ⌝ }
     ensures { λ r. ⌜ ((st : Config) → st .target ≡ target → r ≡ splitPoint st size) ⌝ }
 {
-    target * size / 256
+    let n = target * size;
+    let down = n / 256;
+    let past = n % 256;
+    if past < 128 {
+        return down;
+    }
+    if past == 128 {
+        return down + down % 2;
+    }
+    down + 1
 }
 
 // The start of d, the node at which the row from start to end is split, near the offset p.

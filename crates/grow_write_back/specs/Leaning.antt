@@ -3,7 +3,6 @@ use mathlib.Core.Path.{_≡_, sym, ap, _∙_}
 use mathlib.Core.List.{List, [], append-nil}
 use Prim.Native.Nat.{ℕ, _+_, _<_, _≤_}
 use native.Mathlib.Omega.{arith}
-use native.Mathlib.Nat.{mul-le-mul-right}
 use lib.IntN.{subℕ}
 use lib.ListN.{length}
 use Rattle.theory_row_bytes.specs.RowAt.{RecordIs}
@@ -12,7 +11,7 @@ use Rattle.model.specs.Row.{Row, lone, recordSize, recordBytes, Config}
 use Rattle.model.specs.Growth.{noWork, splitPoint, startOf, startOfD, rootRow}
 use Rattle.theory_rows.specs.Fits.{Ranges, Fits}
 use Rattle.theory_rows.specs.Image.{length-record}
-use Rattle.theory_rows.specs.Bound.{depth, split-good}
+use Rattle.theory_rows.specs.Bound.{depth, p-high, split-good}
 use Rattle.base_layout.specs.declared.Setup.{Setup}
 use Rattle.base_layout.specs.Setup.{setupOf}
 use Rattle.base_layout.specs.Growing.{bufferSize, target-of}
@@ -68,5 +67,5 @@ module _ {l : List ℕ} {s : Setup} (w : Leaning l s) where
     lean-inside =
         let good = split-good (w .st) (w .ranges) 0 (w .row) noWork (w .fits) (w .big) (w .most) (w .deep) in
         let b = lean-bounds (startOfD (w .st) (w .row)) (splitPoint (w .st) (recordSize (w .row))) (good .lean) in
-        let high = mul-le-mul-right (recordSize (w .row)) (w .ranges .high) in
-        (omega (arith, b, start-is, point-is), (omega (arith, b, start-is, point-is), omega (arith, point-is, high, w .most)))
+        let high = p-high (w .st) (w .ranges) (recordSize (w .row)) (w .big) (w .most) in
+        (omega (arith, b, start-is, point-is), (omega (arith, b, start-is, point-is), omega (arith, point-is, high)))

@@ -14,6 +14,7 @@ use Rattle.theory_rows.specs.Fits.{Ranges, Fits, Shape, one, more}
 use Rattle.model.specs.Growth.{Work, Out, group, twoGroups, separate, goOn, stops, startOf, startOfD, rootRow, withRow, splitPoint, separator}
 use Rattle.model.specs.Claims.{InLean}
 use Rattle.theory_rows.specs.Laws.{size-⊹, cond-case, isNil-nil, breadth-shown}
+use Rattle.theory_rows.specs.Point.{point-nearest}
 use Rattle.theory_rows.specs.Shows.{nodeCount-some, nodes-shown, shown-separator}
 use Rattle.model.specs.Tree.{width, breadth}
 
@@ -243,11 +244,11 @@ module _ (st : Config) (near p S : ℕ) (tol : st .tolerance ≤ 512) (left-room
 
 -- what an oversize record's size says of the split point
 module _ (st : Config) (k : Ranges st) (S : ℕ) (over : capacity < S) (most : S ≤ (capacity + mostNode)) where
-  p-low : S ≤ 4 * splitPoint st S + 3
-  p-low = omega (arith, mul-le-mul-right S (k .low))
+  p-low : S ≤ 4 * splitPoint st S + 2
+  p-low = let near = point-nearest st S in omega (arith, mul-le-mul-right S (k .low))
 
-  p-high : splitPoint st S ≤ 3454
-  p-high = omega (arith, mul-le-mul-right S (k .high))
+  pub p-high : splitPoint st S ≤ 3455
+  p-high = let near = point-nearest st S in omega (arith, mul-le-mul-right S (k .high))
 
 pub in-lean : (a p : ℕ) → a ≤ p + 132 → p ≤ a + 525 → InLean (subℕ a p)
 in-lean a p h k = cond-case InLean (ltb a p) (λ e. omega (arith, ltb-true a p e)) (λ e. omega (arith, ltb-false a p e))

@@ -3,6 +3,7 @@ pub mod Laws
 pub mod Plan
 pub mod Works
 pub mod Shows
+pub mod Point
 pub mod Bound
 pub mod Pages
 pub mod Keeps

@@ -141,6 +141,12 @@ pub record BenchSheet : Type 0 where
   pub last387p : pointP seven 7 387 ≡ 2040
   pub last387d : startD seven 7 387 ≡ 1584
   pub last387 : put seven 7 387 .0 ≡ answer 3 2110 1 (negsuc 455)
+  -- The point to the nearest byte, with target 128: 2,040.5 stays 2,040, and S of 4,083 gives 2,042; so with 389 bytes instead.
+  pub nearest : (st : Config) → st .target ≡ 128 → (splitPoint st 4081 ≡ 2040) × (splitPoint st 4083 ≡ 2042)
+  pub last389S : sizeS seven 7 389 ≡ 4083
+  pub last389p : pointP seven 7 389 ≡ 2042
+  pub last389d : startD seven 7 389 ≡ 1584
+  pub last389 : put seven 7 389 .0 ≡ answer 3 2110 1 (negsuc 457)
   -- With 520 instead: p 2,107, lean -523; page 2 has three literals (1,584 bytes), page 3 five (2,636), the root is 22 bytes.
   pub last520S : sizeS seven 7 mostContent ≡ 4214
   pub last520p : pointP seven 7 mostContent ≡ 2107
@@ -167,8 +173,8 @@ pub record BenchSheet : Type 0 where
 
 -- Naming this unfolds every definition that the calls compute with.
 computed : Unit {0}
-unfolding image inRange valid placeAt twoAt grow spotIn spotAfter rise kept close separator separate group twoGroups freeFrom startOf lengthOk nodesIn sameBytes
-    reading insertNumber findIn formatNumber opened formatOf insertOf findOf
+unfolding image inRange valid placeAt twoAt grow spotIn spotAfter rise kept close separator separate group twoGroups freeFrom splitPoint startOf lengthOk nodesIn
+    sameBytes reading insertNumber findIn formatNumber opened formatOf insertOf findOf
 computed = tt
 
 abbrev rootOf : Row → Row
@@ -242,6 +248,14 @@ last387-is : put (sevenImage 5) 7 387 .0 ≡ answer 3 2110 1 (negsuc 455)
 unfolding computed
 last387-is = refl
 
+last389-is : put (sevenImage 5) 7 389 .0 ≡ answer 3 2110 1 (negsuc 457)
+unfolding computed
+last389-is = refl
+
+nearest-is : (st : Config) → st .target ≡ 128 → (splitPoint st 4081 ≡ 2040) × (splitPoint st 4083 ≡ 2042)
+unfolding splitPoint
+nearest-is st e = (rw e refl, rw e refl)
+
 -- S, p and d where seven literals and one of n stand in the image.
 aims : (n s p d : ℕ) → (sizeS (sevenImage 5) 7 n ≡ s) × (pointP (sevenImage 5) 7 n ≡ p) × (startD (sevenImage 5) 7 n ≡ d)
     → (sizeS seven 7 n ≡ s) × (pointP seven 7 n ≡ p) × (startD seven 7 n ≡ d)
@@ -254,6 +268,10 @@ aims n s p d e = (
 aims387 : (sizeS (sevenImage 5) 7 387 ≡ 4081) × (pointP (sevenImage 5) 7 387 ≡ 2040) × (startD (sevenImage 5) 7 387 ≡ 1584)
 unfolding computed
 aims387 = (refl, refl, refl)
+
+aims389 : (sizeS (sevenImage 5) 7 389 ≡ 4083) × (pointP (sevenImage 5) 7 389 ≡ 2042) × (startD (sevenImage 5) 7 389 ≡ 1584)
+unfolding computed
+aims389 = (refl, refl, refl)
 
 aims520 : (sizeS (sevenImage 5) 7 mostContent ≡ 4214) × (pointP (sevenImage 5) 7 mostContent ≡ 2107) × (startD (sevenImage 5) 7 mostContent ≡ 1584)
 unfolding computed
@@ -322,6 +340,11 @@ bench-sheet = record {
   last387p = aims 387 4081 2040 1584 aims387 .1;
   last387d = aims 387 4081 2040 1584 aims387 .2;
   last387 = ap (λ (img : List ℕ). put img 7 387 .0) seven-is ∙ last387-is;
+  nearest = nearest-is;
+  last389S = aims 389 4083 2042 1584 aims389 .0;
+  last389p = aims 389 4083 2042 1584 aims389 .1;
+  last389d = aims 389 4083 2042 1584 aims389 .2;
+  last389 = ap (λ (img : List ℕ). put img 7 389 .0) seven-is ∙ last389-is;
   last520S = aims mostContent 4214 2107 1584 aims520 .0;
   last520p = aims mostContent 4214 2107 1584 aims520 .1;
   last520d = aims mostContent 4214 2107 1584 aims520 .2;
