@@ -205,6 +205,9 @@ static size_t around(const uint8_t *rec, size_t at) {
     return holder;
 }
 
+/* The nearest whole number to n / 256, at a half the even one: what is added carries past a half, and at a half where n / 256 is odd. */
+static size_t nearest(size_t n) { return (n + 127 + n / 256 % 2) / 256; }
+
 static int grow_up(struct growing *g, unsigned page, uint8_t *buf, size_t len) {
     for (int splits = 0;; splits++) {
         uint8_t *p = g->image + 4096u * (size_t)page, sep[600], next[4700];
@@ -219,7 +222,7 @@ static int grow_up(struct growing *g, unsigned page, uint8_t *buf, size_t len) {
         }
         size_t n = buf[0] == 1 ? 6 : 0;
         memcpy(sep, buf, n);
-        n += split_row(g, buf, 6, len, g->target * len / 256, page, sep + n);
+        n += split_row(g, buf, 6, len, nearest(g->target * len), page, sep + n);
         if (buf[0] == 1) put16(sep + 4, (unsigned)n);
         if (settled) {
             put_page(g, page, sep, n, 1, holder);

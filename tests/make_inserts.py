@@ -16,6 +16,7 @@ import reference as ref
 
 LONGEST = 9000                                        # no line is longer
 NEAR = ref.CAPACITY - ref.HEADER - ref.CONTENT        # from here on the biggest literal splits the record
+TARGETS = range(64, 193)
 LABELS = (0, 1, 2, 3, 7, 13, 14, 15, 16, 300, 65535)
 FAULTS = (ref.LEVEL, ref.BAD_KIND, ref.BAD_ORIGIN, ref.LONG, ref.ABSENT, ref.CLOSED, ref.GAP)      # what a refused insert may have wrong
 
@@ -61,15 +62,6 @@ def path_to(record, node):
         node, record = siblings[at], record.holder
 
 
-def pieces(total):
-    """Sizes of literals that add up to so many bytes, the biggest last."""
-    count, first = divmod(total, ref.HEADER + ref.CONTENT)
-    sizes = [ref.HEADER + ref.CONTENT] * count
-    if 0 < first < ref.HEADER:
-        sizes[0], first = sizes[0] - ref.HEADER, first + ref.HEADER
-    return ([first] if first else []) + sizes
-
-
 def path_bytes(numbers):
     return b"".join([number.to_bytes(4, "little") for number in numbers])
 
@@ -89,10 +81,24 @@ class Counts:
         self.origins = [0] * ref.ORIGINS              # of accepted ones
         self.splits = [0, 0, 0, 0]                    # none, one, two, three or more
         self.leans = [0, 0]
+        self.stores_of = dict.fromkeys(TARGETS, 0)
+        self.halves = {target: [0, 0] for target in TARGETS}      # splits at an exact half: to the number below, and above
+
+    def target(self, rng):
+        """The ends and the usual one now and then, else one of which the fewest of its two halves were met."""
+        wanted = min(TARGETS, key=lambda target: ((0 not in self.halves[target]), self.stores_of[target], rng.random()))
+        return rng.choice((rng.choice((64, 128, 192)), wanted, wanted, wanted))
+
+    def half_lines(self):
+        for way, name in enumerate(("down", "up")):
+            counts = [halves[way] for halves in self.halves.values()]
+            yield "%d go %s, at %d targets" % (sum(counts), name, sum(1 for count in counts if count))
 
     def lines(self):
         yield "%d inserts in %d stores; accepted %d, by origin %d, %d, %d, %d" % (self.inserts, self.stores, sum(self.splits), *self.origins)
         yield "splits: none %d, one %d, two %d, three or more %d; longest cascade %d; leans %d to %d" % (*self.splits, self.longest, *self.leans)
+        yield "stores with %d of the %d targets; splits at an exact half: %s" % (
+            sum(1 for count in self.stores_of.values() if count), len(TARGETS), "; ".join(self.half_lines()))
         yield "refused: " + ", ".join("%d of %d" % (count, number) for number, count in sorted(self.refused.items()))
         yield "records with over %d bytes, or split: %d; set apart: %d" % (NEAR, self.near, self.apart)
         yield "deepest level %d; largest image %d pages; most records %d" % (self.deepest, self.pages, self.records)
@@ -106,7 +112,7 @@ class Larder:
         share = rng.choice((0, 0, 0.02, 0.1, 0.3, 0.5, 0.9))      # of pairs that are apart; they take many pages
         ranges = ((2, 5), (2, 5), (6, 12), (6, 12), (6, 12), (13, 40), (13, 40), (41, 100), (101, 200))
         self.pages = rng.randint(*rng.choice(ranges if share < 0.2 else ranges[3:]))
-        target = rng.choice((64, 128, 192, rng.randint(64, 192)))
+        self.target = counts.target(rng)
         tolerance = rng.choice((0, 7, 20, 409, 512, rng.randint(0, 100), rng.randint(0, 512)))
         matrix = bytearray(b"\x02" * 256)
         for at in range(256):
@@ -116,9 +122,10 @@ class Larder:
         self.longest = rng.choice((0, 12, 40, 200, ref.CONTENT, ref.CONTENT))
         self.image = bytearray(self.pages * ref.PAGE)
         self.write("I %d" % len(self.image))
-        self.ask("format %d %d %d 1 %s %d" % (self.pages, target, tolerance, matrix.hex(), rng.choice(self.labels)))
+        self.ask("format %d %d %d 1 %s %d" % (self.pages, self.target, tolerance, matrix.hex(), rng.choice(self.labels)))
         self.store = ref.read_store(self.image)
         counts.stores += 1
+        counts.stores_of[self.target] += 1
         counts.pages = max(counts.pages, self.pages)
 
     def write(self, line):
@@ -169,6 +176,9 @@ class Larder:
         counts.longest = max(counts.longest, splits)
         counts.deepest = max(counts.deepest, level)
         counts.records = max(counts.records, len(self.store.records))
+        for size in self.store.split_sizes:
+            if self.target * size % 256 == 128:
+                counts.halves[self.target][self.target * size // 256 % 2] += 1
         counts.leans = [min(counts.leans[0], lean), max(counts.leans[1], lean)]
 
     # ---- An image made at random
@@ -318,8 +328,8 @@ class Larder:
     def aimed(self):
         """In an empty store, something where the first split looks: a chain, so that d starts after p, or an aggregate as big as the tolerance."""
         size = ref.CAPACITY + self.rng.randint(1, 300)
-        start = self.store.settings.target * size // 256 - self.rng.choice((0, 0, 1, 5, 6, 20))
-        number = sum([self.append_literal(piece) for piece in pieces(start - ref.HEADER)])
+        start = ref.split_point(self.target, size) - self.rng.choice((0, 0, 1, 5, 6, 20))
+        number = sum([self.append_literal(piece) for piece in made.pieces(start - ref.HEADER)])
         path, depth, inside = [self.row(b"")], 1, self.store.settings.tolerance - ref.HEADER + self.rng.choice((-1, 0, 0, 1))
         if inside < ref.HEADER or self.rng.random() < 0.5:
             depth, inside = self.rng.choice((23, 23, self.rng.randint(1, 23))), 0
@@ -330,7 +340,7 @@ class Larder:
                 return
         if inside:
             self.insert(path_bytes(path[:-1]), 0, ref.LITERAL, self.free_label(path[:-1]), self.rng.randbytes(inside - ref.HEADER))
-        for piece in pieces(size - start - ref.HEADER * depth - inside):
+        for piece in made.pieces(size - start - ref.HEADER * depth - inside):
             self.append_literal(piece)
 
     def append_literal(self, size):
@@ -360,6 +370,27 @@ class Larder:
         if not 0 <= length <= ref.CONTENT:
             length = ref.CONTENT if room > 600 else len(self.content())
         return self.insert(path_bytes(spot[0]), spot[1], ref.LITERAL, self.label(spot[0]), self.rng.randbytes(length))
+
+    def halved(self):
+        """Into a full record, so that target × S / 256 is an exact half; the way that was met less often."""
+        record = self.fullest()
+        number = self.fill(record, self.rng.randint(0, 100))
+        spot = self.spot(record) if self.store.records.get(record.page) is record else None
+        if number or not spot:
+            return number
+        least = used(self.image, record) + ref.HEADER
+        sizes = [size for size in range(max(least, ref.CAPACITY + 1), least + ref.CONTENT + 1) if self.target * size % 256 == 128]
+        if not sizes:
+            return self.anywhere()
+        halves = self.counts.halves[self.target]
+        size = min(sizes, key=lambda size: (halves[self.target * size // 256 % 2], self.rng.random()))
+        return self.insert(path_bytes(spot[0]), spot[1], ref.LITERAL, self.free_label(spot[0]), self.rng.randbytes(size - least))
+
+    def both_halves(self):
+        """Both ways of the target's halves, if pages allow."""
+        for _ in range(4):
+            if 0 in self.counts.halves[self.target]:
+                self.halved()
 
     def trickle(self):
         """Small nodes into one full record until it splits."""
@@ -484,12 +515,16 @@ class Larder:
             self.aimed()
         elif start < 0.68:
             self.empty_nodes(b"", min(1500, self.limit // 10))      # over two records full
+        else:
+            self.both_halves()
         while self.counts.inserts < end and full < 8:
             chance = self.rng.random()
             if chance < 0.2:
                 self.refusal()
             elif chance < 0.205:
                 self.damaged()
+            elif chance < 0.21 or chance < 0.4 and 0 in self.counts.halves[self.target]:
+                full += self.halved() == ref.FULL
             else:
                 full += self.rng.choice(ways)() == ref.FULL
 

@@ -40,6 +40,15 @@ def grow_store(rng):
     return image
 
 
+def pieces(total):
+    """Sizes of literals that add up to so many bytes, the biggest last."""
+    count, first = divmod(total, ref.HEADER + ref.CONTENT)
+    sizes = [ref.HEADER + ref.CONTENT] * count
+    if 0 < first < ref.HEADER:
+        sizes[0], first = sizes[0] - ref.HEADER, first + ref.HEADER
+    return ([first] if first else []) + sizes
+
+
 def put_image(image, out):
     """The image as lines: its length, then each run of bytes that are not zero."""
     out.append("I %d" % len(image))

@@ -22,7 +22,14 @@ under=()
 if [ -n "${MEMCHECK:-}" ]; then under=(valgrind --quiet --error-exitcode=3); fi
 : >"target/$kind.log"
 for seed in 1 2 3 4; do
-    python3 -B "tests/make_$kind.py" "$seed" $((count / 4)) | "${under[@]}" "$replay" /dev/stdin | tee -a "target/$kind.log"
+    # what the script reached goes to standard error and into the log
+    { python3 -B "tests/make_$kind.py" "$seed" $((count / 4)) 2>&1 >&3 | tee -a "target/$kind.log" >&2; } 3>&1 |
+        "${under[@]}" "$replay" /dev/stdin | tee -a "target/$kind.log"
 done
-awk -v kind="$kind" '/ calls, / { calls += $2; differences += $4 } 
-    END { print kind ": " calls " calls compared, " differences " differences" }' "target/$kind.log"
+awk -v kind="$kind" '/ calls, / { calls += $2; differences += $4 }
+    match($0, /exact half: [0-9]+ go down/) { split(substr($0, RSTART), word, " "); down += word[3] }
+    match($0, /[0-9]+ go up/) { split(substr($0, RSTART), word, " "); up += word[1] }
+    END {
+        halves = kind == "inserts" ? "; splits at an exact half: " down " go down, " up " up" : ""
+        print kind ": " calls " calls compared, " differences " differences" halves
+    }' "target/$kind.log"

@@ -86,12 +86,14 @@ class Settings:
 
 
 class Store:
-    """What an image holds: its settings and its records by page. `changed` names the pages that growth has changed."""
+    """What an image holds: its settings and its records by page. `changed` names the pages that growth has changed;
+    `split_sizes` are the sizes S of the records that the last insert has split."""
 
     def __init__(self, settings, records):
         self.settings = settings
         self.records = records
         self.changed = set()
+        self.split_sizes = []
 
 
 class Entry:
@@ -464,8 +466,9 @@ def grow(store, parent, record, child, node):
         node = new_record(store, record.page, True, node)
     siblings.insert(at, node)
     store.changed.add(record.page)
-    leans = []
+    store.split_sizes, leans = [], []
     while record is not None and size(record.root) > CAPACITY:
+        store.split_sizes.append(size(record.root))
         lean, record = split(store, record)
         leans.append(lean)
         if record is not None:

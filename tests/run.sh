@@ -3,7 +3,7 @@
 set -euo pipefail
 cd "$(dirname "$0")/.."
 cc=${CC:-cc}
-at() { echo "tests: $1 of 9: $2"; }
+at() { echo "tests: $1 of 10: $2"; }
 at 1 "the archive (minutes, where the crates are not proved yet)"
 rt staticlib nichelarder >/dev/null
 flags=(-std=c99 -O2 -Wall -Wextra -Werror)
@@ -19,15 +19,17 @@ strict=(-Wall -Wextra -Wpedantic -Wconversion -Wshadow -Werror)
 target/panel | diff examples/panel.txt -
 at 3 "the stored scripts${VECTORS:+, and those of $VECTORS}"
 target/replay tests/scripts/*.txt ${VECTORS:+"$VECTORS"/e02-*.txt}
-at 4 "random inserts"
+at 4 "the split point at every target"
+python3 -B tests/make_rounding.py | target/replay /dev/stdin
+at 5 "random inserts"
 REPLAY=target/replay bash tests/random.sh inserts 8000
-at 5 "hostile calls"
+at 6 "hostile calls"
 REPLAY=target/replay bash tests/random.sh hostile 20000
-at 6 "the deepest image on a stack of 1 MB"
+at 7 "the deepest image on a stack of 1 MB"
 (ulimit -s 1024 && target/deep)
-at 7 "the stack of an insert"
+at 8 "the stack of an insert"
 target/stack
-at 8 "buffers that lie in the image, and empty ones"
+at 9 "buffers that lie in the image, and empty ones"
 target/buffers
-at 9 "the listing program"
+at 10 "the listing program"
 bash tests/listing.sh

@@ -11,7 +11,7 @@ use Rattle.model.specs.Growth.{splitPoint}
 use Rattle.model.specs.Claims.{Nearest, SplitPoint}
 use Rattle.theory_rows.specs.Laws.{cond-case}
 
--- the number below a half goes down, above it up, and at a half to the even neighbour
+-- a rest below a half goes down, one above it up, a half to the even neighbour
 pub point-nearest : (st : Config) (S : ℕ) → Nearest (st .target * S) (splitPoint st S)
 unfolding splitPoint
 point-nearest st S = go (st .target * S)
@@ -19,12 +19,12 @@ point-nearest st S = go (st .target * S)
     go : (n : ℕ) → Nearest n (cond (ltb (n % 256) 128) (n / 256) (cond (eqb (n % 256) 128) (n / 256 + n / 256 % 2) (n / 256 + 1)))
     go n =
         cond-case (Nearest n) (ltb (n % 256) 128)
-        (λ a. let h = ltb-true (n % 256) 128 a in record { near = omega arith; even = λ e. absurd (omega arith) })
+        (λ a. let h = ltb-true (n % 256) 128 a in record { near = omega arith; even = λ e. omega arith })
         (λ a.
         let h = ltb-false (n % 256) 128 a in
         cond-case (Nearest n) (eqb (n % 256) 128)
         (λ b. let k = eqb-true (n % 256) 128 b in record { near = omega arith; even = λ e. omega arith })
-        (λ b. let k = eqb-false (n % 256) 128 b in record { near = omega arith; even = λ e. absurd (omega arith) }))
+        (λ b. let k = eqb-false (n % 256) 128 b in record { near = omega arith; even = λ e. omega arith }))
 
 -- of two such numbers none is less: they would be neighbours, each a half away, and not both are even
 not-less : (n p q : ℕ) → Nearest n p → Nearest n q → q ≤ p
