@@ -85,8 +85,9 @@ uint32_t nl_check(const uint8_t *image, size_t image_len);
 
 /* Puts a new node as child number `child` (0 is first) of the aggregate that the path `parent` names: kind NL_AGGREGATE without content or
  * NL_LITERAL, its origin, NL_WIRE to NL_DERIVED, its label, and its content. The answer: page and offset of the new node, how many records were
- * split; *lean is how far the first split was from its aim, in bytes, -525 to 132, or 0 without a split. An accepted insert changes nothing of
- * other nodes but may move them: places from before it are void. Refusals 1, 3, 4, 5, 13, 6, 7, 8, 9, 12. */
+ * split; *lean is how far the first split was from its aim, in bytes, -525 to 132, or 0 without a split. The aim is size * target / 256 of the
+ * record that is split, to the nearest byte, at an exact half the even one. An accepted insert changes nothing of other nodes but may move them:
+ * places from before it are void. Refusals 1, 3, 4, 5, 13, 6, 7, 8, 9, 12. */
 uint32_t nl_insert(uint8_t *image, size_t image_len, const uint8_t *parent, size_t parent_len, uint32_t child, uint32_t kind, uint32_t origin,
                    uint16_t label, const uint8_t *content, size_t content_len, uint32_t answer[3], int32_t *lean);
 

@@ -1,5 +1,6 @@
 #!/usr/bin/env bash
-# Each row of the tables in docs/CLAIMS.md names what carries it, as `file#name`, or says `open: ...`; each name must stand in its file.
+# Each row of the tables in docs/CLAIMS.md names what carries it, as `file#name`, or says `open: ...`; each name must stand in its file,
+# and that of `file#!name` must not.
 set -euo pipefail
 cd "$(dirname "$0")/.."
 table=docs/CLAIMS.md
@@ -16,16 +17,21 @@ while IFS= read -r row; do
   while IFS= read -r carrier; do
     [ -n "$carrier" ] || continue
     names=$((names + 1))
-    file=${carrier%%#*} name=${carrier#*#}
+    file=${carrier%%#*} name=${carrier#*#} wanted=1
+    case "$name" in '!'*) name=${name#!} wanted=0 ;; esac
+    found=0
     if [ ! -f "$file" ]; then
       echo "claims: no file $file"
       bad=1
-    elif ! grep -qE "(^|[^[:alnum:]_·′-])$(sed 's/[.[\*^$()+?{|]/\\&/g' <<<"$name")([^[:alnum:]_·′-]|$)" "$file"; then
-      echo "claims: $file does not have $name"
+      continue
+    fi
+    if grep -qE "(^|[^[:alnum:]_·′-])$(sed 's/[.[\*^$()+?{|]/\\&/g' <<<"$name")([^[:alnum:]_·′-]|$)" "$file"; then found=1; fi
+    if [ "$found" -ne "$wanted" ]; then
+      echo "claims: $file $([ "$wanted" -eq 1 ] && echo "does not have" || echo "has") $name"
       bad=1
     fi
   done <<<"$carriers"
 done <"$table"
 [ "$rows" -gt 0 ] || { echo "claims: no rows"; bad=1; }
 [ "$bad" -eq 0 ] || exit 1
-echo "claims: $rows rows, $names names, all there"
+echo "claims: $rows rows, $names names, all as claimed"
