@@ -387,7 +387,7 @@ class Larder:
         return self.insert(path_bytes(spot[0]), spot[1], ref.LITERAL, self.free_label(spot[0]), self.rng.randbytes(size - least))
 
     def both_halves(self):
-        """Both ways of the target's halves, if pages allow."""
+        """Both ways of the target's halves, those that are not met yet, if pages allow."""
         for _ in range(4):
             if 0 in self.counts.halves[self.target]:
                 self.halved()
@@ -515,15 +515,14 @@ class Larder:
             self.aimed()
         elif start < 0.68:
             self.empty_nodes(b"", min(1500, self.limit // 10))      # over two records full
-        else:
-            self.both_halves()
+        self.both_halves()
         while self.counts.inserts < end and full < 8:
             chance = self.rng.random()
             if chance < 0.2:
                 self.refusal()
             elif chance < 0.205:
                 self.damaged()
-            elif chance < 0.21 or chance < 0.4 and 0 in self.counts.halves[self.target]:
+            elif chance < 0.22:
                 full += self.halved() == ref.FULL
             else:
                 full += self.rng.choice(ways)() == ref.FULL
