@@ -19,13 +19,13 @@ while IFS= read -r row; do
     names=$((names + 1))
     file=${carrier%%#*} name=${carrier#*#} wanted=1
     case "$name" in '!'*) name=${name#!} wanted=0 ;; esac
-    found=0
     if [ ! -f "$file" ]; then
       echo "claims: no file $file"
       bad=1
       continue
     fi
-    if grep -qE "(^|[^[:alnum:]_·′-])$(sed 's/[.[\*^$()+?{|]/\\&/g' <<<"$name")([^[:alnum:]_·′-]|$)" "$file"; then found=1; fi
+    found=1
+    grep -qE "(^|[^[:alnum:]_·′-])$(sed 's/[.[\*^$()+?{|]/\\&/g' <<<"$name")([^[:alnum:]_·′-]|$)" "$file" || { [ $? -eq 1 ] && found=0; }
     if [ "$found" -ne "$wanted" ]; then
       echo "claims: $file $([ "$wanted" -eq 1 ] && echo "does not have" || echo "has") $name"
       bad=1

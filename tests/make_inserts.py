@@ -85,7 +85,7 @@ class Counts:
         self.halves = {target: [0, 0] for target in TARGETS}      # splits at an exact half: to the number below, and above
 
     def target(self, rng):
-        """The ends and the usual one now and then, else one of which the fewest of its two halves were met."""
+        """The ends and the usual one now and then, else one whose halves were not both met yet, of those one with the fewest stores."""
         wanted = min(TARGETS, key=lambda target: ((0 not in self.halves[target]), self.stores_of[target], rng.random()))
         return rng.choice((rng.choice((64, 128, 192)), wanted, wanted, wanted))
 
@@ -112,7 +112,7 @@ class Larder:
         share = rng.choice((0, 0, 0.02, 0.1, 0.3, 0.5, 0.9))      # of pairs that are apart; they take many pages
         ranges = ((2, 5), (2, 5), (6, 12), (6, 12), (6, 12), (13, 40), (13, 40), (41, 100), (101, 200))
         self.pages = rng.randint(*rng.choice(ranges if share < 0.2 else ranges[3:]))
-        self.target = counts.target(rng)
+        target = counts.target(rng)
         tolerance = rng.choice((0, 7, 20, 409, 512, rng.randint(0, 100), rng.randint(0, 512)))
         matrix = bytearray(b"\x02" * 256)
         for at in range(256):
@@ -122,11 +122,15 @@ class Larder:
         self.longest = rng.choice((0, 12, 40, 200, ref.CONTENT, ref.CONTENT))
         self.image = bytearray(self.pages * ref.PAGE)
         self.write("I %d" % len(self.image))
-        self.ask("format %d %d %d 1 %s %d" % (self.pages, self.target, tolerance, matrix.hex(), rng.choice(self.labels)))
+        self.ask("format %d %d %d 1 %s %d" % (self.pages, target, tolerance, matrix.hex(), rng.choice(self.labels)))
         self.store = ref.read_store(self.image)
         counts.stores += 1
-        counts.stores_of[self.target] += 1
+        counts.stores_of[target] += 1
         counts.pages = max(counts.pages, self.pages)
+
+    @property
+    def target(self):
+        return self.store.settings.target
 
     def write(self, line):
         self.out.write(line + "\n")

@@ -3,9 +3,9 @@
     make_rounding.py > SCRIPT
 
 For each target and each remainder of target × S / 256 at a half, just below and just above it: a record of S bytes is split in which a child starts at
-the first byte past the product, so that a point that is one too low or too high gives another d, another lean and another image. Where the nearest
+the first byte past the product, so that the product's other neighbour as point gives another d, another lean and another image. Where the nearest
 number is above the product, the image that rounding down (the rule before E2) makes of the same inserts follows: it passes, its nodes are asked about,
-and it grows on by the rule of today. What was reached goes to standard error.
+and literals are appended until the rule of today splits it. What was reached goes to standard error.
 """
 
 import random
@@ -17,7 +17,7 @@ import reference as ref
 
 TARGETS = range(64, 193)
 LARGEST = ref.CAPACITY + ref.HEADER + ref.CONTENT     # a record with the node that makes it too large
-PAGES = 4                                             # the root's record and two groups
+PAGES = 5                                             # the root's record, two groups, and one more for a further split
 
 
 def rounded_down(target, record_size):
@@ -59,7 +59,11 @@ def ask_old(image, target, calls, rng, out):
         sys.exit("target %d: no other image, or one that does not pass" % target)
     made.put_image(old, out)
     made.ask_all(rng, old, 2, out)
-    made.ask("insert - 1 2 0 9 " + "41" * ref.CONTENT, old, out)
+    number = splits = 0
+    while number == splits == 0:
+        number, _, _, splits, _ = made.ask("insert - %d 2 0 9 %s" % (len(calls), "41" * ref.CONTENT), old, out)
+    if number:
+        sys.exit("target %d: the old image does not grow on" % target)
 
 
 def main():

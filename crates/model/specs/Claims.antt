@@ -42,9 +42,9 @@ largest (h ∷ hs) = max (recordSize (h .row)) (largest hs)
 abbrev pub distance : ℕ → ℕ → ℕ
 distance a b = (a - b) + (b - a)
 
--- The nearest whole number to n / 256, as one says it: 256 p is at most 128 from n, and where it is just 128 from it, p is even.
+-- The nearest whole number to n / 256, as one says it: 256 p is at most 128 from n, and where it is exactly 128 from it, p is even.
 pub record Nearest (n p : ℕ) : Type 0 where
-  pub near : distance (256 * p) n ≤ 128
+  pub atMost : distance (256 * p) n ≤ 128
   pub even : distance (256 * p) n ≡ 128 → p % 2 ≡ 0
 
 -- The split point is that number and no other, for every target and S.

@@ -245,10 +245,10 @@ module _ (st : Config) (near p S : ℕ) (tol : st .tolerance ≤ 512) (left-room
 -- what an oversize record's size says of the split point
 module _ (st : Config) (k : Ranges st) (S : ℕ) (over : capacity < S) (most : S ≤ (capacity + mostNode)) where
   p-low : S ≤ 4 * splitPoint st S + 2
-  p-low = let near = point-nearest st S in omega (arith, mul-le-mul-right S (k .low))
+  p-low = let n = point-nearest st S in omega (arith, mul-le-mul-right S (k .low))
 
   pub p-high : splitPoint st S ≤ 3455
-  p-high = let near = point-nearest st S in omega (arith, mul-le-mul-right S (k .high))
+  p-high = let n = point-nearest st S in omega (arith, mul-le-mul-right S (k .high))
 
 pub in-lean : (a p : ℕ) → a ≤ p + 132 → p ≤ a + 525 → InLean (subℕ a p)
 in-lean a p h k = cond-case InLean (ltb a p) (λ e. omega (arith, ltb-true a p e)) (λ e. omega (arith, ltb-false a p e))

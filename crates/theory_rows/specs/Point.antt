@@ -1,6 +1,5 @@
 -- The split point is the nearest whole number to target × S / 256, at an exact half the even one.
 use mathlib.Core.Path.{_≡_, refl, sym, subst}
-use mathlib.Core.Logic.{_↔_}
 use mathlib.Core.Bool.{Bool, true, false, cond}
 use Prim.Native.Nat.{ℕ, _+_, _*_, _/_, _%_, _≤_}
 use native.Mathlib.Omega.{arith}
@@ -19,12 +18,12 @@ point-nearest st S = go (st .target * S)
     go : (n : ℕ) → Nearest n (cond (ltb (n % 256) 128) (n / 256) (cond (eqb (n % 256) 128) (n / 256 + n / 256 % 2) (n / 256 + 1)))
     go n =
         cond-case (Nearest n) (ltb (n % 256) 128)
-        (λ a. let h = ltb-true (n % 256) 128 a in record { near = omega arith; even = λ e. omega arith })
+        (λ a. let h = ltb-true (n % 256) 128 a in record { atMost = omega arith; even = λ e. omega arith })
         (λ a.
         let h = ltb-false (n % 256) 128 a in
         cond-case (Nearest n) (eqb (n % 256) 128)
-        (λ b. let k = eqb-true (n % 256) 128 b in record { near = omega arith; even = λ e. omega arith })
-        (λ b. let k = eqb-false (n % 256) 128 b in record { near = omega arith; even = λ e. omega arith }))
+        (λ b. let k = eqb-true (n % 256) 128 b in record { atMost = omega arith; even = λ e. omega arith })
+        (λ b. let k = eqb-false (n % 256) 128 b in record { atMost = omega arith; even = λ e. omega arith }))
 
 -- of two such numbers none is less: they would be neighbours, each a half away, and not both are even
 not-less : (n p q : ℕ) → Nearest n p → Nearest n q → q ≤ p

@@ -133,7 +133,7 @@ pub record BenchSheet : Type 0 where
   pub last386 : put seven 7 386 .0 ≡ answer 1 3688 0 (pos 0)
   pub last386Used : used (put seven 7 386 .1) 1 ≡ capacity
   -- In every image, what the call keeps or splits at the end is the root record as the literal's coming in leaves it. Where no other record stands,
-  -- as in the two lines below, that is the record with the literal in it, and S, p and d are its.
+  -- as in the lines with S, p and d below, that is the record with the literal in it, and S, p and d are its.
   pub splitting : (img : List ℕ) (k n : ℕ)
       → put img k n ≡ onStore (opened img) (λ m. (insertRefused m, img)) (λ st root. ended img st root k n (grownFrom st root n (spotOf root [] k)))
   -- With 387 bytes instead: S 4,081, p 2,040, d starts at 1,584, lean -456.
@@ -141,7 +141,7 @@ pub record BenchSheet : Type 0 where
   pub last387p : pointP seven 7 387 ≡ 2040
   pub last387d : startD seven 7 387 ≡ 1584
   pub last387 : put seven 7 387 .0 ≡ answer 3 2110 1 (negsuc 455)
-  -- The point to the nearest byte, with target 128: 2,040.5 stays 2,040, and S of 4,083 gives 2,042; so with 389 bytes instead.
+  -- E2, with target 128: 2,040.5 stays 2,040, and S of 4,083 gives 2,042. With 389 bytes instead: S 4,083, p 2,042, d starts at 1,584, lean -458.
   pub nearest : (st : Config) → st .target ≡ 128 → (splitPoint st 4081 ≡ 2040) × (splitPoint st 4083 ≡ 2042)
   pub last389S : sizeS seven 7 389 ≡ 4083
   pub last389p : pointP seven 7 389 ≡ 2042
@@ -173,8 +173,8 @@ pub record BenchSheet : Type 0 where
 
 -- Naming this unfolds every definition that the calls compute with.
 computed : Unit {0}
-unfolding image inRange valid placeAt twoAt grow spotIn spotAfter rise kept close separator separate group twoGroups freeFrom splitPoint startOf lengthOk nodesIn
-    sameBytes reading insertNumber findIn formatNumber opened formatOf insertOf findOf
+unfolding image inRange valid placeAt twoAt grow spotIn spotAfter rise kept close separator separate group twoGroups freeFrom splitPoint startOf lengthOk
+    nodesIn sameBytes reading insertNumber findIn formatNumber opened formatOf insertOf findOf
 computed = tt
 
 abbrev rootOf : Row → Row

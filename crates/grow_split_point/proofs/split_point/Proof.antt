@@ -21,19 +21,19 @@ mul-n : tie.Need-mul-n
 mul-n c = omega (arith, product c)
 
 returns : tie.Need-returns
-returns c = point _ _ _ (record { near = omega arith; even = λ e. omega arith })
+returns c = point _ _ _ (record { atMost = omega arith; even = λ e. omega arith })
 
 add-result : tie.Need-add-result
 add-result c = omega (arith, product (c .before .before))
 
 returns-2 : tie.Need-returns-2
-returns-2 c = point _ _ _ (record { near = omega arith; even = λ e. omega arith })
+returns-2 c = point _ _ _ (record { atMost = omega arith; even = λ e. omega arith })
 
 add-result-2 : tie.Need-add-result-2
 add-result-2 c = omega (arith, product (c .before .before))
 
 returns-3 : tie.Need-returns-3
-returns-3 c = point _ _ _ (record { near = omega arith; even = λ e. omega arith })
+returns-3 c = point _ _ _ (record { atMost = omega arith; even = λ e. omega arith })
 
 pub split-point-spec : {M : Type 1} → statement M
 split-point-spec = tie.close (tie.spec mul-n returns add-result returns-2 add-result-2 returns-3)
