@@ -16,7 +16,6 @@ import reference as ref
 
 LONGEST = 9000                                        # no line is longer
 NEAR = ref.CAPACITY - ref.HEADER - ref.CONTENT        # from here on the biggest literal splits the record
-TARGETS = range(64, 193)
 LABELS = (0, 1, 2, 3, 7, 13, 14, 15, 16, 300, 65535)
 FAULTS = (ref.LEVEL, ref.BAD_KIND, ref.BAD_ORIGIN, ref.LONG, ref.ABSENT, ref.CLOSED, ref.GAP)      # what a refused insert may have wrong
 
@@ -81,12 +80,12 @@ class Counts:
         self.origins = [0] * ref.ORIGINS              # of accepted ones
         self.splits = [0, 0, 0, 0]                    # none, one, two, three or more
         self.leans = [0, 0]
-        self.stores_of = dict.fromkeys(TARGETS, 0)
-        self.halves = {target: [0, 0] for target in TARGETS}      # splits at an exact half: to the number below, and above
+        self.stores_of = dict.fromkeys(ref.TARGETS, 0)
+        self.halves = {target: [0, 0] for target in ref.TARGETS}      # splits at an exact half: to the number below, and above
 
     def target(self, rng):
         """The ends and the usual one now and then, else one whose halves were not both met yet, of those one with the fewest stores."""
-        wanted = min(TARGETS, key=lambda target: ((0 not in self.halves[target]), self.stores_of[target], rng.random()))
+        wanted = min(ref.TARGETS, key=lambda target: ((0 not in self.halves[target]), self.stores_of[target], rng.random()))
         return rng.choice((rng.choice((64, 128, 192)), wanted, wanted, wanted))
 
     def half_lines(self):
@@ -98,7 +97,7 @@ class Counts:
         yield "%d inserts in %d stores; accepted %d, by origin %d, %d, %d, %d" % (self.inserts, self.stores, sum(self.splits), *self.origins)
         yield "splits: none %d, one %d, two %d, three or more %d; longest cascade %d; leans %d to %d" % (*self.splits, self.longest, *self.leans)
         yield "stores with %d of the %d targets; splits at an exact half: %s" % (
-            sum(1 for count in self.stores_of.values() if count), len(TARGETS), "; ".join(self.half_lines()))
+            sum(1 for count in self.stores_of.values() if count), len(ref.TARGETS), "; ".join(self.half_lines()))
         yield "refused: " + ", ".join("%d of %d" % (count, number) for number, count in sorted(self.refused.items()))
         yield "records with over %d bytes, or split: %d; set apart: %d" % (NEAR, self.near, self.apart)
         yield "deepest level %d; largest image %d pages; most records %d" % (self.deepest, self.pages, self.records)

@@ -15,7 +15,6 @@ import unittest.mock
 import make_scripts as made
 import reference as ref
 
-TARGETS = range(64, 193)
 LARGEST = ref.CAPACITY + ref.HEADER + ref.CONTENT     # a record with the node that makes it too large
 PAGES = 5                                             # the root's record, two groups, and one more for a further split
 
@@ -68,7 +67,7 @@ def ask_old(image, target, calls, rng, out):
 
 def main():
     rng, out, counts = random.Random(2), [], {}
-    for target in TARGETS:
+    for target in ref.TARGETS:
         for (remainder, odd), size in sizes(target).items():
             image, calls = bytearray(PAGES * ref.PAGE), inserts(target, size)
             out.append("I %d" % len(image))
@@ -81,7 +80,7 @@ def main():
     print("V 1 %s %d" % (ref.RULES, max(len(line) + 1 for line in out)))
     print("\n".join(out))
     print("%d targets; splits just below a half: %d, at a half that goes down: %d, up: %d, just above: %d; with the image of rounding down: %d" % (
-        len(TARGETS), counts[127, False], counts[128, 0], counts[128, 1], counts[129, False], counts[128, 1] + counts[129, False]), file=sys.stderr)
+        len(ref.TARGETS), counts[127, False], counts[128, 0], counts[128, 1], counts[129, False], counts[128, 1] + counts[129, False]), file=sys.stderr)
 
 
 if __name__ == "__main__":

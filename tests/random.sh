@@ -30,6 +30,6 @@ awk -v kind="$kind" '/ calls, / { calls += $2; differences += $4 }
     match($0, /exact half: [0-9]+ go down/) { split(substr($0, RSTART), word, " "); down += word[3] }
     match($0, /[0-9]+ go up/) { split(substr($0, RSTART), word, " "); up += word[1] }
     END {
-        halves = kind == "inserts" ? "; splits at an exact half: " down " go down, " up " up" : ""
+        halves = kind == "inserts" ? "; splits at an exact half: " down + 0 " go down, " up + 0 " up" : ""
         print kind ": " calls " calls compared, " differences " differences" halves
     }' "target/$kind.log"

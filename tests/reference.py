@@ -18,6 +18,7 @@ HEADER = 6
 PAGES = 1024
 LEVELS = 24
 CONTENT = 520
+TARGETS = range(64, 193)
 SETTINGS_LENGTH = 272
 CLASSES = 16
 ORIGINS = 4                                           # seen on the wire, read from a store, typed in, derived
@@ -137,7 +138,7 @@ def size(node):
 # ---- From the image to the store: the check
 
 def settings_in_range(settings, pages):
-    return (settings.pages == pages and 64 <= settings.target <= 192 and settings.tolerance <= 512
+    return (settings.pages == pages and settings.target in TARGETS and settings.tolerance <= 512
             and settings.form == 1 and len(settings.matrix) == 256 and all(m in (0, 2) for m in settings.matrix))
 
 

@@ -14,6 +14,7 @@ use Rattle.grow_split_point.proofs.split_point.Tie as tie
 product : (c : tie.Start) → c .args .target * c .args .size ≤ 192 * c .args .size
 product c = mul-le-mul-right (c .args .size) (c .pre .0)
 
+-- what is nearest to the product is the split point
 point : (t s p : ℕ) → Nearest (t * s) p → (st : Config) → st .target ≡ t → p ≡ splitPoint st s
 point t s p a st e = split-point st s p .1 (subst (λ (t : ℕ). Nearest (t * s) p) (sym e) a)
 
