@@ -12,8 +12,8 @@ use Rattle.model.specs.Row.{Head, Row, nil, agg, lit, rec, _⊹_, size, lone, b
 use Rattle.model.specs.Tree.{width, placeAt}
 use Rattle.model.specs.declared.Place.{Place}
 use Rattle.theory_rows.specs.Laws.{size-⊹}
-use Rattle.model.specs.Spot.{Position, here, inside, fill, past, into, Chain, below, lastPage, Spot, spotAt, spotAfter, spotChild, spotIn}
-use Rattle.theory_growth.specs.Chain.{both, before, fill-past, fill-into, whole, hang, hang-past}
+use Rattle.model.specs.Spot.{Position, here, inside, fill, past, into, Chain, below, lastPage, Spot, spotAt, spotAfter, spotChild, spotIn, whole}
+use Rattle.theory_growth.specs.Chain.{both, before, fill-past, fill-into, hang, hang-past}
 use Rattle.grow_splice.specs.Position.{parent}
 use Rattle.grow_locate.specs.declared.Located.{Located}
 use Rattle.grow_locate.specs.Behind.{goesTo, behindOf, behind-zero}

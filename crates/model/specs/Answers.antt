@@ -66,7 +66,7 @@ nextNumbers End = 0 ∷ 0 ∷ 0 ∷ 0 ∷ 0 ∷ []
 
 -- ── the refusal table ──
 
--- In document 01's words: misfit, settings, broken, level, kind, long, absent, closed, gap, stray, short, full; E1 adds 13.
+-- In document 01's words: misfit, settings, broken, level, kind, long, absent, closed, gap, stray, short, full; E1 adds 13, E3 14.
 abbrev pub wrongLength : ℕ
 wrongLength = 1
 
@@ -106,7 +106,10 @@ noFreePage = 12
 abbrev pub wrongOrigin : ℕ
 wrongOrigin = 13
 
--- The number of the first test that applies; an accepted call has 0. The tests of a call are in the order of the table, 13 directly after 5.
+abbrev pub emptyPath : ℕ
+emptyPath = 14
+
+-- The number of the first test that applies; an accepted call has 0. The tests of a call are in the order of the table, 13 directly after 5, 14 after 4.
 abbrev pub firstRefusal : List (ℕ × Bool) → ℕ
 firstRefusal [] = 0
 firstRefusal (t ∷ ts) = let r = firstRefusal ts in cond (t .1) (t .0) r

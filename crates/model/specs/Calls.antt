@@ -2,6 +2,7 @@
 pub mod Format
 pub mod Check
 pub mod Insert
+pub mod Remove
 pub mod Find
 pub mod Climb
 pub mod Read
@@ -13,6 +14,7 @@ use Rattle.model.specs.Effect.{Effect}
 use Format.{formatCall}
 use Check.{checkCall}
 use Insert.{insertCall}
+use Remove.{removeCall}
 use Find.{findCall}
 use Climb.{climbCall}
 use Read.{readCall}

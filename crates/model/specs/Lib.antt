@@ -3,6 +3,7 @@ pub mod Row
 pub mod Tree
 pub mod Spot
 pub mod Growth
+pub mod Removal
 pub mod Reading
 pub mod Answers
 pub mod Common

@@ -41,6 +41,11 @@ abbrev pub lastPage : Chain → ℕ
 lastPage top = 1
 lastPage (below c s q b rest) = q
 
+-- The root record, if the last record holds `row`.
+abbrev pub whole : Chain → (row : Row) → Row
+whole top row = row
+whole (below c s q b rest) row = whole c (fill s (rec q b row rest))
+
 -- ── the spot ──
 
 -- Where a new node goes: the records down to the one that takes it, the position in that record, the row that follows it there, and the header of the logical

@@ -114,6 +114,18 @@ insertAt x k (suc i) path (branch h cs rest) = branch h cs (insertAt x k i path 
 insertAt x k zero path (leaf h c rest) = leaf h c rest
 insertAt x k (suc i) path (leaf h c rest) = leaf h c (insertAt x k i path rest)
 
+-- ── the plain tree's removal ──
+
+-- The node that the path names from node i of the row is gone with all under it; later ones move down by one.
+abbrev pub removeAt : (i : ℕ) → (path : List ℕ) → Tree → Tree
+removeAt i path end = end
+removeAt zero [] (branch h cs rest) = rest
+removeAt zero (j ∷ path) (branch h cs rest) = branch h (removeAt j path cs) rest
+removeAt (suc i) path (branch h cs rest) = branch h cs (removeAt i path rest)
+removeAt zero [] (leaf h c rest) = rest
+removeAt zero (j ∷ path) (leaf h c rest) = leaf h c rest
+removeAt (suc i) path (leaf h c rest) = leaf h c (removeAt i path rest)
+
 -- ── places ──
 
 abbrev pub samePlace : Place → Place → Bool

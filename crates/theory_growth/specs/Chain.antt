@@ -5,7 +5,7 @@ use Prim.Native.Nat.{ℕ, suc, _+_, _≤_}
 use native.Mathlib.Omega.{arith}
 use lib.Dec.{eqb}
 use Rattle.model.specs.Row.{Head, Row, nil, agg, lit, rec, _⊹_, store, size, isNil, lone, nodeCount, count}
-use Rattle.model.specs.Spot.{Position, here, inside, fill, past, into, Chain, top, below, lastPage, Spot}
+use Rattle.model.specs.Spot.{Position, here, inside, fill, past, into, Chain, top, below, lastPage, Spot, whole}
 use Rattle.theory_rows.specs.Laws.{⊹-assoc, size-⊹}
 use Rattle.theory_rows.specs.Fits.{Fits, RecordFits}
 use Rattle.theory_rows.specs.Bound.{Fits-⊹, fits-parts, isNil-⊹}
@@ -32,11 +32,6 @@ lastSettled (below c s q b rest) = b
 abbrev pub lastHolder : Chain → ℕ
 lastHolder top = 0
 lastHolder (below c s q b rest) = lastPage c
-
--- The root record, if the last record holds `row`.
-abbrev pub whole : Chain → (row : Row) → Row
-whole top row = row
-whole (below c s q b rest) row = whole c (fill s (rec q b row rest))
 
 -- The root record that has this spot.
 abbrev pub wholeOf : Spot → Row

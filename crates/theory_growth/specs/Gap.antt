@@ -9,11 +9,11 @@ use borrow.Author.Tests.{ltb-true}
 use lib.Dec.{ltb}
 use Rattle.model.specs.Row.{Head, Row, nil, agg, lit, rec, _⊹_, nodeCount, lone}
 use Rattle.model.specs.Tree.{Tree, branch, _⊞_, shown, width, New, newNode, putAt, insertAt}
-use Rattle.model.specs.Spot.{Position, here, inside, fill, past, into, Chain, top, below, Spot, spotAt, spotAfter, spotChild, spotIn, spotOf}
+use Rattle.model.specs.Spot.{Position, here, inside, fill, past, into, Chain, top, below, Spot, spotAt, spotAfter, spotChild, spotIn, spotOf, whole}
 use Rattle.theory_rows.specs.Laws.{cond-case, ⊹-assoc, ⊞-end, breadth-shown, within, beyond}
 use Rattle.theory_rows.specs.Laws.{putAt-left, putAt-right, putAt-lone, insertAt-left, insertAt-right}
 use Rattle.theory_rows.specs.Keeps.{nodeCount-⊹}
-use Rattle.theory_growth.specs.Chain.{whole, wholeOf, fill-past, fill-into, two-nodes, lone-inside}
+use Rattle.theory_growth.specs.Chain.{wholeOf, fill-past, fill-into, two-nodes, lone-inside}
 use Rattle.theory_growth.specs.Shown.{around, above, around-past, around-into}
 
 -- A position in an aggregate, or in a record with a helper: never beside a record's only node.

@@ -5,12 +5,12 @@ use Prim.Native.Nat.{ℕ, _+_, _≤_}
 use native.Mathlib.Omega.{arith}
 use Rattle.model.specs.Row.{Row, nil, rec, count, outside, Config}
 use Rattle.model.specs.Tree.{New}
-use Rattle.model.specs.Spot.{fill, Chain, top, below, lastPage, Spot}
+use Rattle.model.specs.Spot.{fill, Chain, top, below, lastPage, Spot, whole}
 use Rattle.model.specs.Growth.{Out, onRow, close, place, rise, received, risen, atRest}
 use Rattle.theory_rows.specs.Pages.{bit, Tally, Tallies, tally-kept, tally-close, tally-place, reserved, tally-rest, names}
 use Rattle.theory_rows.specs.Fits.{Placed}
 use Rattle.theory_rows.specs.Laws.{cond-case}
-use Rattle.theory_growth.specs.Chain.{both, whole, wholeOf, count-refill, beside, along, count-chain}
+use Rattle.theory_growth.specs.Chain.{both, wholeOf, count-refill, beside, along, count-chain}
 
 module _ (st : Config) where
   tally-rise : (e : ℕ → ℕ) (c : Chain) (o : Out) → Tally e (names (whole c (o .0))) (o .1) → Tallies st e (rise st c o)

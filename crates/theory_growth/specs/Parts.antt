@@ -4,8 +4,7 @@ use mathlib.Core.List.{List}
 use Prim.Native.Nat.{ℕ, _≤_}
 use native.Mathlib.Omega.{arith}
 use Rattle.model.specs.Row.{Head, Row, nil, agg, lit, rec, _⊹_, count}
-use Rattle.model.specs.Spot.{Position, here, inside, fill, Chain, top, below}
-use Rattle.theory_growth.specs.Chain.{whole}
+use Rattle.model.specs.Spot.{Position, here, inside, fill, Chain, top, below, whole}
 
 -- A measure of rows that is no larger on a row's parts.
 pub record Part (f : Row → ℕ) : Type 0 where

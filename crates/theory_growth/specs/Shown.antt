@@ -4,13 +4,12 @@ use mathlib.Core.Bool.{Bool}
 use Prim.Native.Nat.{ℕ}
 use Rattle.model.specs.Row.{Head, Row, agg, rec, height, Config}
 use Rattle.model.specs.Tree.{Tree, branch, _⊞_, shown}
-use Rattle.model.specs.Spot.{Position, here, inside, fill, past, into, Chain, top, below}
+use Rattle.model.specs.Spot.{Position, here, inside, fill, past, into, Chain, top, below, whole}
 use Rattle.model.specs.Growth.{Out, onRow, close, rise}
 use Rattle.theory_rows.specs.Laws.{⊞-assoc, shown-⊹}
 use Rattle.theory_rows.specs.Shows.{shown-kept, shown-close}
 use Rattle.theory_rows.specs.Keeps.{height-shown, levels}
 use Rattle.theory_rows.specs.Population.{population, treePopulation, population-shown}
-use Rattle.theory_growth.specs.Chain.{whole}
 
 -- The tree that a row shows, if what is put at the position shows t,
 abbrev pub around : Position → Tree → Tree

@@ -10,7 +10,7 @@ use lib.Dec.{eqb}
 use Rattle.model.specs.Limits.{mostContent}
 use Rattle.model.specs.Row.{Head, Row, nil, agg, lit, rec, store, _⊹_, lone, nodeCount, Config, height, isAgg}
 use Rattle.model.specs.Tree.{width, Tree, end, branch, leaf, shown, New, insertAt}
-use Rattle.model.specs.Spot.{fill, lastPage, Spot, spotOf}
+use Rattle.model.specs.Spot.{fill, lastPage, Spot, spotOf, whole}
 use Rattle.model.specs.Growth.{Work, Out, freeFrom, apart, asRow, place, received, risen, fromSpot, atRest, grow}
 use Rattle.theory_rows.specs.Fits.{HeadFits, Fits, Shape, one, IsByte, Valid}
 use Rattle.theory_rows.specs.Laws.{cond-case}
@@ -18,7 +18,7 @@ use Rattle.theory_rows.specs.Shows.{shown-place}
 use Rattle.theory_rows.specs.Keeps.{levels, height-shown, levels-insertAt, Grew, place-good}
 use Rattle.theory_rows.specs.Pages.{Tallies, reserved}
 use Rattle.theory_rows.specs.Lean.{Leaned, lean-place}
-use Rattle.theory_growth.specs.Chain.{both, whole, size-fill, nodes-fill, fits-fill, fits-refill, chain-fits}
+use Rattle.theory_growth.specs.Chain.{both, size-fill, nodes-fill, fits-fill, fits-refill, chain-fits}
 use Rattle.theory_growth.specs.Shown.{around, above, shown-fill, shown-whole, shown-rise, height-rise}
 use Rattle.theory_growth.specs.Pages.{tally-risen, placed-risen}
 use Rattle.theory_growth.specs.Keeps.{Grows, rise-good}

@@ -2,10 +2,9 @@
 use Prim.Native.Nat.{ℕ, suc, _+_, _≤_}
 use native.Mathlib.Omega.{arith}
 use Rattle.model.specs.Row.{Row, rec}
-use Rattle.model.specs.Spot.{fill, Chain, top, below}
+use Rattle.model.specs.Spot.{fill, Chain, top, below, whole}
 use Rattle.theory_decoding.specs.Steps.{steps}
 use Rattle.theory_layout.specs.Here.{nesting}
-use Rattle.theory_growth.specs.Chain.{whole}
 use Rattle.theory_growth.specs.Parts.{Part, part-fill}
 
 pub nesting-part : Part nesting
