@@ -12,8 +12,8 @@ use Rattle.model.specs.Reading.{pageOf}
 use Rattle.model.specs.Growth.{Work, Out, separator, rise}
 use Rattle.base_numbers.specs.Over.{over, length-over}
 use Rattle.theory_rows.specs.Laws.{length-bytes}
-use Rattle.model.specs.Spot.{Chain, top, below}
-use Rattle.theory_growth.specs.Chain.{lastSettled, lastHolder}
+use Rattle.model.specs.Spot.{Chain, top, below, lastHolder}
+use Rattle.theory_growth.specs.Chain.{lastSettled}
 use Rattle.theory_page_memory.specs.Memory.{Mem, riseMem}
 use Rattle.base_layout.specs.declared.Growing.{Growing}
 use Rattle.base_layout.specs.Growing.{nearTo}

@@ -21,12 +21,12 @@ use Rattle.theory_rows.specs.Pages.{bit, or-right, reserved}
 use Rattle.theory_decoding.specs.Decode.{in-trailer, two-bytes}
 use Rattle.theory_decoding.specs.Reading.{reads-valid, reads-length}
 use Rattle.theory_layout.specs.Here.{PageIn, OnPage, page-byte, page-number}
-use Rattle.model.specs.Spot.{Chain, top, below, lastPage, whole}
+use Rattle.model.specs.Spot.{Chain, top, below, lastPage, whole, lastHolder}
 use Rattle.theory_rows.specs.Population.{population}
 use Rattle.theory_places.specs.Widths.{Told}
 use Rattle.theory_growth.specs.Told.{told-chain, population-whole}
 use Rattle.grow_widths.specs.Tally.{mostEntry}
-use Rattle.theory_growth.specs.Chain.{lastSettled, lastHolder, count-chain}
+use Rattle.theory_growth.specs.Chain.{lastSettled, count-chain}
 use Rattle.theory_growth.specs.Keeps.{Grows, grows-splits, grows-some, split-able}
 use Rattle.theory_growth.specs.Shown.{population-rise}
 use Rattle.theory_insert_point.specs.Bytes.{lastHeld, chain-page, chain-bytes}

@@ -23,8 +23,8 @@ use Rattle.theory_rows.specs.Shows.{shown-separator}
 use Rattle.theory_rows.specs.Keeps.{separator-lone}
 use Rattle.theory_growth.specs.Store.{settled-lone}
 use Rattle.base_numbers.specs.Over.{take-over}
-use Rattle.model.specs.Spot.{Chain, lastPage, whole}
-use Rattle.theory_growth.specs.Chain.{lastSettled, lastHolder}
+use Rattle.model.specs.Spot.{Chain, lastPage, whole, lastHolder}
+use Rattle.theory_growth.specs.Chain.{lastSettled}
 use Rattle.theory_growth.specs.Keeps.{grows-splits}
 use Rattle.theory_places.specs.Widths.{told-same}
 use Rattle.theory_growth.specs.Told.{told-swap}

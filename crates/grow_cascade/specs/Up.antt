@@ -22,8 +22,8 @@ use Rattle.theory_rows.specs.Laws.{width-⊹, length-bytes}
 use Rattle.theory_rows.specs.Image.{length-record}
 use Rattle.base_numbers.specs.Over.{over, take-over}
 use Rattle.theory_layout.specs.Here.{PageIn, OnPage}
-use Rattle.model.specs.Spot.{Position, fill, Chain, below, lastPage, whole}
-use Rattle.theory_growth.specs.Chain.{in-fill, refill, fill-more, fill-less, lastSettled, lastHolder, chain-fits, count-refill, count-chain}
+use Rattle.model.specs.Spot.{Position, fill, Chain, below, lastPage, whole, lastHolder}
+use Rattle.theory_growth.specs.Chain.{in-fill, refill, fill-more, fill-less, lastSettled, chain-fits, count-refill, count-chain}
 use Rattle.theory_growth.specs.Keeps.{grows-goes}
 use Rattle.theory_insert_point.specs.Bytes.{lastHeld, chain-bytes}
 use Rattle.theory_growth.specs.Full.{full-rise}

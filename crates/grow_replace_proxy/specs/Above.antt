@@ -9,8 +9,7 @@ use Rattle.model.specs.Reading.{Reads}
 use Rattle.theory_rows.specs.Image.{once}
 use Rattle.theory_decoding.specs.Reading.{reads-valid}
 use Rattle.theory_layout.specs.Here.{OnPage}
-use Rattle.model.specs.Spot.{Position, fill, Chain, below, lastPage, whole}
-use Rattle.theory_growth.specs.Chain.{lastHolder}
+use Rattle.model.specs.Spot.{Position, fill, Chain, below, lastPage, whole, lastHolder}
 use Rattle.theory_insert_point.specs.Bytes.{chain-page}
 use Rattle.theory_growth.specs.Parts.{part-whole, count-part}
 use Rattle.grow_replace_proxy.specs.Seek.{count-position}

@@ -30,8 +30,8 @@ use Rattle.theory_rows.specs.Image.{Stored, length-record}
 use Rattle.theory_growth.specs.Full.{full-rise}
 use Rattle.grow_groups.specs.Used.{marked-beyond}
 use Rattle.base_numbers.specs.Over.{over, take-over}
-use Rattle.model.specs.Spot.{Position, fill, Chain, lastPage, whole}
-use Rattle.theory_growth.specs.Chain.{both, fill-more, lastSettled, lastHolder, beside, along, count-chain}
+use Rattle.model.specs.Spot.{Position, fill, Chain, lastPage, whole, lastHolder}
+use Rattle.theory_growth.specs.Chain.{both, fill-more, lastSettled, beside, along, count-chain}
 use Rattle.theory_growth.specs.Keeps.{Grows}
 use Rattle.theory_growth.specs.Gap.{Gap, spot-gap}
 use Rattle.theory_insert_point.specs.Bytes.{lastHeld, chain-page, chain-bytes}

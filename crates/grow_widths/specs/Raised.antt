@@ -12,10 +12,10 @@ use Rattle.model.specs.Limits.{mostPages, pageSize}
 use Rattle.model.specs.Row.{Row, agg, rec, _⊹_, Config}
 use Rattle.model.specs.Reading.{Reads, backAt}
 use Rattle.model.specs.Tree.{width}
-use Rattle.model.specs.Spot.{Position, here, inside, fill, Chain, top, below, lastPage, whole}
+use Rattle.model.specs.Spot.{Position, here, inside, fill, Chain, top, below, lastPage, whole, lastHolder}
 use Rattle.theory_rows.specs.Laws.{width-⊹}
 use Rattle.theory_rows.specs.Population.{population, width-population}
-use Rattle.theory_growth.specs.Chain.{lastHolder, along, hang}
+use Rattle.theory_growth.specs.Chain.{along, hang}
 use Rattle.theory_growth.specs.Told.{ToldAlong, along-own, along-same, along-width, population-whole}
 use Rattle.theory_layout.specs.Here.{OnPage}
 use Rattle.theory_insert_point.specs.Bytes.{chain-page}

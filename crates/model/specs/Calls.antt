@@ -28,6 +28,7 @@ pub data Call (order : (img buffer : List ℕ) → List ℕ) : Effect → Type 1
   format : (s : Settings) (matrix : List ℕ) (label : ℕ) → Call order (formatCall s matrix label)
   check : Call order checkCall
   insert : (path : List ℕ) (child kind origin label : ℕ) (content : List ℕ) → Call order (insertCall path child kind origin label content)
+  remove : (path : List ℕ) → Call order (removeCall path)
   find : (path : List ℕ) → Call order (findCall path)
   climb : (x : Place) (buffer : List ℕ) → Call order (climbCall x buffer)
   read : (x : Place) → Call order (readCall x)

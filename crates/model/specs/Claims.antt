@@ -1,22 +1,26 @@
 -- What is claimed, as statements; the crates above prove them.
 use mathlib.Core.Path.{_≡_}
 use mathlib.Core.Logic.{_↔_}
-use mathlib.Core.Bool.{true, false}
+use mathlib.Core.Bool.{Bool, true, false, _&&_, _||_}
 use mathlib.Core.List.{List, [], _∷_, _++_, map}
 use mathlib.Core.Option.{none, some}
 use Prim.Native.Nat.{ℕ, _+_, _-_, _*_, _%_, _≤_, _<_, max}
-use lib.ListN.{length, drop}
+use lib.ListN.{length, take, drop}
+use lib.Dec.{ltb, eqb}
 use lib.IntN.{ℤ, pos, negsuc, subℕ}
 use Rattle.model.specs.Limits.{capacity}
-use Rattle.model.specs.Row.{Row, store, size, base, lone, Held, records, recordSize, Config, every, isByte, inRange, fits, height, valid}
-use Rattle.model.specs.Tree.{Tree, shown, Node, nodes, named, New, insertAt, placeOf}
+use Rattle.model.specs.Row.{Row, store, size, base, lone, loneRec, Held, records, recordSize, Config, every, isByte, inRange, fits, height, count, valid}
+use Rattle.model.specs.Tree.{Tree, shown, Node, nodes, named, New, insertAt, removeAt, placeOf}
+use Rattle.model.specs.Spot.{fill, lastPage, lastHolder}
+use Rattle.model.specs.Removal.{Stand, standOf, removed}
 use Rattle.model.specs.Growth.{Work, splitPoint, startOfD, rootRow, separator}
-use Rattle.model.specs.Reading.{Reads, lengthOk, reading}
+use Rattle.model.specs.Reading.{Reads, lengthOk, reading, pageOf}
 use Rattle.model.specs.Answers.{notPassed, wrongLength, noFreePage}
 use Rattle.model.specs.Common.{pathOf, namedBy, opened, onStore, treeOn}
 use Rattle.model.specs.Effect.{Effect, roomy, feedOf, handedOf}
 use Rattle.model.specs.Calls.Check.{checkOf}
 use Rattle.model.specs.Calls.Insert.{insertNumber, grown}
+use Rattle.model.specs.Calls.Remove.{removeNumber, removeOf}
 use Rattle.model.specs.Calls.Find.{findOf}
 use Rattle.model.specs.Calls.Climb.{climbOf}
 use Rattle.model.specs.Calls.Records.{IsOrder}
@@ -94,6 +98,49 @@ pub record GrowthHolds (st : Config) (root : Row) (path : List ℕ) (k : ℕ) (x
 abbrev pub Growth : Type 0
 Growth = (st : Config) (root : Row) (path : List ℕ) (k : ℕ) (x : New) → valid st root ≡ true → x .head .label < 65536 → every isByte (x .content) ≡ true
     → insertNumber (shown root) path k x (grown st root path k x .1 .full) ≡ 0 → GrowthHolds st root path k x
+
+-- ── removal ──
+
+-- An accepted removal: the store stays valid and shows the plain tree's removal.
+pub record RemovalHolds (st : Config) (root : Row) (path : List ℕ) : Type 0 where
+  pub keeps : valid st (removed root (pathOf path)) ≡ true
+  pub shows : shown (removed root (pathOf path)) ≡ removeAt 0 (pathOf path) (shown root)
+
+abbrev pub Removal : Type 0
+Removal = (st : Config) (root : Row) (path : List ℕ) → valid st root ≡ true → removeNumber (shown root) path ≡ 0 → RemovalHolds st root path
+
+-- The pages of the branch's records, of the record that held the node or its proxy, and, where a helper is replaced by a proxy child, of the helper's holder.
+abbrev pub touched : Stand → ℕ → Bool
+touched t q =
+    ltb 0 (count q (t .node)) || eqb q (lastPage (t .chain)) || (loneRec (fill (t .position) (t .rest)) && eqb q (lastHolder (t .chain)))
+
+-- Two pages with the same bytes but trailer bytes 4-5, the back link.
+pub record SameButLink (a b : List ℕ) : Type 0 where
+  pub front : take (capacity + 4) a ≡ take (capacity + 4) b
+  pub back : drop (capacity + 6) a ≡ drop (capacity + 6) b
+
+-- No other record changes except back links.
+abbrev pub OthersStay : Type 0
+OthersStay = (img : List ℕ) (st : Config) (root : Row) (path : List ℕ) (t : Stand) → Reads img st root → removeNumber (shown root) path ≡ 0
+    → standOf root (pathOf path) ≡ some t → (q : ℕ) → touched t q ≡ false → SameButLink (pageOf (removeOf img path .1) q) (pageOf img q)
+
+-- ── put in and taken out ──
+
+-- A node put in below a node: what, as which child, of which node; the path goes on from there.
+pub record Put : Type 0 where
+  pub new : New
+  pub path : List ℕ
+  pub child : ℕ
+
+-- The tree once nodes have been put in below the node that the path names, one after another.
+abbrev pub putBelow : (path : List ℕ) → List Put → Tree → Tree
+putBelow path [] t = t
+putBelow path (p ∷ ps) t = putBelow path ps (insertAt (p .new) (p .child) 0 (path ++ p .path) t)
+
+-- A branch put in and taken out again leaves the former tree: the first insert puts its top, as child k of the node that the path names, the others go under it.
+abbrev pub PutInTakenOut : Type 0
+PutInTakenOut = (t : Tree) (path : List ℕ) (k : ℕ) (x : New) (ps : List Put) (n : Node) → named t path ≡ some n → n .kind ≡ 1 → k ≤ n .children
+    → removeAt 0 (path ++ k ∷ []) (putBelow (path ++ k ∷ []) ps (insertAt x k 0 path t)) ≡ t
 
 -- ── demand 3 ──
 

@@ -41,6 +41,11 @@ abbrev pub lastPage : Chain → ℕ
 lastPage top = 1
 lastPage (below c s q b rest) = q
 
+-- The page whose record holds the proxy to the last record; 0 for the root record.
+abbrev pub lastHolder : Chain → ℕ
+lastHolder top = 0
+lastHolder (below c s q b rest) = lastPage c
+
 -- The root record, if the last record holds `row`.
 abbrev pub whole : Chain → (row : Row) → Row
 whole top row = row

@@ -8,13 +8,14 @@ use Rattle.model.specs.Tree.{Tree, shown}
 use Rattle.model.specs.Reading.{Reads}
 use Rattle.model.specs.Common.{treeOn}
 use Rattle.model.specs.Effect.{Effect, feedOf, handedOf}
-use Rattle.model.specs.Calls.{Call, format, check, insert, find, climb, read, next, records}
+use Rattle.model.specs.Calls.{Call, format, check, insert, remove, find, climb, read, next, records}
 use Rattle.model.specs.Claims.{Matches, CallHolds, Calls, Agrees, Orders, Demand3}
 use Rattle.theory_calls.specs.Open.{opens, passing}
 use Rattle.theory_calls.specs.Matches.{image-matches}
 use Rattle.theory_calls.specs.Format.{format-holds}
 use Rattle.theory_calls.specs.Check.{check-holds}
 use Rattle.theory_calls.specs.Insert.{insert-holds}
+use Rattle.theory_calls.specs.Remove.{remove-holds}
 use Rattle.theory_calls.specs.Find.{find-holds}
 use Rattle.theory_calls.specs.Climb.{climb-holds}
 use Rattle.theory_calls.specs.Read.{read-holds}
@@ -43,6 +44,7 @@ module _ (order : (img buffer : List ℕ) → List ℕ) (o : Orders order) where
   one-call img st root r c (format s m label) y = format-holds order img st root r s m label y
   one-call img st root r c check y = check-holds order img st root r
   one-call img st root r c (insert path child kind origin label content) y = insert-holds order img st root r path child kind origin label content y
+  one-call img st root r c (remove path) y = remove-holds order img st root r path
   one-call img st root r c (find path) y = find-holds order img st root r path
   one-call img st root r c (climb x buffer) y = climb-holds order img st root r x buffer
   one-call img st root r c (read x) y = read-holds order img st root r x

@@ -9,6 +9,7 @@ pub mod Check
 pub mod Tests
 pub mod Spot
 pub mod Insert
+pub mod Remove
 pub mod Find
 pub mod Climb
 pub mod Read

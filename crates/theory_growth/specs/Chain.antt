@@ -28,11 +28,6 @@ abbrev pub lastSettled : Chain → Bool
 lastSettled top = true
 lastSettled (below c s q b rest) = b
 
--- The page whose record holds the proxy to the last record; 0 for the root record.
-abbrev pub lastHolder : Chain → ℕ
-lastHolder top = 0
-lastHolder (below c s q b rest) = lastPage c
-
 -- The root record that has this spot.
 abbrev pub wholeOf : Spot → Row
 wholeOf t = whole (t .chain) (fill (t .position) (t .rest))

@@ -33,7 +33,7 @@ pub record NewFits (x : New) : Type 0 where
 pub settled-lone : (r : Row) → Shape true r → lone r ≡ true
 settled-lone r (one e) = e
 
-abbrev isBranch : Tree → Bool
+abbrev pub isBranch : Tree → Bool
 isBranch end = false
 isBranch (branch l cs rest) = true
 isBranch (leaf l c rest) = false
@@ -44,7 +44,7 @@ branch-insert x n [] (branch l cs rest) = refl
 branch-insert x n (j ∷ path) (branch l cs rest) = refl
 branch-insert x n path (leaf l c rest) = refl
 
-agg-branch : (r : Row) → lone r ≡ true → isAgg r ≡ isBranch (shown r)
+pub agg-branch : (r : Row) → lone r ≡ true → isAgg r ≡ isBranch (shown r)
 agg-branch nil e = absurd (false≢true e)
 agg-branch (agg l cs rest) e = refl
 agg-branch (lit l c rest) e = refl

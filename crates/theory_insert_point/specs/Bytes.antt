@@ -13,8 +13,8 @@ use Rattle.theory_rows.specs.Image.{Stored}
 use Rattle.theory_decoding.specs.Decode.{stored-image}
 use Rattle.theory_decoding.specs.Reading.{reads-valid}
 use Rattle.theory_layout.specs.Here.{Here, OnPage, view, root-page}
-use Rattle.model.specs.Spot.{Position, here, inside, fill, Chain, top, below, lastPage, Spot, spotOf, whole}
-use Rattle.theory_growth.specs.Chain.{before, lastSettled, lastHolder}
+use Rattle.model.specs.Spot.{Position, here, inside, fill, Chain, top, below, lastPage, Spot, spotOf, whole, lastHolder}
+use Rattle.theory_growth.specs.Chain.{before, lastSettled}
 use Rattle.theory_growth.specs.Gap.{spot-whole}
 
 -- ── the records of a chain ──

@@ -14,8 +14,8 @@ use Rattle.theory_rows.specs.Fits.{Fits}
 use Rattle.theory_rows.specs.Image.{Stored}
 use Rattle.theory_rows.specs.Laws.{bytes-⊹, cond-case}
 use Rattle.theory_rows.specs.Pages.{bit, reserved}
-use Rattle.model.specs.Spot.{Position, here, inside, fill, Chain, top, below, lastPage, whole}
-use Rattle.theory_growth.specs.Chain.{lastSettled, lastHolder, fill-more, fill-less, size-fill, chain-fits, lone-inside, proxy-beside, beside, along}
+use Rattle.model.specs.Spot.{Position, here, inside, fill, Chain, top, below, lastPage, whole, lastHolder}
+use Rattle.theory_growth.specs.Chain.{lastSettled, fill-more, fill-less, size-fill, chain-fits, lone-inside, proxy-beside, beside, along}
 use Rattle.theory_growth.specs.Keeps.{close-stays, close-goes}
 use Rattle.theory_page_memory.specs.Memory.{Mem, blank, setMem, keptMem, riseMem, separatorM}
 use Rattle.theory_decoding.specs.Decode.{stored-same}

@@ -14,8 +14,8 @@ use Rattle.theory_rows.specs.Fits.{Ranges, Fits, Valid}
 use Rattle.theory_rows.specs.Image.{Stored}
 use Rattle.theory_rows.specs.Lean.{Splittable}
 use Rattle.theory_rows.specs.Pages.{bit, or-right, reserved, tally-freed, tally-rest}
-use Rattle.model.specs.Spot.{Position, fill, Chain, top, below, lastPage, whole}
-use Rattle.theory_growth.specs.Chain.{lastSettled, lastHolder, fits-fill, count-chain}
+use Rattle.model.specs.Spot.{Position, fill, Chain, top, below, lastPage, whole, lastHolder}
+use Rattle.theory_growth.specs.Chain.{lastSettled, fits-fill, count-chain}
 use Rattle.theory_growth.specs.Keeps.{Grows, grows-splits, split-able, grows-goes}
 use Rattle.theory_page_memory.specs.Memory.{Mem, blank, setMem, putMem, separatorMem, keptMem, riseMem, placeMem, MemState, separatorM}
 use Rattle.theory_page_memory.specs.Links.{self, stored-loose, loose-agree, set-other, put-other, put-same, put-stored}

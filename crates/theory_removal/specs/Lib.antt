@@ -1,0 +1,4 @@
+pub mod Laws
+pub mod Stand
+pub mod Keeps
+pub mod Found

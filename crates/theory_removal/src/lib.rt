@@ -1,0 +1,1 @@
+// The theorems about removal: what it shows, keeps and frees, in specs/.
