@@ -122,7 +122,7 @@ pub record SameButLink (a b : List ℕ) : Type 0 where
 -- No other record changes except back links.
 abbrev pub OthersStay : Type 0
 OthersStay = (img : List ℕ) (st : Config) (root : Row) (path : List ℕ) (t : Stand) → Reads img st root → removeNumber (shown root) path ≡ 0
-    → standOf root (pathOf path) ≡ some t → (q : ℕ) → touched t q ≡ false → SameButLink (pageOf (removeOf img path .1) q) (pageOf img q)
+    → standOf root (pathOf path) ≡ some t → (q : ℕ) → q < st .pages → touched t q ≡ false → SameButLink (pageOf (removeOf img path .1) q) (pageOf img q)
 
 -- ── put in and taken out ──
 

@@ -44,7 +44,7 @@ module _ (order : (img buffer : List ℕ) → List ℕ) (o : Orders order) where
   one-call img st root r c (format s m label) y = format-holds order img st root r s m label y
   one-call img st root r c check y = check-holds order img st root r
   one-call img st root r c (insert path child kind origin label content) y = insert-holds order img st root r path child kind origin label content y
-  one-call img st root r c (remove path) y = remove-holds order img st root r path
+  one-call img st root r c (remove path) y = remove-holds img st root r path order
   one-call img st root r c (find path) y = find-holds order img st root r path
   one-call img st root r c (climb x buffer) y = climb-holds order img st root r x buffer
   one-call img st root r c (read x) y = read-holds order img st root r x

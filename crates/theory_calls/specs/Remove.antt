@@ -5,7 +5,7 @@ use mathlib.Core.List.{List, [], _∷_}
 use mathlib.Core.Option.{Option, none, some, Option·map, Option·some-injective, Option·none-ne-some}
 use Prim.Native.Nat.{ℕ, _+_, _*_, _≤_}
 use native.Mathlib.Omega.{arith}
-use borrow.Author.Tests.{eqb-true, eqb-false, ltb-false}
+use borrow.Author.Tests.{eqb-true, eqb-false, ne-eqb, ltb-false}
 use lib.ListN.{length}
 use lib.Dec.{ltb, eqb}
 use Rattle.model.specs.Limits.{longestPath}
@@ -87,9 +87,9 @@ removal st root path v z =
     ) in
     record { keeps = k .0; shows = k .1 }
 
--- ── in a list ──
+-- ── on an image ──
 
-module _ (order : (img buffer : List ℕ) → List ℕ) (img : List ℕ) (st : Config) (root : Row) (r : Reads img st root) (path : List ℕ) where
+module _ (img : List ℕ) (st : Config) (root : Row) (r : Reads img st root) (path : List ℕ) where
   n : ℕ
   n = removeNumber (shown root) path
 
@@ -102,6 +102,15 @@ module _ (order : (img buffer : List ℕ) → List ℕ) (img : List ℕ) (st : C
   remove-is : removeOf img path ≡ outcome (eqb n 0)
   unfolding removeOf outcome n new
   remove-is = rw (opens img st root r)
+
+  -- Accepted, and refused.
+  pub remove-accepted : removeNumber (shown root) path ≡ 0 → removeOf img path ≡ (0, image st (removed root (pathOf path)))
+  unfolding outcome n new
+  remove-accepted z = remove-is ∙ rw z
+
+  pub remove-refused : (k : ℕ) → removeNumber (shown root) path ≡ k → (k ≡ 0 → ⊥) → removeOf img path ≡ (k, img)
+  unfolding outcome n new
+  remove-refused k e z = remove-is ∙ rw (e, ne-eqb k 0 z)
 
   number : (b : Bool) → eqb n 0 ≡ b → outcome b .0 ≡ n
   unfolding outcome
@@ -118,9 +127,9 @@ module _ (order : (img buffer : List ℕ) → List ℕ) (img : List ℕ) (st : C
       subst (Matches (image st new)) (k .shows) (image-matches (image st new) st new (record { passes = k .keeps; same = refl }))
   after false e = image-matches img st root r
 
-  pub remove-holds : CallHolds order img (shown root) (removeCall path)
+  pub remove-holds : (order : (img buffer : List ℕ) → List ℕ) → CallHolds order img (shown root) (removeCall path)
   unfolding n
-  remove-holds = record {
+  remove-holds order = record {
     answer = same-number;
     full = (λ z. absurd (never-full (shown root) path (sym same-number ∙ z)), λ z. absurd (false≢true (z .1)));
     after = rw remove-is (after (eqb n 0) refl);

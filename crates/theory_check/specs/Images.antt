@@ -55,6 +55,11 @@ pages-are img hs (suc k) q l h =
     (drop-drop pageSize (pageSize * q) img ∙ ap (λ (n : ℕ). drop n img) next
     ∙ pages-are img hs k (suc q) (omega arith) (λ p a b. h p (omega arith) (omega arith)))
 
+-- A memory in which every record of a store stands and the free pages are blank has the pages of the store's image.
+pub page-is : (mem : ℕ → List ℕ) (root : Row) → Stored mem 0 (store root) → (q : ℕ) → (count q (store root) ≡ 0 → mem q ≡ replicate pageSize 0)
+    → mem q ≡ pageAt (records 0 (store root)) q
+page-is mem root m q free = page-found mem (records 0 (store root)) (on-records mem 0 (store root) m) q (λ z. free (sym (pages-count root q) ∙ z))
+
 pub image-is : (img : List ℕ) (st : Config) (root : Row) → 1 ≤ st .pages → length img ≡ pageSize * st .pages → pageOf img 0 ≡ settingsPage st
     → Stored (pageOf img) 0 (store root) → ((q : ℕ) → 1 ≤ q → q < st .pages → count q (store root) ≡ 0 → pageOf img q ≡ replicate pageSize 0)
     → img ≡ image st root
@@ -62,6 +67,5 @@ unfolding image
 image-is img st root few long settings m free =
     let hs = records 0 (store root) in
     let n = st .pages - 1 in
-    let each : (q : ℕ) → 1 ≤ q → q < 1 + n → pageOf img q ≡ pageAt hs q =
-    λ q a b. page-found (pageOf img) hs (on-records (pageOf img) 0 (store root) m) q (λ z. free q a (omega arith) (sym (pages-count root q) ∙ z)) in
+    let each : (q : ℕ) → 1 ≤ q → q < 1 + n → pageOf img q ≡ pageAt hs q = λ q a b. page-is (pageOf img) root m q (free q a (omega arith)) in
     sym (take-append-drop pageSize img) ∙ ap₂ _++_ settings (pages-are img hs n 1 (omega arith) each)

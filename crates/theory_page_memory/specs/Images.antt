@@ -60,7 +60,7 @@ module _ (st : Config) (root : Row) (v : Valid st root) where
 
 -- ── the image after growth ──
 
-inside-free : (n q : ℕ) → 1 < q → q < n → bit (outside n q) ≡ 0
+pub inside-free : (n q : ℕ) → 1 < q → q < n → bit (outside n q) ≡ 0
 inside-free n q a b = rw (lt-leb q 1 a, lt-leb n q b)
 
 done-free : (st : Config) (first : List ℕ) (root : Row) (w : Out) (m : Mem) → Done st first root (w .1) m

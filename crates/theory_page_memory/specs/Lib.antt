@@ -4,3 +4,5 @@ pub mod Steps
 pub mod Around
 pub mod Kept
 pub mod Images
+pub mod Removing
+pub mod Others

@@ -208,6 +208,13 @@ module _ (root : Row) (new : Tree) (t : Stand) (l : Leaves root new t) where
   pub without-fits : Fits (store root) → Fits (store (without t))
   without-fits f = lost-fits (t .position) (t .node) (t .rest) (l .onward) (l .one) (t .chain) (subst (λ (r : Row). Fits (store r)) (sym (l .held)) f)
 
+  -- The root record is no helper's.
+  pub root-stays : Fits (store root) → t .chain ≡ top → loneRec (fill (t .position) (t .rest)) ≡ false
+  root-stays f e =
+      let is : fill (t .position) (t .node ⊹ t .rest) ≡ root = ap (λ (c : Chain). whole c (fill (t .position) (t .node ⊹ t .rest))) (sym e) ∙ l .held in
+      lone-no-proxy (fill (t .position) (t .rest))
+      (lone-left (t .position) (t .node) (t .rest) (l .onward) (l .one) (ap lone is ∙ settled-lone root (f .0 .shape)))
+
 -- ── a removal ──
 
 branch-stays : (j : ℕ) (path : List ℕ) (t : Tree) → isBranch t ≡ true → isBranch (removeAt 0 (j ∷ path) t) ≡ true

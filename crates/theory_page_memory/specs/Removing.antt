@@ -1,0 +1,222 @@
+-- Removals on a memory of pages: once the branch's pages are blank and the record that lost the node is written, or replaced by its one proxy, the memory is
+-- that of the store without the node.
+use mathlib.Core.Path.{_≡_, refl, sym, ap, subst, _∙_}
+use mathlib.Core.Bool.{Bool, true, false, _&&_}
+use mathlib.Core.List.{List}
+use Prim.Native.Nat.{ℕ, _+_, _*_, _≤_, _<_}
+use native.Mathlib.Omega.{arith}
+use borrow.Author.Tests.{eq-eqb, eqb-true, leb-true, leb-false}
+use lib.ListN.{length}
+use lib.Dec.{eqb, leb}
+use Rattle.model.specs.Limits.{pageSize}
+use Rattle.model.specs.Row.{Row, nil, rec, store, _⊹_, loneRec, recordPage, recordOn, count, image, Config}
+use Rattle.model.specs.Reading.{Reads, pageOf}
+use Rattle.model.specs.Tree.{Tree}
+use Rattle.model.specs.Growth.{atRest}
+use Rattle.model.specs.Spot.{Position, fill, Chain, top, below, lastPage, whole, lastHolder}
+use Rattle.model.specs.Removal.{Stand, replaced, lost, without}
+use Rattle.theory_rows.specs.Fits.{Valid}
+use Rattle.theory_rows.specs.Image.{Stored}
+use Rattle.theory_rows.specs.Pages.{bit, reserved, count-⊹, tally-rest}
+use Rattle.theory_decoding.specs.Decode.{stored-same, stored-image}
+use Rattle.theory_decoding.specs.Reading.{reads-valid, reads-length}
+use Rattle.theory_check.specs.Images.{image-is}
+use Rattle.theory_growth.specs.Chain.{lastSettled, fill-more, fill-less, count-refill, count-chain}
+use Rattle.theory_removal.specs.Stand.{Leaves}
+use Rattle.theory_removal.specs.Keeps.{Proxy, helperFreed, without-names}
+use Rattle.theory_page_memory.specs.Memory.{Mem, blank}
+use Rattle.theory_page_memory.specs.Links.{not-bit, stored-parted}
+use Rattle.theory_page_memory.specs.Steps.{bit-le}
+use Rattle.theory_page_memory.specs.Around.{Around, assemble, disassemble, elsewhere, beyond, beyond-own, around-agree}
+use Rattle.theory_page_memory.specs.Images.{before-free, before-settings, inside-free}
+
+module _ (t : Stand) (m m′ : Mem) where
+  -- The row of the record that lost the node.
+  abbrev pub leftRow : Row
+  leftRow = fill (t .position) (t .rest)
+
+  -- The branch's pages are blank, the record that lost the node is written with what is left of it, and all else is as it was.
+  pub record Rewritten : Type 0 where
+    pub branch : (p : ℕ) → 1 ≤ count p (t .node) → m′ p ≡ blank
+    pub own : m′ (lastPage (t .chain)) ≡ recordPage (recordOn (lastPage (t .chain)) (lastSettled (t .chain)) (lastHolder (t .chain)) leftRow)
+    pub others : (p : ℕ) → count p (t .node) ≡ 0 → bit (eqb p (lastPage (t .chain))) ≡ 0 → m′ p ≡ m p
+
+  -- The same where one proxy is left, which takes the place of the helper's proxy in the record above: its page is blank, the child has another holder.
+  pub record Lifted (c : Chain) (s : Position) (q : ℕ) (b : Bool) (rest : Row) (x : Proxy leftRow) : Type 0 where
+    pub branch : (p : ℕ) → 1 ≤ count p (t .node) → m′ p ≡ blank
+    pub own : m′ q ≡ blank
+    pub child : m′ (x .page) ≡ recordPage (recordOn (x .page) (x .settled) (lastPage c) (x .inside))
+    pub above : m′ (lastPage c) ≡ recordPage (recordOn (lastPage c) (lastSettled c) (lastHolder c) (fill s (rec (x .page) (x .settled) (x .inside) rest)))
+    pub others : (p : ℕ) → count p (t .node) ≡ 0 → bit (eqb p q) ≡ 0 → bit (eqb p (x .page)) ≡ 0 → bit (eqb p (lastPage c)) ≡ 0 → m′ p ≡ m p
+
+-- ── every record that is left stands on its page ──
+
+module _ (st : Config) (root : Row) (v : Valid st root) (new : Tree) (t : Stand) (l : Leaves root new t) (m m′ : Mem) (stored : Stored m 0 (store root)) where
+  abbrev old : Row
+  old = fill (t .position) (t .node ⊹ t .rest)
+
+  abbrev left : Row
+  left = fill (t .position) (t .rest)
+
+  parts : (k : ℕ) → count k left + count k (t .node) ≡ count k old
+  parts k = omega (arith, count-refill k (t .position) (t .rest) (t .node ⊹ t .rest), count-⊹ k (t .node) (t .rest))
+
+  module _ (c : Chain) (e : t .chain ≡ c) where
+    is-root : whole c old ≡ root
+    is-root = ap (λ (z : Chain). whole z old) (sym e) ∙ l .held
+
+    -- Each page is named at most one time, around the record and in it.
+    one : (k : ℕ) → elsewhere st c k + count k old ≤ 1
+    one k = omega (arith, tally-rest st root (v .placed) refl k, bit-le (atRest st root .used k), count-chain k c old, ap (count k) is-root)
+
+    -- Its page is not among those that it names, and of those that it names none is named elsewhere.
+    pub own-apart : (k : ℕ) → bit (eqb k (lastPage c)) + beyond st c k + count k left + count k (t .node) ≤ 1
+    own-apart k = omega (arith, one k, parts k, beyond-own st c k)
+
+    apart : Around m c old × (m (lastPage c) ≡ recordPage (recordOn (lastPage c) (lastSettled c) (lastHolder c) old)) × Stored m (lastPage c) old
+    apart = disassemble m c old (subst (λ (r : Row). Stored m 0 (store r)) (sym is-root) stored)
+
+    pub stored-left : Stored m (lastPage c) left
+    stored-left = fill-less (stored-parted m (lastPage c)) (t .position) (t .node) (t .rest) (apart .2) .0
+
+  -- The record stays on its page.
+  pub rewritten-stored : Rewritten t m m′ → Stored m′ 0 (store (whole (t .chain) left))
+  rewritten-stored w =
+      let c = t .chain in
+      let n = one c refl in
+      assemble m′ c old left
+      (around-agree st m m′ c old (λ k h. w .others k (omega (arith, n k, parts k, beyond-own st c k)) (omega (arith, n k, beyond-own st c k)))
+      (apart c refl .0))
+      (w .own)
+      (stored-same m m′ (lastPage c) left (λ k h. w .others k (omega (arith, n k, parts k)) (omega (arith, n k, parts k, beyond-own st c k)))
+      (stored-left c refl))
+
+  -- Its one proxy takes its place.
+  pub lifted-stored : (c : Chain) (s : Position) (q : ℕ) (b : Bool) (rest : Row) (x : Proxy left) → t .chain ≡ below c s q b rest → Lifted t m m′ c s q b rest x
+      → Stored m′ 0 (store (whole c (fill s (rec (x .page) (x .settled) (x .inside) rest))))
+  lifted-stored c s q b rest x e w =
+      let n = one (below c s q b rest) e in
+      let z = apart (below c s q b rest) e .0 in
+      let y = subst (Stored m q) (x .is) (stored-left (below c s q b rest) e) in
+      let named : (k : ℕ) → count k left ≡ bit (eqb k (x .page)) + count k (x .inside) + 0 = λ k. ap (count k) (x .is) in
+      let other : (k : ℕ) → 0 < beyond st c k + count k (fill s rest) + count k (x .inside) → m′ k ≡ m k =
+      λ k h. w .others k (omega (arith, n k, parts k, named k, beyond-own st c k)) (omega (arith, n k, parts k, named k, beyond-own st c k))
+      (omega (arith, n k, parts k, named k, beyond-own st c k)) (omega (arith, n k, parts k, named k, beyond-own st c k)) in
+      assemble m′ c (fill s (rec q b old rest)) (fill s (rec (x .page) (x .settled) (x .inside) rest))
+      (around-agree st m m′ c (fill s (rec q b old rest)) (λ k h. other k (omega arith)) (z .2)) (w .above)
+      (fill-more (stored-parted m′ (lastPage c)) s (rec (x .page) (x .settled) (x .inside) nil) rest
+      (stored-same m m′ (lastPage c) (fill s rest) (λ k h. other k (omega arith)) (z .0))
+      (w .child, stored-same m m′ (x .page) (x .inside) (λ k h. other k (omega arith)) (y .1), tt))
+
+  -- ── the pages that are free ──
+
+  module _ (free : (k : ℕ) → 1 ≤ k → k < st .pages → count k (store root) ≡ 0 → m k ≡ blank) where
+    -- The last record of a chain is named, and so is the root record.
+    own-named : (c : Chain) (r : Row) (k : ℕ) → bit (eqb k (lastPage c)) ≤ count k (store (whole c r))
+    own-named top r k = omega arith
+    own-named (below c s q b rest) r k = omega (arith, count-chain k c (fill s (rec q b r rest)), count-refill k s rest (rec q b r rest))
+
+    freed-own : (c : Chain) (r : Row) (k : ℕ) → bit (eqb k (lastPage c)) ≡ 0 → bit (helperFreed c r k) ≡ 0
+    freed-own top r k h = refl
+    freed-own (below c s q b rest) r k h = rw (not-bit (eqb k q) h) (go (loneRec r))
+      where
+        go : (u : Bool) → bit (u && false) ≡ 0
+        go true = refl
+        go false = refl
+
+    was-free : (k : ℕ) → 1 ≤ k → k < st .pages → count k (store (without t)) ≡ 0 → count k (t .node) ≡ 0 → bit (eqb k (lastPage (t .chain))) ≡ 0 → m k ≡ blank
+    was-free k a b z n h =
+        free k a b (omega (arith, z, without-names root new t l k, freed-own (t .chain) left k h))
+
+    -- A page is one of the branch's, or not.
+    by-branch : {P : Type 0} (k : ℕ) → (1 ≤ count k (t .node) → P) → (count k (t .node) ≡ 0 → P) → P
+    by-branch {P = P} k f g = go (leb 1 (count k (t .node))) refl
+      where
+        go : (u : Bool) → leb 1 (count k (t .node)) ≡ u → P
+        go true e = f (leb-true 1 (count k (t .node)) e)
+        go false e = g (omega (arith, leb-false 1 (count k (t .node)) e))
+
+    pub rewritten-free : Rewritten t m m′ → without t ≡ whole (t .chain) left → (k : ℕ) → 1 ≤ k → k < st .pages → count k (store (without t)) ≡ 0 → m′ k ≡ blank
+    rewritten-free w e k a b z =
+        by-branch k (w .branch k) (λ n.
+        let h : bit (eqb k (lastPage (t .chain))) ≡ 0 = omega (arith, own-named (t .chain) left k, ap (λ (r : Row). count k (store r)) e, z) in
+        w .others k n h ∙ was-free k a b z n h)
+
+    pub lifted-free : (c : Chain) (s : Position) (q : ℕ) (b : Bool) (rest : Row) (x : Proxy left) → t .chain ≡ below c s q b rest → Lifted t m m′ c s q b rest x
+        → without t ≡ whole c (fill s (rec (x .page) (x .settled) (x .inside) rest))
+        → (k : ℕ) → 1 ≤ k → k < st .pages → count k (store (without t)) ≡ 0 → m′ k ≡ blank
+    lifted-free c s q b rest x e w is k a d z =
+        let up = fill s (rec (x .page) (x .settled) (x .inside) rest) in
+        let n : count k (store (whole c up)) ≡ 0 = ap (λ (r : Row). count k (store r)) (sym is) ∙ z in
+        let above : bit (eqb k (lastPage c)) ≡ 0 = omega (arith, own-named c up k, n) in
+        let child : bit (eqb k (x .page)) ≡ 0 =
+        omega (arith, n, count-chain k c up, count-refill k s rest (rec (x .page) (x .settled) (x .inside) rest)) in
+        by-branch k (w .branch k) (λ y. go (eqb k q) refl y child above)
+      where
+        go : (u : Bool) → eqb k q ≡ u → count k (t .node) ≡ 0 → bit (eqb k (x .page)) ≡ 0 → bit (eqb k (lastPage c)) ≡ 0 → m′ k ≡ blank
+        go true f y child above = ap m′ (eqb-true k q f) ∙ w .own
+        go false f y child above =
+            w .others k y (ap bit f) child above
+            ∙ was-free k a d z y (ap (λ (c : Chain). bit (eqb k (lastPage c))) e ∙ ap bit f)
+
+-- ── the image ──
+
+module _ (img : List ℕ) (st : Config) (root : Row) (r : Reads img st root) (new : Tree) (t : Stand) (l : Leaves root new t) where
+  v : Valid st root
+  v = reads-valid img st root r
+
+  same-pages : pageOf img ≡ pageOf (image st root)
+  same-pages = ap pageOf (r .same)
+
+  pub stands : Stored (pageOf img) 0 (store root)
+  stands = subst (λ (i : List ℕ). Stored (pageOf i) 0 (store root)) (sym (r .same)) (stored-image st root v)
+
+  pub free : (k : ℕ) → 1 ≤ k → k < st .pages → count k (store root) ≡ 0 → pageOf img k ≡ blank
+  unfolding v
+  free k a b z =
+      let far : k ≡ 1 → ⊥ = λ e. let y : bit (eqb k 1) ≡ 1 = rw (eq-eqb k 1 e) in omega (arith, z) in
+      let none : bit (atRest st root .used k) ≡ 0 =
+      omega (arith, z, tally-rest st root (v .placed) refl k, inside-free (st .pages) k (omega (arith, far)) b) in
+      ap (λ (f : Mem). f k) same-pages ∙ before-free st root v k (not-bit (atRest st root .used k) none)
+
+  abbrev left₁ : Row
+  left₁ = fill (t .position) (t .rest)
+
+  -- What the store without the node is: the record stays, or its one proxy takes its place.
+  pub stays : loneRec left₁ ≡ false → (c : Chain) → lost c left₁ ≡ whole c left₁
+  unfolding replaced
+  stays z top = refl
+  stays z (below c s q b rest) = rw z
+
+  pub goes : (c : Chain) (s : Position) (q : ℕ) (b : Bool) (rest : Row) (x : Proxy left₁) → t .chain ≡ below c s q b rest
+      → without t ≡ whole c (fill s (rec (x .page) (x .settled) (x .inside) rest))
+  unfolding replaced
+  goes c s q b rest x e = ap (λ (c : Chain). lost c left₁) e ∙ ap (λ (r : Row). lost (below c s q b rest) r) (x .is)
+
+  module _ (after : List ℕ) (long : length after ≡ length img) (first : pageOf after 0 ≡ pageOf img 0) where
+    same-image : Stored (pageOf after) 0 (store (without t))
+        → ((k : ℕ) → 1 ≤ k → k < st .pages → count k (store (without t)) ≡ 0 → pageOf after k ≡ blank) → after ≡ image st (without t)
+    unfolding v
+    same-image =
+        image-is after st (without t) (omega (arith, v .ranges .few)) (long ∙ reads-length img st root r)
+        (first ∙ ap (λ (f : Mem). f 0) same-pages ∙ before-settings st root v)
+
+    -- The bytes once the record that lost the node is written are the image without the node,
+    pub rewritten-image : loneRec left₁ ≡ false → Rewritten t (pageOf img) (pageOf after) → after ≡ image st (without t)
+    unfolding v
+    rewritten-image z w =
+        let is : without t ≡ whole (t .chain) left₁ = stays z (t .chain) in
+        same-image
+        (subst (λ (r : Row). Stored (pageOf after) 0 (store r)) (sym is) (rewritten-stored st root v new t l (pageOf img) (pageOf after) stands w))
+        (rewritten-free st root v new t l (pageOf img) (pageOf after) stands free w is)
+
+    -- and so are those once one proxy took the place of the helper.
+    pub lifted-image : (c : Chain) (s : Position) (q : ℕ) (b : Bool) (rest : Row) (x : Proxy left₁) → t .chain ≡ below c s q b rest
+        → Lifted t (pageOf img) (pageOf after) c s q b rest x → after ≡ image st (without t)
+    unfolding v
+    lifted-image c s q b rest x e w =
+        let is = goes c s q b rest x e in
+        same-image
+        (subst (λ (r : Row). Stored (pageOf after) 0 (store r)) (sym is)
+        (lifted-stored st root v new t l (pageOf img) (pageOf after) stands c s q b rest x e w))
+        (lifted-free st root v new t l (pageOf img) (pageOf after) stands free c s q b rest x e w is)
