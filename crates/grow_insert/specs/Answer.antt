@@ -1,8 +1,8 @@
 -- An insert's answer and image: from its tests, its dry run and its run to the definition.
 use mathlib.Core.Path.{_≡_, refl, sym, ap, subst, _∙_}
-use mathlib.Core.Bool.{Bool, true, false, true≢false}
+use mathlib.Core.Bool.{Bool, true, false}
 use mathlib.Core.List.{List, _++_}
-use mathlib.Core.Option.{Option, none, some}
+use mathlib.Core.Option.{some}
 use Prim.Native.Nat.{ℕ, _+_, _<_, _≤_}
 use native.Mathlib.Omega.{arith}
 use borrow.Author.Tests.{ne-eqb}
@@ -10,10 +10,10 @@ use lib.ListN.{length}
 use lib.IntN.{ℤ}
 use Rattle.model.specs.Row.{Row, nil, bytes, count, image, Config}
 use Rattle.model.specs.Reading.{Reads}
-use Rattle.model.specs.Tree.{Tree, shown, New}
+use Rattle.model.specs.Tree.{shown, New}
 use Rattle.model.specs.Growth.{Out, asRow, atRest}
 use Rattle.model.specs.Answers.{insertRefused}
-use Rattle.model.specs.Common.{four, entries, namedIf, isNone, orEmpty, pathOf}
+use Rattle.model.specs.Common.{four, entries, pathOf}
 use Rattle.model.specs.Calls.Insert.{insertNumber, newOf, grown, insertOf}
 use Rattle.model.specs.declared.Place.{Place}
 use Rattle.theory_rows.specs.Fits.{IsByte}
@@ -30,18 +30,13 @@ use Rattle.theory_calls.specs.Spot.{spot-accepted}
 use Rattle.grow_groups.specs.Used.{InUse}
 use Rattle.grow_path.specs.Path.{find-more}
 use Rattle.theory_calls.specs.Open.{opens}
-use Rattle.theory_calls.specs.Paths.{path-length}
+use Rattle.theory_calls.specs.Paths.{path-length, whole-path}
 use Rattle.theory_calls.specs.Tests.{Accepted, accepted, full-last, full-unasked}
 use Rattle.grow_locate.specs.Aim.{Aimed, receiverOf}
 use Rattle.grow_refusals.specs.declared.Admitted.{Admitted}
 use Rattle.grow_refusals.specs.Admit.{foundAt, aims}
 use Rattle.grow_new_node.specs.Node.{Sound}
 use Rattle.grow_run.specs.Begin.{Begin}
-
--- A path that names a node is whole entries.
-whole-path : (t : Tree) (o : Option (List ℕ)) → isNone (namedIf t o) ≡ false → o ≡ some (orEmpty o)
-whole-path t none e = absurd (true≢false e)
-whole-path t (some p) e = refl
 
 -- ── an insert that is refused ──
 

@@ -1,8 +1,8 @@
 -- A path with one entry more, as bytes, and the place that find gives for it.
-use mathlib.Core.Path.{_≡_, refl, ap, _∙_}
+use mathlib.Core.Path.{_≡_, ap, _∙_}
 use mathlib.Core.List.{List, [], _∷_, _++_}
-use mathlib.Core.Option.{Option, none, some, Option·map, Option·some-injective, Option·none-ne-some}
-use Prim.Native.Nat.{ℕ, _+_, _*_, _/_, _%_, _≤_, _<_}
+use mathlib.Core.Option.{some}
+use Prim.Native.Nat.{ℕ, _+_, _≤_, _<_}
 use native.Mathlib.Omega.{arith}
 use borrow.Author.Tests.{le-ltb}
 use lib.ListN.{length, length-append, take}
@@ -14,26 +14,7 @@ use Rattle.model.specs.Common.{four, entries, pathOf, placeOr}
 use Rattle.model.specs.Calls.Find.{findIn, findOf}
 use Rattle.base_numbers.specs.Over.{over, over-then, take-over}
 use Rattle.theory_calls.specs.Open.{opens}
-
-uncons : (n : ℕ) (o : Option (List ℕ)) (p : List ℕ) → Option·map (λ (ns : List ℕ). n ∷ ns) o ≡ some p → (q : List ℕ) × (o ≡ some q) × (n ∷ q ≡ p)
-uncons n none p e = absurd (Option·none-ne-some p e)
-uncons n (some q) p e = (q, refl, Option·some-injective (n ∷ q) p e)
-
--- The entries of a path with one more.
-entries-more : (path p : List ℕ) (k : ℕ) → k < 4294967296 → entries path ≡ some p → entries (path ++ four k) ≡ some (p ++ k ∷ [])
-entries-more [] p k h e =
-    let a : k / 256 ≡ k / 256 % 256 + 256 * (k / 65536) = omega arith in
-    let b : k / 65536 ≡ k / 65536 % 256 + 256 * (k / 16777216) = omega arith in
-    let c : k / 16777216 % 256 ≡ k / 16777216 = omega arith in
-    let z : k % 256 + 256 * (k / 256 % 256) + 65536 * (k / 65536 % 256) + 16777216 * (k / 16777216 % 256) ≡ k = omega arith in
-    (λ i. some (Option·some-injective [] p e i ++ z i ∷ []))
-entries-more (a ∷ []) p k h e = absurd (Option·none-ne-some p e)
-entries-more (a ∷ b ∷ []) p k h e = absurd (Option·none-ne-some p e)
-entries-more (a ∷ b ∷ c ∷ []) p k h e = absurd (Option·none-ne-some p e)
-entries-more (a ∷ b ∷ c ∷ d ∷ s) p k h e =
-    let n = a + 256 * b + 65536 * c + 16777216 * d in
-    let (q, z, f) = uncons n (entries s) p e in
-    ap (Option·map (λ (ns : List ℕ). n ∷ ns)) (entries-more s q k h z) ∙ ap (λ (r : List ℕ). some (r ++ k ∷ [])) f
+use Rattle.theory_calls.specs.Paths.{entries-more}
 
 -- Find gives the place of the node that the longer path names.
 pub find-more : (img : List ℕ) (st : Config) (root : Row) → Reads img st root → (path : List ℕ) (k : ℕ) → length path ≤ longestParent → k < 4294967296

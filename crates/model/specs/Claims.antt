@@ -16,10 +16,10 @@ use Rattle.model.specs.Removal.{Stand, standOf, removed}
 use Rattle.model.specs.Growth.{Work, splitPoint, startOfD, rootRow, separator}
 use Rattle.model.specs.Reading.{Reads, lengthOk, reading, pageOf}
 use Rattle.model.specs.Answers.{notPassed, wrongLength, noFreePage}
-use Rattle.model.specs.Common.{pathOf, namedBy, opened, onStore, treeOn}
+use Rattle.model.specs.Common.{four, pathOf, namedBy, opened, onStore, treeOn}
 use Rattle.model.specs.Effect.{Effect, roomy, feedOf, handedOf}
 use Rattle.model.specs.Calls.Check.{checkOf}
-use Rattle.model.specs.Calls.Insert.{insertNumber, grown}
+use Rattle.model.specs.Calls.Insert.{insertNumber, grown, insertOf, insertCall}
 use Rattle.model.specs.Calls.Remove.{removeNumber, removeOf}
 use Rattle.model.specs.Calls.Find.{findOf}
 use Rattle.model.specs.Calls.Climb.{climbOf}
@@ -188,3 +188,34 @@ Orders order = (img buffer : List ℕ) (st : Config) (root : Row) → Reads img 
 abbrev pub Demand3 : Type 1
 Demand3 = (order : (img buffer : List ℕ) → List ℕ) → Orders order → (img : List ℕ) → checkOf img ≡ 0 → (calls : Calls order)
     → (t : Tree) × Matches img t × Agrees order img t calls
+
+-- ── put in and taken out, in a list of calls ──
+
+module _ (order : (img buffer : List ℕ) → List ℕ) where
+  -- The image that a list of calls leaves.
+  abbrev pub imageAfter : (img : List ℕ) → Calls order → List ℕ
+  imageAfter img [] = img
+  imageAfter img (x ∷ xs) = imageAfter (x .0 .onImage img .1) xs
+
+  -- A call between the insert of a branch's top and its removal: it changes nothing, or puts a node in below the top, which the path names.
+  pub data Between (path img : List ℕ) : Effect → Type 1 where
+    changesNothing : (c : Effect) → c .onImage img .1 ≡ img → Between path img c
+    putsBelow : (parent more : List ℕ) (child kind origin label : ℕ) (content : List ℕ) → pathOf parent ≡ path ++ more
+        → Between path img (insertCall parent child kind origin label content)
+
+  abbrev pub AllBetween : (path img : List ℕ) → Calls order → Type 1
+  AllBetween path img [] = Unit {1}
+  AllBetween path img (x ∷ xs) = Between path img (x .0) × AllBetween path (x .0 .onImage img .1) xs
+
+-- The removal is accepted, and the image shows the tree that it showed at first.
+pub record FormerTree (img : List ℕ) (out : ℕ × List ℕ) : Type 0 where
+  pub accepted : out .0 ≡ 0
+  pub shows : treeOn (out .1) ≡ treeOn img
+
+-- For any image that passes the check, any accepted insert and any such calls after it, the removal of what it put in leaves the former tree.
+abbrev pub TakenOut : Type 1
+TakenOut = (order : (img buffer : List ℕ) → List ℕ) → Orders order → (img : List ℕ) → checkOf img ≡ 0
+    → (parent : List ℕ) (child kind origin label : ℕ) (content : List ℕ) → insertCall parent child kind origin label content .Typed → child < 4294967296
+    → let first = insertOf img parent child kind origin label content in
+    first .0 .number ≡ 0 → (calls : Calls order) → AllBetween order (pathOf parent ++ child ∷ []) (first .1) calls
+    → FormerTree img (removeOf (imageAfter order (first .1) calls) (parent ++ four child))

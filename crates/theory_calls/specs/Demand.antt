@@ -51,7 +51,7 @@ module _ (order : (img buffer : List ℕ) → List ℕ) (o : Orders order) where
   one-call img st root r c (next x) y = next-holds order img st root r x
   one-call img st root r c (records buffer) y = records-holds order o img st root r buffer
 
-  call-holds : (img : List ℕ) (t : Tree) → Matches img t → (c : Effect) → Call order c → c .Typed → CallHolds order img t c
+  pub call-holds : (img : List ℕ) (t : Tree) → Matches img t → (c : Effect) → Call order c → c .Typed → CallHolds order img t c
   call-holds img t s c k y =
       let x = reading img t s in
       subst (λ (u : Tree). CallHolds order img u c) (x .shows) (one-call img (x .st) (x .root) (x .reads) c k y)

@@ -19,12 +19,12 @@ use Rattle.theory_calls.specs.Tests.{accepted}
 use Rattle.theory_calls.specs.Spot.{spot-accepted}
 use Rattle.theory_calls.specs.Added.{Names, Parent, Added, insert-named, one-more}
 
-parent-says : (k : ℕ) (o : Option Node) → isNone o ≡ false → isLiteral o ≡ false → childrenBelow k o ≡ false → Names (Parent k) o
+pub parent-says : (k : ℕ) (o : Option Node) → isNone o ≡ false → isLiteral o ≡ false → childrenBelow k o ≡ false → Names (Parent k) o
 parent-says k none some-node aggregate within = absurd (true≢false some-node)
 parent-says k (some p) some-node aggregate within = (aggregate, ltb-false (p .children) k within)
 
 -- A path as bytes that names a node is whole entries.
-by-entries : (P : Node → Type 0) (t : Tree) (path : Option (List ℕ)) → Names P (namedIf t path) → Names P (named t (orEmpty path))
+pub by-entries : (P : Node → Type 0) (t : Tree) (path : Option (List ℕ)) → Names P (namedIf t path) → Names P (named t (orEmpty path))
 by-entries P t none h = absurd h
 by-entries P t (some p) h = h
 

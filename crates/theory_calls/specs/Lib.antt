@@ -21,3 +21,4 @@ pub mod Navigate
 pub mod Split
 pub mod Added
 pub mod Growth
+pub mod TakenOut

@@ -1,15 +1,15 @@
 -- Paths as bytes: the entries of a path spell it again, and a path that names a node is not long.
-use mathlib.Core.Path.{_≡_, refl, ap₂, subst}
-use mathlib.Core.Bool.{true}
+use mathlib.Core.Path.{_≡_, refl, ap, ap₂, subst, _∙_}
+use mathlib.Core.Bool.{true, false, true≢false}
 use mathlib.Core.List.{List, [], _∷_, _++_}
-use mathlib.Core.Option.{Option, none, some, Option·map}
+use mathlib.Core.Option.{Option, none, some, Option·map, Option·some-injective}
 use Prim.Native.Nat.{ℕ, zero, suc, _+_, _*_, _/_, _%_, _≤_, _<_, max}
 use native.Mathlib.Omega.{arith}
 use borrow.Author.Tests.{ltb-true}
 use lib.ListN.{length}
 use Rattle.model.specs.Row.{every, isByte}
 use Rattle.model.specs.Tree.{Tree, end, branch, leaf, Node, below, further, nodeAt}
-use Rattle.model.specs.Common.{four, pathBytes, entries, orEmpty, pathOf}
+use Rattle.model.specs.Common.{four, pathBytes, entries, namedIf, orEmpty, pathOf, isNone}
 use Rattle.theory_rows.specs.Keeps.{levels}
 use Rattle.theory_decoding.specs.Valid.{both}
 
@@ -96,3 +96,35 @@ path-levels (suc i) path (leaf h c rest) n e = go (nodeAt i path rest) e (path-l
         → suc (length path) ≤ max 1 (levels rest)
     go none e f = never e
     go (some m) e f = omega (arith, f m refl)
+
+-- ── one entry more ──
+
+uncons : (n : ℕ) (o : Option (List ℕ)) (p : List ℕ) → Option·map (λ (ns : List ℕ). n ∷ ns) o ≡ some p → (q : List ℕ) × (o ≡ some q) × (n ∷ q ≡ p)
+uncons n none p e = never e
+uncons n (some q) p e = (q, refl, Option·some-injective (n ∷ q) p e)
+
+-- Four bytes behind a path are its last entry.
+pub entries-last : (path p : List ℕ) (w x y z : ℕ) → entries path ≡ some p
+    → entries (path ++ w ∷ x ∷ y ∷ z ∷ []) ≡ some (p ++ (w + 256 * x + 65536 * y + 16777216 * z) ∷ [])
+entries-last [] p w x y z e = λ i. some (Option·some-injective [] p e i ++ (w + 256 * x + 65536 * y + 16777216 * z) ∷ [])
+entries-last (a ∷ []) p w x y z e = never e
+entries-last (a ∷ b ∷ []) p w x y z e = never e
+entries-last (a ∷ b ∷ c ∷ []) p w x y z e = never e
+entries-last (a ∷ b ∷ c ∷ d ∷ s) p w x y z e =
+    let n = a + 256 * b + 65536 * c + 16777216 * d in
+    let (q, g, f) = uncons n (entries s) p e in
+    ap (Option·map (λ (ns : List ℕ). n ∷ ns)) (entries-last s q w x y z g)
+    ∙ ap (λ (r : List ℕ). some (r ++ (w + 256 * x + 65536 * y + 16777216 * z) ∷ [])) f
+
+pub entries-more : (path p : List ℕ) (k : ℕ) → k < 4294967296 → entries path ≡ some p → entries (path ++ four k) ≡ some (p ++ k ∷ [])
+entries-more path p k h e =
+    let a : k / 256 ≡ k / 256 % 256 + 256 * (k / 65536) = omega arith in
+    let b : k / 65536 ≡ k / 65536 % 256 + 256 * (k / 16777216) = omega arith in
+    let c : k / 16777216 % 256 ≡ k / 16777216 = omega arith in
+    let z : k % 256 + 256 * (k / 256 % 256) + 65536 * (k / 65536 % 256) + 16777216 * (k / 16777216 % 256) ≡ k = omega arith in
+    entries-last path p (k % 256) (k / 256 % 256) (k / 65536 % 256) (k / 16777216 % 256) e ∙ ap (λ (n : ℕ). some (p ++ n ∷ [])) z
+
+-- A path that names a node is whole entries.
+pub whole-path : (t : Tree) (o : Option (List ℕ)) → isNone (namedIf t o) ≡ false → o ≡ some (orEmpty o)
+whole-path t none e = absurd (true≢false e)
+whole-path t (some p) e = refl
