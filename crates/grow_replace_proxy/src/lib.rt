@@ -14,7 +14,7 @@ ghost use Rattle.grow_replace_proxy.specs.Inner.{Filled, filledIn};
 ghost use Rattle.grow_replace_proxy.specs.Lift.{Lift, lifted};
 
 // Where the record has the proxy to the page. Its root is an aggregate or a helper, so its nodes start at 6.
-fn proxy_in(rec: &[u8], page: usize) -> usize
+pub fn proxy_in(rec: &[u8], page: usize) -> usize
     requires { ⌜ NamesOnce (now rec) page ⌝ }
     ensures { λ r. ⌜ ((w : NamesOnce (now (rec .entry)) page) → r ≡ proxyPosition (now (rec .entry)) page w) ⌝ }
 {

@@ -23,28 +23,36 @@ use Rattle.theory_page_memory.specs.Links.{self, stored-parted}
 
 -- ── a proxy ──
 
+-- Another proxy in its place leaves the record's kind of root and its size.
+module _ (q k : ℕ) (b c : Bool) (x y rest : Row) where
+  pub proxy-lone : (s : Position) → lone (fill s (rec q b x rest)) ≡ lone (fill s (rec k c y rest))
+  proxy-lone (here left) = proxy-beside left q b x rest ∙ sym (proxy-beside left k c y rest)
+  proxy-lone (inside left h right s) = lone-inside left h right (fill s (rec q b x rest)) (fill s (rec k c y rest))
+
+  pub proxy-long : (s : Position) → size (fill s (rec q b x rest)) ≡ size (fill s (rec k c y rest))
+  proxy-long s = omega (arith, size-fill s (rec q b x rest) (rec k c y rest))
+
 -- Its bytes do not tell what it stands for.
 module _ (q : ℕ) (b : Bool) (x y rest : Row) where
-  proxy-lone : (s : Position) → lone (fill s (rec q b x rest)) ≡ lone (fill s (rec q b y rest))
-  proxy-lone (here left) = proxy-beside left q b x rest ∙ sym (proxy-beside left q b y rest)
-  proxy-lone (inside left h right s) = lone-inside left h right (fill s (rec q b x rest)) (fill s (rec q b y rest))
+  same-lone : (s : Position) → lone (fill s (rec q b x rest)) ≡ lone (fill s (rec q b y rest))
+  same-lone = proxy-lone q q b b x y rest
 
-  proxy-long : (s : Position) → size (fill s (rec q b x rest)) ≡ size (fill s (rec q b y rest))
-  proxy-long s = omega (arith, size-fill s (rec q b x rest) (rec q b y rest))
+  same-long : (s : Position) → size (fill s (rec q b x rest)) ≡ size (fill s (rec q b y rest))
+  same-long = proxy-long q q b b x y rest
 
   proxy-bytes : (s : Position) → bytes (fill s (rec q b x rest)) ≡ bytes (fill s (rec q b y rest))
   proxy-bytes (here left) = bytes-⊹ left (rec q b x rest) ∙ sym (bytes-⊹ left (rec q b y rest))
   proxy-bytes (inside left h right s) =
       bytes-⊹ left (agg h (fill s (rec q b x rest)) right)
-      ∙ ap₂ (λ (n : ℕ) (l : List ℕ). bytes left ++ (header 1 h (6 + n) ++ (l ++ bytes right))) (proxy-long s) (proxy-bytes s)
+      ∙ ap₂ (λ (n : ℕ) (l : List ℕ). bytes left ++ (header 1 h (6 + n) ++ (l ++ bytes right))) (same-long s) (proxy-bytes s)
       ∙ sym (bytes-⊹ left (agg h (fill s (rec q b y rest)) right))
 
   proxy-size : (s : Position) → recordSize (fill s (rec q b x rest)) ≡ recordSize (fill s (rec q b y rest))
-  proxy-size s = ap₂ (λ (l : Bool) (n : ℕ). cond l 0 6 + n) (proxy-lone s) (proxy-long s)
+  proxy-size s = ap₂ (λ (l : Bool) (n : ℕ). cond l 0 6 + n) (same-lone s) (same-long s)
 
   proxy-page : (p : ℕ) (t : Bool) (h : ℕ) (s : Position)
       → recordPage (recordOn p t h (fill s (rec q b x rest))) ≡ recordPage (recordOn p t h (fill s (rec q b y rest)))
-  proxy-page p t h s = λ i. page (proxy-lone s i) (proxy-long s i) (proxy-bytes s i)
+  proxy-page p t h s = λ i. page (same-lone s i) (same-long s i) (proxy-bytes s i)
     where
       page : Bool → ℕ → List ℕ → List ℕ
       page l n bs = cond l bs (header 4 noHead (6 + n) ++ bs) ++ replicate (capacity - (cond l 0 6 + n)) 0 ++ trailer 1 (cond t 1 0) (cond l 0 6 + n) h

@@ -2,3 +2,4 @@ pub mod Laws
 pub mod Stand
 pub mod Keeps
 pub mod Found
+pub mod Table
