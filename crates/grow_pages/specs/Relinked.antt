@@ -22,7 +22,7 @@ mem-set q s img long room = λ i p. page-set q s img long room p i
 pub mem-cleared : (q : ℕ) (img : List ℕ) → pageSize * q + pageSize ≤ length img → pageOf (setPage q blank img) ≡ setMem q blank (pageOf img)
 mem-cleared q img room = mem-set q blank img (length-replicate {A = ℕ} pageSize 0) room
 
-mem-link : (p q : ℕ) (img : List ℕ) → pageSize * p + pageSize ≤ length img
+pub mem-link : (p q : ℕ) (img : List ℕ) → pageSize * p + pageSize ≤ length img
     → pageOf (over (pageSize * p + (capacity + 4)) (two q) img) ≡ setMem p (relink q (pageOf img p)) (pageOf img)
 mem-link p q img room =
     (λ i x. page-over p (capacity + 4) (two q) img (omega arith) room x i)

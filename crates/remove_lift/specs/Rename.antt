@@ -13,7 +13,7 @@ use Rattle.theory_row_bytes.specs.RowAt.{RecordIs}
 use Rattle.theory_layout.specs.Here.{PageIn}
 use Rattle.theory_page_memory.specs.Around.{proxy-lone, proxy-long}
 use Rattle.base_numbers.specs.Over.{over, over-right, over-left, over-all}
-use Rattle.grow_splice.specs.Position.{at, before, beyond, bytes-fill, length-before}
+use Rattle.grow_splice.specs.Position.{at, before, beyond, at-in, size-around, bytes-fill, length-before}
 use Rattle.grow_replace_proxy.specs.Seek.{NamesOnce}
 use Rattle.grow_replace_proxy.specs.Lift.{page-used, page-part}
 
@@ -41,6 +41,10 @@ module _ {img : List ℕ} {holder page : ℕ} (w : Renaming img holder page) whe
 
   pub used : usedAt img (pageSize * holder) ≡ recordSize row
   used = page-used img (recordOn holder (w .above) (w .up) row) (w .is) (w .small)
+
+  -- The proxy stands within the record.
+  pub proxy-within : proxyOffset w + 8 ≤ capacity
+  proxy-within = omega (arith, w .small, at-in (w .position) (base row), size-around (w .position) (rec page (w .settled) (w .old) (w .rest)))
 
   -- What `proxy_in` requires.
   abbrev pub names-once : (n : ℕ) → n ≡ usedAt img (pageSize * holder)
@@ -80,9 +84,10 @@ module _ (p u : ℕ) (t : Bool) (s : Position) (rest : Row) where
   unfolding front back
   page-shape q b x =
       let r = fill s (rec q b x rest) in
-      let z : List ℕ = replicate (capacity - recordSize r) 0 ++ trailer 1 (cond t 1 0) (recordSize r) u in
-      ap (λ (y : List ℕ). y ++ z) (root-first (lone r) (size r) (bytes r))
-      ∙ ap (λ (y : List ℕ). (cond (lone r) [] (header 4 noHead (6 + size r)) ++ y) ++ z) (bytes-fill s (rec q b x rest))
+      let z : List ℕ = replicate (capacity - recordSize r) 0 in
+      let e : List ℕ = trailer 1 (cond t 1 0) (recordSize r) u in
+      ap (λ (y : List ℕ). y ++ z ++ e) (root-first (lone r) (size r) (bytes r))
+      ∙ ap (λ (y : List ℕ). (cond (lone r) [] (header 4 noHead (6 + size r)) ++ y) ++ z ++ e) (bytes-fill s (rec q b x rest))
       ∙ simp append-assoc
 
   front-length : (l : Bool) (n : ℕ) → length (front l n) ≡ at (cond l 0 6) s + 6
