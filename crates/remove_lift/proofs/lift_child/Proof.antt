@@ -36,7 +36,7 @@ clear-page-requires c κs =
     let q = c .before .before .before in
     let p = q .before .before .before .before in
     let s = p .before .before .before .before .before in
-    (s .pre .on .high, omega (arith, q .put16 .kept .0, p .rename .kept .0, s .pre .on .inside))
+    (omega (arith, s .pre .on .high, s .pre .kid .high), omega (arith, q .put16 .kept .0, p .rename .kept .0, s .pre .on .inside, s .pre .kid .inside))
 
 same-length : tie.Need-same-length
 same-length c = search needs

@@ -50,7 +50,8 @@ add-put16-2 c =
 put16-requires : tie.Need-put16-requires
 put16-requires c κs =
     let s = c .before .before .before .before .before .before .before in
-    (omega (arith, position-is (c .before) (s .pre .0), proxy-within (s .pre .0), s .pre .0 .on .inside), omega (arith, s .pre .1))
+    let w = s .pre .0 in
+    (omega (arith, position-is (c .before) w, proxy-within w, w .on .inside), omega (arith, s .pre .1, w .names (s .args .page) (omega (arith, w .once))))
 
 same-length : tie.Need-same-length
 same-length c = search needs
