@@ -19,7 +19,7 @@ use Rattle.theory_places.specs.Widths.{Told, Table, told-same}
 use Rattle.theory_growth.specs.Chain.{wholeOf, beside, along, count-chain, hang}
 use Rattle.theory_growth.specs.Told.{Awaits, ToldAlong, told-chain, told-along, around-same}
 use Rattle.grow_pages.specs.Write.{usedBy}
-use Rattle.grow_widths.specs.Raised.{raised, raised-long, raised-other, raised-used, raised-along, Raising, hang-length}
+use Rattle.grow_widths.specs.Raised.{entryAnew, raised, anew-some, changed-long, changed-other, changed-used, raised-along, Raising, hang-length}
 use Rattle.grow_groups.specs.Used.{InUse}
 use Rattle.grow_locate.specs.declared.Receiver.{Receiver}
 use Rattle.grow_new_node.specs.Marks.{past-first}
@@ -77,7 +77,7 @@ module _ {img path : List ℕ} {child kind origin label : ℕ} {content : List �
   }
 
   other : (q : ℕ) → 1 ≤ beside (t .chain) q + count q row → getD more q 0 ≡ getD u q 0
-  other q h = raised-other (d .receiver .deep) (t .chain) u q (omega (arith, alone q))
+  other q h = changed-other (entryAnew true) (d .receiver .deep) (t .chain) u q (omega (arith, alone q))
 
   pub awaits : Awaits more t
   awaits =
@@ -93,8 +93,8 @@ module _ {img path : List ℕ} {child kind origin label : ℕ} {content : List �
 
   pub more-marks : InUse u (atRest (p .st) (p .root)) → InUse more (atRest (p .st) (p .root))
   more-marks m = record {
-    long = raised-long (d .receiver .deep) (t .chain) u ∙ m .long;
-    same = λ q h. raised-used (d .receiver .deep) (t .chain) u q (λ p k. (inside p k, used p k)) ∙ m .same q h;
+    long = changed-long (entryAnew true) (d .receiver .deep) (t .chain) u ∙ m .long;
+    same = λ q h. changed-used (entryAnew true) (anew-some true) (d .receiver .deep) (t .chain) u q (λ p k. (inside p k, used p k)) ∙ m .same q h;
   }
     where
       used : (q : ℕ) → 1 ≤ along (t .chain) q → usedBy u q ≡ true

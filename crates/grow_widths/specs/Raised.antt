@@ -1,41 +1,52 @@
--- One node more in a record, and in the helpers that show it through their proxies.
+-- One node more in a record, or one less, and in the helpers that show it through their proxies.
 use mathlib.Core.Path.{_≡_, refl, sym, ap, _∙_}
-use mathlib.Core.Bool.{Bool, true, false, cond}
+use mathlib.Core.Bool.{Bool, true, false, cond, true≢false}
 use mathlib.Core.List.{List}
-use Prim.Native.Nat.{ℕ, zero, suc, _+_, _*_, _-_, _<_, _≤_}
+use Prim.Native.Nat.{ℕ, zero, suc, _+_, _*_, _-_, _<_, _≤_, max}
 use native.Mathlib.Omega.{arith}
 use borrow.Author.Tests.{eqb-true, eq-eqb}
 use lib.Dec.{eqb}
 use lib.ListN.{length, getD, set, length-set}
 use lib.Seq.{getD-set-same, getD-set-other}
 use Rattle.model.specs.Limits.{mostPages, pageSize}
-use Rattle.model.specs.Row.{Row, agg, rec, _⊹_, Config}
+use Rattle.model.specs.Row.{Row, agg, rec, _⊹_, store, lone, Config}
 use Rattle.model.specs.Reading.{Reads, backAt}
 use Rattle.model.specs.Tree.{width}
 use Rattle.model.specs.Spot.{Position, here, inside, fill, Chain, top, below, lastPage, whole, lastHolder}
 use Rattle.theory_rows.specs.Laws.{width-⊹}
+use Rattle.theory_rows.specs.Fits.{Fits, Shape, one, more}
+use Rattle.theory_rows.specs.Shows.{nodes-shown}
 use Rattle.theory_rows.specs.Population.{population, width-population}
-use Rattle.theory_growth.specs.Chain.{along, hang}
+use Rattle.theory_growth.specs.Chain.{chain-fits, proxy-beside, along, hang}
 use Rattle.theory_growth.specs.Told.{ToldAlong, along-own, along-same, along-width, population-whole}
+use Rattle.theory_removal.specs.Stand.{Onward}
 use Rattle.theory_layout.specs.Here.{OnPage}
 use Rattle.theory_insert_point.specs.Bytes.{chain-page}
 use Rattle.theory_insert_point.specs.Nesting.{chainLength}
 use Rattle.grow_pages.specs.Write.{usedBy, used-taken}
 use Rattle.grow_widths.specs.Tally.{mostEntry, entryOf, entry-some, entry-is}
 
--- The table with one node more in so many records, the last first.
-unfoldable pub raised : (n : ℕ) → Chain → (table : List ℕ) → List ℕ
-raised zero c u = u
-raised (suc n) top u = u
-raised (suc n) (below c s q b rest) u = raised n c (set u q (entryOf (getD u q 0 + 1)))
+-- An entry for one node more, and for one less: it stays in range, and is not 0, which marks a free page.
+abbrev pub entryAnew : (more : Bool) → (entry : ℕ) → ℕ
+entryAnew true n = entryOf (n + 1)
+entryAnew false n = max 1 (n - 1)
 
--- What each entry that is set keeps, all of them keep.
-raised-keeps : (P : List ℕ → Type 0) (n : ℕ) (c : Chain) (u : List ℕ)
-    → ((q : ℕ) (w : List ℕ) → 1 ≤ along c q → P w → P (set w q (entryOf (getD w q 0 + 1)))) → P u → P (raised n c u)
-unfolding raised
-raised-keeps P zero c u k p = p
-raised-keeps P (suc n) top u k p = p
-raised-keeps P (suc n) (below c s q b rest) u k p = raised-keeps P n c _ (λ x w h. k x w (omega arith)) (k q u (along-own c s q b rest) p)
+-- The table with the entries of so many records changed, the last first.
+unfoldable pub changed : (f : ℕ → ℕ) → (n : ℕ) → Chain → (table : List ℕ) → List ℕ
+changed f zero c u = u
+changed f (suc n) top u = u
+changed f (suc n) (below c s q b rest) u = changed f n c (set u q (f (getD u q 0)))
+
+-- With one node more in each, and with one less.
+abbrev pub raised : (n : ℕ) → Chain → (table : List ℕ) → List ℕ
+raised = changed (entryAnew true)
+
+abbrev pub lowered : (n : ℕ) → Chain → (table : List ℕ) → List ℕ
+lowered = changed (entryAnew false)
+
+pub anew-some : (more : Bool) (n : ℕ) → 1 ≤ entryAnew more n
+anew-some true n = entry-some (n + 1)
+anew-some false n = omega arith
 
 -- An entry that is set anew, on a page in use.
 used-again : (u : List ℕ) (q v x : ℕ) → 1 ≤ v → q < length u → usedBy u q ≡ true → usedBy (set u q v) x ≡ usedBy u x
@@ -45,49 +56,110 @@ used-again u q v x h l o = used-taken u q v x h l ∙ go (eqb x q) refl
     go true z = sym (ap (usedBy u) (eqb-true x q z) ∙ o)
     go false z = refl
 
-pub raised-long : (n : ℕ) (c : Chain) (u : List ℕ) → length (raised n c u) ≡ length u
-raised-long n c u = raised-keeps (λ w. length w ≡ length u) n c u (λ q w h e. length-set w q _ ∙ e) refl
+module _ (f : ℕ → ℕ) where
+  -- What each entry that is set keeps, all of them keep.
+  changed-keeps : (P : List ℕ → Type 0) (n : ℕ) (c : Chain) (u : List ℕ)
+      → ((q : ℕ) (w : List ℕ) → 1 ≤ along c q → P w → P (set w q (f (getD w q 0)))) → P u → P (changed f n c u)
+  unfolding changed
+  changed-keeps P zero c u k p = p
+  changed-keeps P (suc n) top u k p = p
+  changed-keeps P (suc n) (below c s q b rest) u k p = changed-keeps P n c _ (λ x w h. k x w (omega arith)) (k q u (along-own c s q b rest) p)
 
--- Only the chain's pages change,
-pub raised-other : (n : ℕ) (c : Chain) (u : List ℕ) (p : ℕ) → along c p ≡ 0 → getD (raised n c u) p 0 ≡ getD u p 0
-raised-other n c u p e =
-    raised-keeps (λ w. getD w p 0 ≡ getD u p 0) n c u (λ q w h k. getD-set-other w q p _ 0 (λ z. omega (arith, ap (along c) z)) ∙ k) refl
+  pub changed-long : (n : ℕ) (c : Chain) (u : List ℕ) → length (changed f n c u) ≡ length u
+  changed-long n c u = changed-keeps (λ w. length w ≡ length u) n c u (λ q w h e. length-set w q _ ∙ e) refl
 
--- and stay in use.
-pub raised-used : (n : ℕ) (c : Chain) (u : List ℕ) (p : ℕ) → ((q : ℕ) → 1 ≤ along c q → (q < length u) × (usedBy u q ≡ true))
-    → usedBy (raised n c u) p ≡ usedBy u p
-raised-used n c u p f =
-    raised-keeps (λ w. (length w ≡ length u) × ((x : ℕ) → usedBy w x ≡ usedBy u x)) n c u
-    (λ q w h k. (
-      length-set w q _ ∙ k .0,
-      λ x. used-again w q _ x (entry-some (getD w q 0 + 1)) (omega (arith, f q h .0)) (k .1 q ∙ f q h .1) ∙ k .1 x,
-    )) (refl, λ x. refl) .1 p
+  -- Only the chain's pages change,
+  pub changed-other : (n : ℕ) (c : Chain) (u : List ℕ) (p : ℕ) → along c p ≡ 0 → getD (changed f n c u) p 0 ≡ getD u p 0
+  changed-other n c u p e =
+      changed-keeps (λ w. getD w p 0 ≡ getD u p 0) n c u (λ q w h k. getD-set-other w q p _ 0 (λ z. omega (arith, ap (along c) z)) ∙ k) refl
+
+  -- and stay in use.
+  pub changed-used : ((n : ℕ) → 1 ≤ f n) → (n : ℕ) (c : Chain) (u : List ℕ) (p : ℕ)
+      → ((q : ℕ) → 1 ≤ along c q → (q < length u) × (usedBy u q ≡ true)) → usedBy (changed f n c u) p ≡ usedBy u p
+  changed-used some n c u p g =
+      changed-keeps (λ w. (length w ≡ length u) × ((x : ℕ) → usedBy w x ≡ usedBy u x)) n c u
+      (λ q w h k. (
+        length-set w q _ ∙ k .0,
+        λ x. used-again w q _ x (some (getD w q 0)) (omega (arith, g q h .0)) (k .1 q ∙ g q h .1) ∙ k .1 x,
+      )) (refl, λ x. refl) .1 p
+
+  -- What the change makes of the number of nodes that a record shows, for each record that shows the position, if a new row takes the old one's place there.
+  abbrev Recounted : Chain → Position → (old new : Row) → Type 0
+  Recounted top s old new = Unit {0}
+  Recounted (below c s q b rest) (inside left h right i) old new = Unit {0}
+  Recounted (below c s q b rest) (here left) old new =
+      (f (width (left ⊹ old)) ≡ width (left ⊹ new)) × Recounted c s (rec q b (left ⊹ old) rest) (rec q b (left ⊹ new) rest)
+
+  -- A table that is right on the chain's pages is right on them with the new row at the position.
+  changed-along : (c : Chain) (s : Position) (old new : Row) (u : List ℕ) → Recounted c s old new → ((q : ℕ) → along c q ≤ 1)
+      → ((q : ℕ) → 1 ≤ along c q → q < length u) → ToldAlong u c (fill s old) → ToldAlong (changed f (hang c s) c u) c (fill s new)
+  unfolding changed
+  changed-along top s old new u e once low t = tt
+  changed-along (below c s q b rest) (inside left h right i) old new u e once low t =
+      along-width u (below c s q b rest) (fill (inside left h right i) old) (fill (inside left h right i) new)
+      (omega (arith, width-⊹ left (agg h (fill i old) right), width-⊹ left (agg h (fill i new) right))) t
+  changed-along (below c s q b rest) (here left) old new u e once low t =
+      let x = left ⊹ old in
+      let y = left ⊹ new in
+      let v = f (getD u q 0) in
+      let own = along-own c s q b rest in
+      let alone : cond true 1 0 + along c q ≤ 1 = rw (eq-eqb q q refl) at (once q) in
+      let apart : along c q ≡ 0 = omega (arith, alone) in (
+        changed-other (hang c s) c (set u q v) q apart ∙ getD-set-same u q v 0 (low q own) ∙ ap f (t .0) ∙ e .0,
+        changed-along c s (rec q b x rest) (rec q b y rest) (set u q v) (e .1) (λ p. omega (arith, once p))
+            (λ p h. omega (arith, length-set u q v, low p (omega arith)))
+            (along-same u (set u q v) c (fill s (rec q b x rest))
+            (λ p h. getD-set-other u q p v 0 (λ k. omega (arith, ap (along c) k))) (t .1)),
+      )
+
+-- ── one node more ──
+
+raised-recounted : (c : Chain) (s : Position) (old new : Row) → width new ≡ width old + 1 → population (whole c (fill s old)) < mostEntry
+    → Recounted (entryAnew true) c s old new
+raised-recounted top s old new e few = tt
+raised-recounted (below c s q b rest) (inside left h right i) old new e few = tt
+raised-recounted (below c s q b rest) (here left) old new e few =
+    let x = left ⊹ old in
+    let w = width-⊹ left old in
+    let z = width-⊹ left new in (
+      entry-is (width x + 1) (omega arith) (omega (arith, width-population x, population-whole (below c s q b rest) x)) ∙ omega arith,
+      raised-recounted c s (rec q b x rest) (rec q b (left ⊹ new) rest) (omega arith) few,
+    )
 
 -- A table that is right on the chain's pages is right on them with one node more at the position.
 pub raised-along : (c : Chain) (s : Position) (old new : Row) (u : List ℕ) → width new ≡ width old + 1 → population (whole c (fill s old)) < mostEntry
     → ((q : ℕ) → along c q ≤ 1) → ((q : ℕ) → 1 ≤ along c q → q < length u) → ToldAlong u c (fill s old) → ToldAlong (raised (hang c s) c u) c (fill s new)
-unfolding raised
-raised-along top s old new u e few one low t = tt
-raised-along (below c s q b rest) (inside left h right i) old new u e few one low t =
-    along-width u (below c s q b rest) (fill (inside left h right i) old) (fill (inside left h right i) new)
-    (omega (arith, width-⊹ left (agg h (fill i old) right), width-⊹ left (agg h (fill i new) right))) t
-raised-along (below c s q b rest) (here left) old new u e few one low t =
+raised-along c s old new u e few = changed-along (entryAnew true) c s old new u (raised-recounted c s old new e few)
+
+-- ── one node less ──
+
+-- A record that is not one node alone shows two or more.
+two-shown : {b : Bool} (r : Row) → Shape b r → Fits r → lone r ≡ false → 2 ≤ width r
+two-shown r (one e) f l = absurd (true≢false (sym e ∙ l))
+two-shown r (more _ h) f l = omega (arith, nodes-shown r f)
+
+-- A proxy stands in an aggregate or in a record with a helper.
+onward-proxy : (s : Position) (q : ℕ) (b : Bool) (r rest : Row) → Onward s (rec q b r rest)
+onward-proxy (here left) q b r rest = proxy-beside left q b r rest
+onward-proxy (inside left h right s) q b r rest = tt
+
+lowered-recounted : (c : Chain) (s : Position) (old new : Row) → width old ≡ width new + 1 → Fits (store (whole c (fill s old))) → Onward s old
+    → Recounted (entryAnew false) c s old new
+lowered-recounted top s old new e fit on = tt
+lowered-recounted (below c s q b rest) (inside left h right i) old new e fit on = tt
+lowered-recounted (below c s q b rest) (here left) old new e fit on =
     let x = left ⊹ old in
-    let y = left ⊹ new in
-    let v = entryOf (getD u q 0 + 1) in
     let w = width-⊹ left old in
     let z = width-⊹ left new in
-    let own = along-own c s q b rest in
-    let n : v ≡ width y =
-    entry-is (getD u q 0 + 1) (omega arith) (omega (arith, t .0, width-population x, population-whole (below c s q b rest) x)) ∙ omega (arith, t .0) in
-    let alone : cond true 1 0 + along c q ≤ 1 = rw (eq-eqb q q refl) at (one q) in
-    let apart : along c q ≡ 0 = omega (arith, alone) in (
-      raised-other (hang c s) c (set u q v) q apart ∙ getD-set-same u q v 0 (low q own) ∙ n,
-      raised-along c s (rec q b x rest) (rec q b y rest) (set u q v) (omega arith) few (λ p. omega (arith, one p))
-          (λ p h. omega (arith, length-set u q v, low p (omega arith)))
-          (along-same u (set u q v) c (fill s (rec q b x rest))
-          (λ p h. getD-set-other u q p v 0 (λ k. omega (arith, ap (along c) k))) (t .1)),
+    let g = chain-fits (below c s q b rest) x fit in (
+      omega (arith, two-shown x (g .0 .shape) (g .1) on),
+      lowered-recounted c s (rec q b x rest) (rec q b (left ⊹ new) rest) (omega arith) fit (onward-proxy s q b x rest),
     )
+
+-- A table that is right on the chain's pages is right on them with one node less at the position, unless it is a record's only node.
+pub lowered-along : (c : Chain) (s : Position) (old new : Row) (u : List ℕ) → width old ≡ width new + 1 → Fits (store (whole c (fill s old))) → Onward s old
+    → ((q : ℕ) → along c q ≤ 1) → ((q : ℕ) → 1 ≤ along c q → q < length u) → ToldAlong u c (fill s old) → ToldAlong (lowered (hang c s) c u) c (fill s new)
+lowered-along c s old new u e fit on = changed-along (entryAnew false) c s old new u (lowered-recounted c s old new e fit on)
 
 -- ── the way up ──
 
@@ -107,24 +179,25 @@ pub page-of : {img u : List ℕ} {page deep : ℕ} (w : Raising img u page deep)
 page-of {img} w = chain-page img (w .st) (w .root) (w .reads) (w .chain) (w .row) (w .is)
 
 -- The rest of the way leads to the same table.
-pub record Rest (img u goal : List ℕ) (page deep : ℕ) : Type 0 where
+pub record Rest (f : ℕ → ℕ) (img u goal : List ℕ) (page deep : ℕ) : Type 0 where
   pub now : Raising img u page deep
-  pub goes : raised deep (now .chain) u ≡ goal
+  pub goes : changed f deep (now .chain) u ≡ goal
 
 -- One record up.
-pub raise-step : {img u goal : List ℕ} {page : ℕ} (deep : ℕ) → Rest img u goal page deep → 0 < deep → (h v : ℕ) → h ≡ backAt img (pageSize * page)
-    → v ≡ entryOf (getD u page 0 + 1)
-    → Rest img (set u page v) goal h (deep - 1)
-unfolding raised
-raise-step zero r more h v e n = absurd (omega arith)
-raise-step {img} {u} {goal} {page} (suc deep) r more h v e n = go (r .now .chain) (r .now .is) (r .now .last) (r .now .enough) (r .goes)
+pub change-step : {f : ℕ → ℕ} {img u goal : List ℕ} {page : ℕ} (deep : ℕ) → Rest f img u goal page deep → 0 < deep → (h v : ℕ)
+    → h ≡ backAt img (pageSize * page)
+    → v ≡ f (getD u page 0)
+    → Rest f img (set u page v) goal h (deep - 1)
+unfolding changed
+change-step zero r some h v e n = absurd (omega arith)
+change-step {f} {img} {u} {goal} {page} (suc deep) r some h v e n = go (r .now .chain) (r .now .is) (r .now .last) (r .now .enough) (r .goes)
   where
-    go : (c : Chain) → whole c (r .now .row) ≡ r .now .root → page ≡ lastPage c → suc deep ≤ chainLength c → raised (suc deep) c u ≡ goal
-        → Rest img (set u page v) goal h (suc deep - 1)
+    go : (c : Chain) → whole c (r .now .row) ≡ r .now .root → page ≡ lastPage c → suc deep ≤ chainLength c → changed f (suc deep) c u ≡ goal
+        → Rest f img (set u page v) goal h (suc deep - 1)
     go top is last enough goes = absurd (omega arith)
     go (below c s q b rest) is last enough goes =
         let d : suc deep - 1 ≡ deep = omega arith in
-        let k : Rest img (set u q (entryOf (getD u q 0 + 1))) goal h deep = record {
+        let k : Rest f img (set u q (f (getD u q 0))) goal h deep = record {
           now = record {
             st = r .now .st;
             root = r .now .root;
@@ -135,17 +208,17 @@ raise-step {img} {u} {goal} {page} (suc deep) r more h v e n = go (r .now .chain
             last = e ∙ ap (λ (n : ℕ). backAt img (pageSize * n)) last
                 ∙ chain-page img (r .now .st) (r .now .root) (r .now .reads) (below c s q b rest) (r .now .row) is .back;
             enough = omega arith;
-            long = length-set u q (entryOf (getD u q 0 + 1)) ∙ r .now .long;
+            long = length-set u q (f (getD u q 0)) ∙ r .now .long;
           };
           goes = goes;
         } in
         rw (d, n, last) k
 
 -- At its end.
-pub raise-end : {img u goal : List ℕ} {page : ℕ} (deep : ℕ) → Rest img u goal page deep → deep ≤ 0 → u ≡ goal
-unfolding raised
-raise-end zero r e = r .goes
-raise-end (suc deep) r e = absurd (omega arith)
+pub change-end : {f : ℕ → ℕ} {img u goal : List ℕ} {page : ℕ} (deep : ℕ) → Rest f img u goal page deep → deep ≤ 0 → u ≡ goal
+unfolding changed
+change-end zero r e = r .goes
+change-end (suc deep) r e = absurd (omega arith)
 
 -- A chain has the records that show a position of the last one.
 pub hang-length : (c : Chain) (s : Position) → hang c s ≤ chainLength c

@@ -1,4 +1,4 @@
-// The table by which an insert knows its pages: 0 is a free page, another number a page in use, whose record shows so many nodes.
+// The table by which an insert or a removal knows its pages: 0 is a free page, another number a page in use, whose record shows so many nodes.
 use base_layout::back_at;
 use base_layout::name_at;
 use base_layout::size_at;
@@ -8,7 +8,7 @@ ghost use Prim.Native.Nat.{_≤_};
 ghost use Rattle.model.specs.Limits.{mostPages};
 ghost use Rattle.grow_pages.specs.Links.{Linked};
 ghost use Rattle.grow_widths.specs.Tally.{tallied, mostEntry, entryOf, numberOf};
-ghost use Rattle.grow_widths.specs.Raised.{raised, Raising};
+ghost use Rattle.grow_widths.specs.Raised.{entryAnew, changed, raised, lowered, Raising};
 
 // An entry as a number of the machine.
 fn wide(x: u32) -> usize
@@ -58,17 +58,48 @@ pub fn number(part: &[u8], widths: &[u32; Settings::PAGES]) -> u32
     entry(sum(part, widths))
 }
 
-// The record on the page and the `deep` - 1 records above it show one node more.
+// An entry for one node more, or for one less.
+fn entry_anew(x: u32, more: bool) -> u32
+    ensures { λ r. ⌜ r ≡ entryAnew more x ⌝ }
+{
+    if more {
+        return entry(wide(x) + 1);
+    }
+    if x < 2 {
+        return 1;
+    }
+    x - 1
+}
+
+// The record on the page and the `deep` - 1 records above it show one node more, or one less.
+fn change(image: &[u8], widths: &mut [u32; Settings::PAGES], page: usize, deep: usize, more: bool)
+    requires { ⌜ Raising (now image) (now widths) page deep ⌝ }
+    ensures { λ _. ⌜ ((w : Raising (now (image .entry)) (now (widths .entry)) page deep)
+        → now (widths .exit) ≡ changed (entryAnew more) deep (w .chain) (now (widths .entry))) ⌝ }
+{
+    let mut q = page;
+    let mut left = deep;
+    while 0 < left {
+        widths[q] = entry_anew(widths[q], more);
+        q = back_at(image, Settings::PAGE * q);
+        left -= 1;
+    }
+}
+
+// They show one node more.
 pub fn one_more(image: &[u8], widths: &mut [u32; Settings::PAGES], page: usize, deep: usize)
     requires { ⌜ Raising (now image) (now widths) page deep ⌝ }
     ensures { λ _. ⌜ ((w : Raising (now (image .entry)) (now (widths .entry)) page deep)
         → now (widths .exit) ≡ raised deep (w .chain) (now (widths .entry))) ⌝ }
 {
-    let mut q = page;
-    let mut left = deep;
-    while 0 < left {
-        widths[q] = entry(wide(widths[q]) + 1);
-        q = back_at(image, Settings::PAGE * q);
-        left -= 1;
-    }
+    change(image, widths, page, deep, true);
+}
+
+// They show one node less.
+pub fn one_less(image: &[u8], widths: &mut [u32; Settings::PAGES], page: usize, deep: usize)
+    requires { ⌜ Raising (now image) (now widths) page deep ⌝ }
+    ensures { λ _. ⌜ ((w : Raising (now (image .entry)) (now (widths .entry)) page deep)
+        → now (widths .exit) ≡ lowered deep (w .chain) (now (widths .entry))) ⌝ }
+{
+    change(image, widths, page, deep, false);
 }

@@ -1,0 +1,11 @@
+use Rattle.grow_widths.proofs.one_less.Statement.{statement}
+use Rattle.grow_widths.proofs.one_less.Tie as tie
+
+change-requires : tie.Need-change-requires
+change-requires c κs = c .before .before .pre
+
+returns : tie.Need-returns
+returns c = c .change .ensures
+
+pub one-less-spec : {M : Type 1} → statement M
+one-less-spec = tie.close (tie.spec change-requires returns)
