@@ -1,10 +1,10 @@
--- The parent of a spot, and the spot, as bytes of the image.
-use mathlib.Core.Path.{_≡_, refl, sym, ap, _∙_}
+-- The parent of a node, and the node, as bytes of the image: one that stands in the records, and a new one.
+use mathlib.Core.Path.{_≡_, refl, sym, ap, subst, _∙_}
+use mathlib.Core.Bool.{Bool, true, cond, and-true}
 use mathlib.Core.List.{List, [], _∷_}
-use mathlib.Core.Option.{Option, none, some, Option·some-injective, Option·none-ne-some}
+use mathlib.Core.Option.{Option, none, some, Option·map, Option·some-injective, Option·none-ne-some}
 use Prim.Native.Nat.{ℕ, zero, suc, _+_, _*_, _-_}
 use native.Mathlib.Omega.{arith}
-use borrow.Author.Tests.{ltb-false}
 use lib.ListN.{length}
 use lib.Dec.{ltb}
 use Rattle.model.specs.Limits.{pageSize}
@@ -12,11 +12,13 @@ use Rattle.model.specs.Row.{Head, Row, nil, agg, lit, rec, _⊹_, size, lone, b
 use Rattle.model.specs.Tree.{width, placeAt}
 use Rattle.model.specs.declared.Place.{Place}
 use Rattle.theory_rows.specs.Laws.{size-⊹}
-use Rattle.model.specs.Spot.{Position, here, inside, fill, past, into, Chain, below, lastPage, Spot, spotAt, spotAfter, spotChild, spotIn, whole}
+use Rattle.model.specs.Spot.{Position, here, inside, fill, past, into, Chain, below, lastPage, Spot, spotAfter, spotChild, spotIn, whole}
+use Rattle.model.specs.Removal.{Stand, standIn}
 use Rattle.theory_growth.specs.Chain.{both, before, fill-past, fill-into, hang, hang-past}
 use Rattle.grow_splice.specs.Position.{parent}
 use Rattle.grow_locate.specs.declared.Located.{Located}
-use Rattle.grow_locate.specs.Behind.{goesTo, behindOf, behind-zero}
+use Rattle.grow_locate.specs.Seek.{seekOf}
+use Rattle.grow_locate.specs.Behind.{behindOf}
 
 -- ── offsets in a record ──
 
@@ -52,17 +54,6 @@ offset-into s h rest x = omega (arith, ap base (fill-into s h rest x), before-in
 pub holder-into : (s : Position) (h : Head) (rest x : Row) → holderIn (into s h rest) x ≡ offsetIn s (agg h x rest)
 holder-into s h rest x = parent-into s h rest 0 _ ∙ ap (λ (r : Row). base r + before s) (fill-into s h rest x)
 
--- ── the spot ──
-
-abbrev pub locatedOf : Spot → Located
-locatedOf t =
-    goesTo (pageSize * lastPage (t .chain) + offsetIn (t .position) (t .rest)) (holderIn (t .position) (t .rest)) (hang (t .chain) (t .position))
-
--- The spot of a child of the parent, if there is one, is what the code finds.
-abbrev pub Hits : (parent : Head) → Located → Option Spot → Type 0
-Hits h l none = Unit {0}
-Hits h l (some t) = (l ≡ locatedOf t) × (t .parent ≡ h)
-
 -- A row that goes on at position s of the last record of c is at the byte pos, and the node that holds it at the offset par; `deep` records
 -- show it.
 pub record Goes (c : Chain) (s : Position) (row : Row) (pos par deep : ℕ) : Type 0 where
@@ -78,37 +69,93 @@ go-past c s one rest n e g = record {
   holder = g .holder ∙ sym (parent-past s one 0 _ ∙ ap (λ (r : Row). parent 0 (base r) s) (fill-past s one rest));
 }
 
-stop-here : (h : Head) (c : Chain) (s : Position) (rest : Row) {pos par deep : ℕ} → Goes c s rest pos par deep
-    → Hits h (behindOf pos par deep rest 0) (spotAt h c s rest)
-stop-here h c s rest g = (sym (behind-zero _ _ _ rest) ∙ (λ i. goesTo (g .at i) (g .holder i) (g .hangs i)), refl)
+-- ── a node that stands there ──
 
-after-hits : (h : Head) (c : Chain) (s : Position) (i : ℕ) (row : Row) {pos par deep : ℕ} → Goes c s row pos par deep
-    → Hits h (behindOf pos par deep row (suc i)) (spotAfter h c s i row)
-unfolding behindOf spotAfter
-after-hits h c s i nil g = tt
-after-hits h c s zero (agg l cs rest) g = stop-here h c _ rest (go-past c s (agg l cs nil) rest (6 + size cs) (omega arith) g)
-after-hits h c s (suc i) (agg l cs rest) g = after-hits h c _ i rest (go-past c s (agg l cs nil) rest (6 + size cs) (omega arith) g)
-after-hits h c s zero (lit l x rest) g = stop-here h c _ rest (go-past c s (lit l x nil) rest (6 + length x) (omega arith) g)
-after-hits h c s (suc i) (lit l x rest) g = after-hits h c _ i rest (go-past c s (lit l x nil) rest (6 + length x) (omega arith) g)
-after-hits h c s i (rec q b r rest) {pos = pos} {par = par} {deep = deep} g =
-    let n = go-past c s (rec q b r nil) rest 8 (omega arith) g in
-    both (Hits h) (ltb i (width r))
-    (λ _. both (Hits h) (lone r) (λ _. rw (behind-zero (pos + 8) par deep rest) (stop-here h c _ rest n))
-    (λ _. after-hits h (below c s q b rest) (here nil) i r (record { at = omega arith; holder = refl; hangs = omega (arith, g .hangs) })))
-    (λ e.
-    let m : suc (i - width r) ≡ suc i - width r = omega (arith, ltb-false i (width r) e) in
-    rw (← m) (after-hits h c _ (i - width r) rest n))
+-- What the code finds for it.
+pub record Stands (l : Located) (t : Stand) : Type 0 where
+  pub found : l .found ≡ true
+  pub goes : Goes (t .chain) (t .position) (t .node ⊹ t .rest) (l .at) (l .par) (l .deep)
+  pub ends : l .past ≡ l .at + size (t .node)
 
--- The place that the code finds among an aggregate's children is the spot's.
+abbrev pub IsStand : Located → Option Stand → Type 0
+IsStand l none = Unit {0}
+IsStand l (some t) = Stands l t
+
+-- Node i of a row stands where the code finds it.
+pub stand-hits : (c : Chain) (s : Position) (i : ℕ) (row : Row) {pos par deep : ℕ} → Goes c s row pos par deep
+    → IsStand (seekOf pos par deep row i) (standIn c s i [] row)
+unfolding seekOf standIn
+stand-hits c s i nil g = tt
+stand-hits c s zero (agg h cs rest) g = record { found = refl; goes = g; ends = omega arith }
+stand-hits c s (suc i) (agg h cs rest) g = stand-hits c _ i rest (go-past c s (agg h cs nil) rest (6 + size cs) (omega arith) g)
+stand-hits c s zero (lit h x rest) g = record { found = refl; goes = g; ends = omega arith }
+stand-hits c s (suc i) (lit h x rest) g = stand-hits c _ i rest (go-past c s (lit h x nil) rest (6 + length x) (omega arith) g)
+stand-hits c s i (rec q b r rest) g =
+    both IsStand (ltb i (width r))
+    (λ _. rw (and-true (lone r))
+    (both IsStand (lone r) (λ _. record { found = refl; goes = g; ends = omega arith })
+    (λ _. stand-hits (below c s q b rest) (here nil) i r (record { at = omega arith; holder = refl; hangs = omega (arith, g .hangs) }))))
+    (λ _. stand-hits c _ (i - width r) rest (go-past c s (rec q b r nil) rest 8 (omega arith) g))
+
+-- ── a new node ──
+
+-- The spot behind a node that stands there.
+abbrev behindStand : (parent : Head) → Stand → Spot
+behindStand parent t = record { chain = t .chain; position = past (t .position) (t .node); rest = t .rest; parent = parent }
+
+after-stand : (h : Head) (c : Chain) (s : Position) (i : ℕ) (row : Row) → spotAfter h c s i row ≡ Option·map (behindStand h) (standIn c s i [] row)
+unfolding spotAfter standIn
+after-stand h c s i nil = refl
+after-stand h c s zero (agg l cs rest) = refl
+after-stand h c s (suc i) (agg l cs rest) = after-stand h c (past s (agg l cs nil)) i rest
+after-stand h c s zero (lit l x rest) = refl
+after-stand h c s (suc i) (lit l x rest) = after-stand h c (past s (lit l x nil)) i rest
+after-stand h c s i (rec q b r rest) =
+    let P : Option Spot → Option Stand → Type 0 = λ a b. a ≡ Option·map (behindStand h) b in
+    both P (ltb i (width r))
+    (λ _. rw (and-true (lone r)) (both P (lone r) (λ _. refl) (λ _. after-stand h (below c s q b rest) (here nil) i r)))
+    (λ _. after-stand h c (past s (rec q b r nil)) (i - width r) rest)
+
+-- The spot of a child of the parent, if there is one, is behind what the code finds.
+abbrev pub Hits : (parent : Head) → Located → Option Spot → Type 0
+Hits h l none = Unit {0}
+Hits h l (some t) = Goes (t .chain) (t .position) (t .rest) (l .past) (l .par) (l .deep) × (t .parent ≡ h)
+
+hits-behind : (h : Head) (l : Located) (o : Option Stand) → IsStand l o → Hits h l (Option·map (behindStand h) o)
+hits-behind h l none s = tt
+hits-behind h l (some t) s = (rw (s .ends) (go-past (t .chain) (t .position) (t .node) (t .rest) (size (t .node)) refl (s .goes)), refl)
+
 pub child-hits : (h : Head) (c : Chain) (s : Position) (k : ℕ) (row : Row) {pos par deep : ℕ} → Goes c s row pos par deep
     → Hits h (behindOf pos par deep row k) (spotChild h c s k row)
-child-hits h c s zero row g = stop-here h c s row g
-child-hits h c s (suc i) row g = after-hits h c s i row g
+child-hits h c s zero row g = (g, refl)
+child-hits h c s (suc i) row {pos = pos} {par = par} {deep = deep} g =
+    subst (Hits h (seekOf pos par deep row i)) (sym (after-stand h c s i row)) (hits-behind h _ (standIn c s i [] row) (stand-hits c s i row g))
 
 -- ── the parent ──
 
--- The parent at y is the aggregate at a position of the last record of a chain, and the spot is among its children.
-pub record Parent (root : Row) (k : ℕ) (t : Spot) (y : Place) : Type 0 where
+-- A search along a path, which goes from node to node as `placeAt` does, and finds nothing at a literal.
+pub record AlongPath {A : Type 0} (f : Chain → Position → (i : ℕ) → (path : List ℕ) → Row → Option A) : Type 0 where
+  pub at-lit : (c : Chain) (s : Position) (h : Head) (x : List ℕ) (rest : Row) → f c s 0 [] (lit h x rest) ≡ none
+  pub down : (c : Chain) (s : Position) (j : ℕ) (path : List ℕ) (h : Head) (cs rest : Row) → f c s 0 (j ∷ path) (agg h cs rest) ≡ f c (into s h rest) j path cs
+  pub after-agg : (c : Chain) (s : Position) (i : ℕ) (path : List ℕ) (h : Head) (cs rest : Row)
+      → f c s (suc i) path (agg h cs rest) ≡ f c (past s (agg h cs nil)) i path rest
+  pub after-lit : (c : Chain) (s : Position) (i : ℕ) (path : List ℕ) (h : Head) (x : List ℕ) (rest : Row)
+      → f c s (suc i) path (lit h x rest) ≡ f c (past s (lit h x nil)) i path rest
+  pub at-rec : (c : Chain) (s : Position) (i : ℕ) (path : List ℕ) (q : ℕ) (b : Bool) (r rest : Row) → f c s i path (rec q b r rest)
+      ≡ cond (ltb i (width r)) (f (below c s q b rest) (here nil) i path r) (f c (past s (rec q b r nil)) (i - width r) path rest)
+
+pub spot-along : (k : ℕ) → AlongPath (spotIn k)
+unfolding spotIn
+spot-along k = record {
+  at-lit = λ c s h x rest. refl;
+  down = λ c s j path h cs rest. refl;
+  after-agg = λ c s i path h cs rest. refl;
+  after-lit = λ c s i path h x rest. refl;
+  at-rec = λ c s i path q b r rest. refl;
+}
+
+-- The parent at y is the aggregate at a position of the last record of a chain.
+pub record Parent (root : Row) (y : Place) : Type 0 where
   pub chain : Chain
   pub position : Position
   pub head : Head
@@ -117,37 +164,43 @@ pub record Parent (root : Row) (k : ℕ) (t : Spot) (y : Place) : Type 0 where
   pub is : whole chain (fill position (agg head children rest)) ≡ root
   pub page : y .page ≡ lastPage chain
   pub offset : y .offset ≡ offsetIn position (agg head children rest)
-  pub takes : spotChild head chain (into position head rest) k children ≡ some t
 
-module _ (root : Row) (k : ℕ) (t : Spot) (y : Place) where
+module _ {A : Type 0} (f : Chain → Position → (i : ℕ) → (path : List ℕ) → Row → Option A) (d : AlongPath f) (root : Row) (t : A) (y : Place) where
+  -- What the search finds, it finds from there.
+  abbrev Searched : Type 0
+  Searched = (p : Parent root y) × (f (p .chain) (p .position) 0 [] (agg (p .head) (p .children) (p .rest)) ≡ some t)
+
   pub in-parent : (c : Chain) (s : Position) (at i : ℕ) (path : List ℕ) (row : Row) → whole c (fill s row) ≡ root → at ≡ offsetIn s row
-      → spotIn k c s i path row ≡ some t → placeAt (lastPage c) at i path row ≡ some y → Parent root k t y
-  unfolding spotIn placeAt
-  in-parent c s at i path nil w o e p = absurd (Option·none-ne-some t e)
+      → f c s i path row ≡ some t → placeAt (lastPage c) at i path row ≡ some y → Searched
+  unfolding placeAt
+  in-parent c s at i path nil w o e p = absurd (Option·none-ne-some y p)
   in-parent c s at zero [] (agg h cs rest) w o e p =
-      let z = Option·some-injective _ y p in
-      record {
-        chain = c;
-        position = s;
-        head = h;
-        children = cs;
-        rest = rest;
-        is = w;
-        page = sym (ap (λ (y : Place). y .page) z);
-        offset = sym (ap (λ (y : Place). y .offset) z) ∙ o;
-        takes = e;
-      }
+      let z = Option·some-injective _ y p in (
+        record {
+          chain = c;
+          position = s;
+          head = h;
+          children = cs;
+          rest = rest;
+          is = w;
+          page = sym (ap (λ (y : Place). y .page) z);
+          offset = sym (ap (λ (y : Place). y .offset) z) ∙ o;
+        },
+        e,
+      )
   in-parent c s at zero (j ∷ path) (agg h cs rest) w o e p =
-      in-parent c (into s h rest) (at + 6) j path cs (ap (whole c) (fill-into s h rest cs) ∙ w) (omega (arith, offset-into s h rest cs)) e p
+      in-parent c (into s h rest) (at + 6) j path cs (ap (whole c) (fill-into s h rest cs) ∙ w) (omega (arith, offset-into s h rest cs))
+      (sym (d .down c s j path h cs rest) ∙ e) p
   in-parent c s at (suc i) path (agg h cs rest) w o e p =
       in-parent c (past s (agg h cs nil)) (at + 6 + size cs) i path rest (ap (whole c) (fill-past s (agg h cs nil) rest) ∙ w)
-      (omega (arith, offset-past s (agg h cs nil) rest (6 + size cs) (omega arith))) e p
-  in-parent c s at zero path (lit h x rest) w o e p = absurd (Option·none-ne-some t e)
+      (omega (arith, offset-past s (agg h cs nil) rest (6 + size cs) (omega arith))) (sym (d .after-agg c s i path h cs rest) ∙ e) p
+  in-parent c s at zero [] (lit h x rest) w o e p = absurd (Option·none-ne-some t (sym (d .at-lit c s h x rest) ∙ e))
+  in-parent c s at zero (j ∷ path) (lit h x rest) w o e p = absurd (Option·none-ne-some y p)
   in-parent c s at (suc i) path (lit h x rest) w o e p =
       in-parent c (past s (lit h x nil)) (at + 6 + length x) i path rest (ap (whole c) (fill-past s (lit h x nil) rest) ∙ w)
-      (omega (arith, offset-past s (lit h x nil) rest (6 + length x) (omega arith))) e p
+      (omega (arith, offset-past s (lit h x nil) rest (6 + length x) (omega arith))) (sym (d .after-lit c s i path h x rest) ∙ e) p
   in-parent c s at i path (rec q b r rest) w o e p =
-      both (λ (a : Option Spot) (b : Option Place). a ≡ some t → b ≡ some y → Parent root k t y) (ltb i (width r))
+      both (λ (a : Option A) (b : Option Place). a ≡ some t → b ≡ some y → Searched) (ltb i (width r))
       (λ _ e p. in-parent (below c s q b rest) (here nil) (base r) i path r w (omega arith) e p)
       (λ _ e p. in-parent c (past s (rec q b r nil)) (at + 8) (i - width r) path rest (ap (whole c) (fill-past s (rec q b r nil) rest) ∙ w)
-      (omega (arith, offset-past s (rec q b r nil) rest 8 (omega arith))) e p) e p
+      (omega (arith, offset-past s (rec q b r nil) rest 8 (omega arith))) e p) (sym (d .at-rec c s i path q b r rest) ∙ e) p
