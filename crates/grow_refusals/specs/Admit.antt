@@ -68,7 +68,7 @@ module _ {img : List ℕ} {kind : ℕ} {head : Head} {content : List ℕ} {child
   is-literal k e = sym (rw (eq-eqb kind 2 (r .kind-is ∙ sym (view (r .here) (r .some) .kind-is) ∙ e)))
 
   module _ (z : kindAt img parent ≡ 2 → ⊥) where
-    not-literal : eqb kind 2 ≡ false
+    pub not-literal : eqb kind 2 ≡ false
     not-literal = ne-eqb kind 2 (λ e. z (view (r .here) (r .some) .kind-is ∙ sym (r .kind-is) ∙ e))
 
     -- The children as the search takes them.
@@ -99,7 +99,7 @@ pub record FoundNode (img : List ℕ) (root : Row) (path : List ℕ) : Type 0 wh
 
 module _ (img : List ℕ) (st : Config) (root : Row) (reads : Reads img st root) (path : List ℕ) (short : length path ≤ longestParent) where
   -- Find refuses a path of this length only if it names no node.
-  find-number : (b : Bool) → isNone (namedBy (shown root) path) ≡ b → findOf img path .number ≡ cond b 7 0
+  pub find-number : (b : Bool) → isNone (namedBy (shown root) path) ≡ b → findOf img path .number ≡ cond b 7 0
   unfolding findOf findIn
   find-number true e = rw (opens img st root reads, le-ltb longestPath (length path) (omega arith), e)
   find-number false e = rw (opens img st root reads, le-ltb longestPath (length path) (omega arith), e)

@@ -40,11 +40,11 @@ pub record NextEntry (s : List ℕ) (i : ℕ) (path : List ℕ) : Type 0 where
   pub is : path ≡ fourAt s i ∷ rest
   pub more : entries (drop (i + 4) s) ≡ some rest
 
-module _ (s : List ℕ) (i : ℕ) (path : List ℕ) (h : i < length s) where
+module _ (s : List ℕ) (i : ℕ) where
   byte : (t : List ℕ) → drop i s ≡ t → (j : ℕ) → getD s (i + j) 0 ≡ getD t j 0
   byte t e j = sym (getD-drop i s j 0) ∙ ap (λ (z : List ℕ). getD z j 0) e
 
-  read-four : (a b c d : ℕ) (t : List ℕ) → drop i s ≡ a ∷ b ∷ c ∷ d ∷ t → fourAt s i ≡ a + 256 * b + 65536 * c + 16777216 * d
+  pub read-four : (a b c d : ℕ) (t : List ℕ) → drop i s ≡ a ∷ b ∷ c ∷ d ∷ t → fourAt s i ≡ a + 256 * b + 65536 * c + 16777216 * d
   unfolding fourAt twoAt
   read-four a b c d t e =
       let z : i + 0 ≡ i = omega arith in
@@ -52,8 +52,8 @@ module _ (s : List ℕ) (i : ℕ) (path : List ℕ) (h : i < length s) where
       let f = byte (a ∷ b ∷ c ∷ d ∷ t) e in
       rw y (omega (arith, rw z at (f 0), f 1, f 2, f 3))
 
-  pub next-entry : entries (drop i s) ≡ some path → NextEntry s i path
-  next-entry = go (drop i s) refl
+  pub next-entry : (path : List ℕ) → i < length s → entries (drop i s) ≡ some path → NextEntry s i path
+  next-entry path h = go (drop i s) refl
     where
       step : (a b c d : ℕ) (t : List ℕ) → drop i s ≡ a ∷ b ∷ c ∷ d ∷ t → (o : Option (List ℕ)) → entries t ≡ o
           → Option·map (λ ns. (a + 256 * b + 65536 * c + 16777216 * d) ∷ ns) o ≡ some path → NextEntry s i path
