@@ -10,7 +10,7 @@ use lib.ListN.{length, take, drop, length-append, length-take}
 use lib.Seq.{take-at, drop-at}
 use lib.Dec.{eqb, ltb}
 use Rattle.model.specs.Limits.{capacity, pageSize}
-use Rattle.model.specs.Row.{Row, nil, rec, store, _⊹_, loneRec, two, recordPage, recordOn, count, image, Config}
+use Rattle.model.specs.Row.{Row, nil, rec, store, loneRec, two, recordPage, recordOn, count, image, Config}
 use Rattle.model.specs.Reading.{Reads, pageOf}
 use Rattle.model.specs.Tree.{Tree}
 use Rattle.model.specs.Spot.{Position, fill, Chain, top, below, lastPage, lastHolder}
@@ -18,20 +18,18 @@ use Rattle.model.specs.Removal.{Stand, standOf, without, removed}
 use Rattle.model.specs.Claims.{SameButLink, OthersStay, touched}
 use Rattle.model.specs.Calls.Remove.{removeOf}
 use Rattle.theory_rows.specs.Fits.{Valid, Fits}
-use Rattle.theory_rows.specs.Bound.{fits-parts}
 use Rattle.theory_rows.specs.Image.{Stored, image-page, length-recordPage}
 use Rattle.theory_rows.specs.Pages.{bit, or-left, or-right}
 use Rattle.theory_decoding.specs.Reading.{reads-valid}
 use Rattle.theory_check.specs.Images.{page-is}
-use Rattle.theory_growth.specs.Chain.{lastSettled, fits-fill, fits-refill, chain-fits}
 use Rattle.theory_removal.specs.Stand.{Leaves, stand-leaves}
 use Rattle.theory_removal.specs.Keeps.{Proxy, proxy-of, root-stays, removed-is, removed-valid}
 use Rattle.theory_calls.specs.Remove.{removable, remove-accepted}
-use Rattle.theory_page_memory.specs.Memory.{Mem, blank, setMem, relink}
-use Rattle.theory_page_memory.specs.Links.{self, set-same, set-other, relink-page}
-use Rattle.theory_page_memory.specs.Around.{beyond-own}
+use Rattle.theory_page_memory.specs.Memory.{Mem, blank, relink}
+use Rattle.theory_page_memory.specs.Links.{relink-page}
 use Rattle.theory_page_memory.specs.Images.{before-settings}
-use Rattle.theory_page_memory.specs.Removing.{Rewritten, Lifted, own-apart, stored-left, rewritten-stored, rewritten-free, lifted-stored, lifted-free}
+use Rattle.theory_page_memory.specs.Removing.{Wiped, Lifted, left-fits, stored-left, rewrittenMem, rewritten-by, liftedMem, lifted-by}
+use Rattle.theory_page_memory.specs.Removing.{rewritten-stored, rewritten-free, lifted-stored, lifted-free}
 use Rattle.theory_page_memory.specs.Removing.{stands, free, stays, goes}
 
 same-page : {a b : List ℕ} → a ≡ b → SameButLink a b
@@ -57,11 +55,6 @@ module _ (img : List ℕ) (st : Config) (root : Row) (r : Reads img st root) (ne
   v : Valid st root
   v = reads-valid img st root r
 
-  left-fits : Fits (store root) → Fits left
-  left-fits f =
-      let g = chain-fits (t .chain) (fill (t .position) (t .node ⊹ t .rest)) (subst (λ (r : Row). Fits (store r)) (sym (l .held)) f) .1 in
-      fits-refill (t .position) (t .node ⊹ t .rest) (t .rest) g (fits-parts (t .node) (t .rest) (fits-fill (t .position) (t .node ⊹ t .rest) g) .1)
-
   held : Stored m 0 (store root)
   held = stands img st root r new t l
 
@@ -72,13 +65,12 @@ module _ (img : List ℕ) (st : Config) (root : Row) (r : Reads img st root) (ne
   wiped : Mem
   wiped p = cond (ltb 0 (count p (t .node))) blank (m p)
 
-  wiped-named : (p : ℕ) → 1 ≤ count p (t .node) → wiped p ≡ blank
+  is-wiped : Wiped t m wiped
   unfolding wiped
-  wiped-named p h = rw (lt-ltb 0 (count p (t .node)) h)
-
-  wiped-other : (p : ℕ) → count p (t .node) ≡ 0 → wiped p ≡ m p
-  unfolding wiped
-  wiped-other p h = rw (le-ltb 0 (count p (t .node)) (omega arith))
+  is-wiped = record {
+    named = λ p h. rw (lt-ltb 0 (count p (t .node)) h);
+    other = λ p h. rw (le-ltb 0 (count p (t .node)) (omega arith));
+  }
 
   -- The pages of the image without the node are those of a memory in which its records stand.
   page-after : (m′ : Mem) → Stored m′ 0 (store (without t)) → ((k : ℕ) → 1 ≤ k → k < st .pages → count k (store (without t)) ≡ 0 → m′ k ≡ blank)
@@ -89,15 +81,8 @@ module _ (img : List ℕ) (st : Config) (root : Row) (r : Reads img st root) (ne
     stay-others : loneRec left ≡ false → SameButLink (pageOf (image st (without t)) k) (m k)
     unfolding v held
     stay-others z =
-        let q = lastPage (t .chain) in
-        let page = recordPage (recordOn q (lastSettled (t .chain)) (lastHolder (t .chain)) left) in
-        let m′ : Mem = setMem q page wiped in
-        let apart = own-apart st root v new t l m m held (t .chain) refl in
-        let w : Rewritten t m m′ = record {
-          branch = λ p h. set-other q p page wiped (omega (arith, apart p)) ∙ wiped-named p h;
-          own = set-same q page wiped;
-          others = λ p h e. set-other q p page wiped e ∙ wiped-other p h;
-        } in
+        let m′ = rewrittenMem st root v new t l m m held wiped in
+        let w = rewritten-by st root v new t l m m held wiped is-wiped in
         let is = stays img st root r new t l z (t .chain) in
         same-page (page-after m′ (subst (λ (r : Row). Stored m′ 0 (store r)) (sym is) (rewritten-stored st root v new t l m m′ held w))
         (rewritten-free st root v new t l m m′ held were w is) k a b ∙ w .others k away own)
@@ -106,34 +91,18 @@ module _ (img : List ℕ) (st : Config) (root : Row) (r : Reads img st root) (ne
         → SameButLink (pageOf (image st (without t)) k) (m k)
     unfolding v held
     go-others c s q u rest x e up =
-        let p = x .page in
-        let page = recordPage (recordOn p (x .settled) (lastPage c) (x .inside)) in
-        let above = recordPage (recordOn (lastPage c) (lastSettled c) (lastHolder c) (fill s (rec p (x .settled) (x .inside) rest))) in
-        let m₁ : Mem = setMem q blank wiped in
-        let m₂ : Mem = setMem p page m₁ in
-        let m′ : Mem = setMem (lastPage c) above m₂ in
-        let apart = own-apart st root v new t l m m held (below c s q u rest) e in
-        let named : (k : ℕ) → count k left ≡ bit (eqb k p) + count k (x .inside) + 0 = λ k. ap (count k) (x .is) in
-        let top-own = beyond-own st c in
-        let w : Lifted t m m′ c s q u rest x = record {
-          branch = λ k h. set-other (lastPage c) k above m₂ (omega (arith, apart k, top-own k)) ∙ set-other p k page m₁ (omega (arith, apart k, named k))
-              ∙ set-other q k blank wiped (omega (arith, apart k)) ∙ wiped-named k h;
-          own = set-other (lastPage c) q above m₂ (omega (arith, apart q, top-own q, self q)) ∙ set-other p q page m₁ (omega (arith, apart q, named q, self q))
-              ∙ set-same q blank wiped;
-          child = set-other (lastPage c) p above m₂ (omega (arith, apart p, top-own p, named p, self p)) ∙ set-same p page m₁;
-          above = set-same (lastPage c) above m₂;
-          others = λ k h i j n. set-other (lastPage c) k above m₂ n ∙ set-other p k page m₁ j ∙ set-other q k blank wiped i ∙ wiped-other k h;
-        } in
+        let m′ = liftedMem st root v new t l m m held c s q u rest x e wiped in
+        let w = lifted-by st root v new t l m m held c s q u rest x e wiped is-wiped in
         let is = goes img st root r new t l c s q u rest x e in
         let same = page-after m′ (subst (λ (r : Row). Stored m′ 0 (store r)) (sym is) (lifted-stored st root v new t l m m′ held c s q u rest x e w))
         (lifted-free st root v new t l m m′ held were c s q u rest x e w is) k a b in
-        by-child m′ w same (eqb k p) refl
+        by-child m′ w same (eqb k (x .page)) refl
       where
         own-page : List ℕ
         own-page = recordPage (recordOn (x .page) (x .settled) q (x .inside))
 
         inside-fits : Fits (rec (x .page) (x .settled) (x .inside) nil)
-        inside-fits = subst Fits (x .is) (left-fits (v .rows))
+        inside-fits = subst Fits (x .is) (left-fits st root v new t l m m held)
 
         by-child : (m′ : Mem) → Lifted t m m′ c s q u rest x → pageOf (image st (without t)) k ≡ m′ k → (z : Bool) → eqb k (x .page) ≡ z
             → SameButLink (pageOf (image st (without t)) k) (m k)

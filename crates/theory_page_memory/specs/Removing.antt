@@ -15,20 +15,26 @@ use Rattle.model.specs.Tree.{Tree}
 use Rattle.model.specs.Growth.{atRest}
 use Rattle.model.specs.Spot.{Position, fill, Chain, top, below, lastPage, whole, lastHolder}
 use Rattle.model.specs.Removal.{Stand, replaced, lost, without}
-use Rattle.theory_rows.specs.Fits.{Valid}
+use Rattle.theory_rows.specs.Fits.{Valid, Fits}
+use Rattle.theory_rows.specs.Bound.{fits-parts}
 use Rattle.theory_rows.specs.Image.{Stored}
 use Rattle.theory_rows.specs.Pages.{bit, reserved, count-⊹, tally-rest}
 use Rattle.theory_decoding.specs.Decode.{stored-same, stored-image}
 use Rattle.theory_decoding.specs.Reading.{reads-valid, reads-length}
 use Rattle.theory_check.specs.Images.{image-is}
-use Rattle.theory_growth.specs.Chain.{lastSettled, fill-more, fill-less, count-refill, count-chain}
+use Rattle.theory_growth.specs.Chain.{lastSettled, fill-more, fill-less, fits-fill, fits-refill, chain-fits, count-refill, count-chain}
 use Rattle.theory_removal.specs.Stand.{Leaves}
 use Rattle.theory_removal.specs.Keeps.{Proxy, helperFreed, without-names}
-use Rattle.theory_page_memory.specs.Memory.{Mem, blank}
-use Rattle.theory_page_memory.specs.Links.{not-bit, stored-parted}
+use Rattle.theory_page_memory.specs.Memory.{Mem, blank, setMem, relink}
+use Rattle.theory_page_memory.specs.Links.{self, not-bit, stored-parted, set-same, set-other, relink-page}
 use Rattle.theory_page_memory.specs.Steps.{bit-le}
 use Rattle.theory_page_memory.specs.Around.{Around, assemble, disassemble, elsewhere, beyond, beyond-own, around-agree}
 use Rattle.theory_page_memory.specs.Images.{before-free, before-settings, inside-free}
+
+-- The branch's pages are blank, and all else is as it was.
+pub record Wiped (t : Stand) (m m₁ : Mem) : Type 0 where
+  pub named : (p : ℕ) → 1 ≤ count p (t .node) → m₁ p ≡ blank
+  pub other : (p : ℕ) → count p (t .node) ≡ 0 → m₁ p ≡ m p
 
 module _ (t : Stand) (m m′ : Mem) where
   -- The row of the record that lost the node.
@@ -49,14 +55,17 @@ module _ (t : Stand) (m m′ : Mem) where
     pub above : m′ (lastPage c) ≡ recordPage (recordOn (lastPage c) (lastSettled c) (lastHolder c) (fill s (rec (x .page) (x .settled) (x .inside) rest)))
     pub others : (p : ℕ) → count p (t .node) ≡ 0 → bit (eqb p q) ≡ 0 → bit (eqb p (x .page)) ≡ 0 → bit (eqb p (lastPage c)) ≡ 0 → m′ p ≡ m p
 
--- ── every record that is left stands on its page ──
-
 module _ (st : Config) (root : Row) (v : Valid st root) (new : Tree) (t : Stand) (l : Leaves root new t) (m m′ : Mem) (stored : Stored m 0 (store root)) where
   abbrev old : Row
   old = fill (t .position) (t .node ⊹ t .rest)
 
   abbrev left : Row
   left = fill (t .position) (t .rest)
+
+  pub left-fits : Fits left
+  left-fits =
+      let g = chain-fits (t .chain) old (subst (λ (r : Row). Fits (store r)) (sym (l .held)) (v .rows)) .1 in
+      fits-refill (t .position) (t .node ⊹ t .rest) (t .rest) g (fits-parts (t .node) (t .rest) (fits-fill (t .position) (t .node ⊹ t .rest) g) .1)
 
   parts : (k : ℕ) → count k left + count k (t .node) ≡ count k old
   parts k = omega (arith, count-refill k (t .position) (t .rest) (t .node ⊹ t .rest), count-⊹ k (t .node) (t .rest))
@@ -78,6 +87,60 @@ module _ (st : Config) (root : Row) (v : Valid st root) (new : Tree) (t : Stand)
 
     pub stored-left : Stored m (lastPage c) left
     stored-left = fill-less (stored-parted m (lastPage c)) (t .position) (t .node) (t .rest) (apart .2) .0
+
+  -- ── the writes ──
+
+  -- The record that lost the node, written.
+  abbrev pub rewrittenMem : Mem → Mem
+  rewrittenMem m₁ = let q = lastPage (t .chain) in setMem q (recordPage (recordOn q (lastSettled (t .chain)) (lastHolder (t .chain)) left)) m₁
+
+  pub rewritten-by : (m₁ : Mem) → Wiped t m m₁ → Rewritten t m (rewrittenMem m₁)
+  rewritten-by m₁ w =
+      let q = lastPage (t .chain) in
+      let page = recordPage (recordOn q (lastSettled (t .chain)) (lastHolder (t .chain)) left) in
+      let apart = own-apart (t .chain) refl in
+      record {
+        branch = λ p h. set-other q p page m₁ (omega (arith, apart p)) ∙ w .named p h;
+        own = set-same q page m₁;
+        others = λ p h e. set-other q p page m₁ e ∙ w .other p h;
+      }
+
+  -- One proxy in the place of the helper's, the child's back link, and the helper's page.
+  module _ (c : Chain) (s : Position) (q : ℕ) (b : Bool) (rest : Row) (x : Proxy left) (e : t .chain ≡ below c s q b rest) where
+    -- The record above, with the child's proxy.
+    abbrev pub liftedPage : List ℕ
+    liftedPage = recordPage (recordOn (lastPage c) (lastSettled c) (lastHolder c) (fill s (rec (x .page) (x .settled) (x .inside) rest)))
+
+    abbrev pub liftedMem : Mem → Mem
+    liftedMem m₁ =
+        let m₂ = setMem (lastPage c) liftedPage m₁ in
+        setMem q blank (setMem (x .page) (relink (lastPage c) (m₂ (x .page))) m₂)
+
+    pub lifted-by : (m₁ : Mem) → Wiped t m m₁ → Lifted t m (liftedMem m₁) c s q b rest x
+    lifted-by m₁ w =
+        let p = x .page in
+        let h = lastPage c in
+        let m₂ : Mem = setMem h liftedPage m₁ in
+        let page = relink h (m₂ p) in
+        let m₃ : Mem = setMem p page m₂ in
+        let apart = own-apart (below c s q b rest) e in
+        let named : (k : ℕ) → count k left ≡ bit (eqb k p) + count k (x .inside) + 0 = λ k. ap (count k) (x .is) in
+        let up = beyond-own st c in
+        let was = subst (Stored m q) (x .is) (stored-left (below c s q b rest) e) .0 in
+        let child : page ≡ recordPage (recordOn p (x .settled) h (x .inside)) =
+        ap (relink h) (set-other h p liftedPage m₁ (omega (arith, apart p, up p, named p, self p)) ∙ w .other p (omega (arith, apart p, named p, self p)) ∙ was)
+        ∙ relink-page p (x .settled) q h (x .inside) (subst Fits (x .is) left-fits .0 .fits) in
+        record {
+          branch = λ k y. set-other q k blank m₃ (omega (arith, apart k)) ∙ set-other p k page m₂ (omega (arith, apart k, named k))
+              ∙ set-other h k liftedPage m₁ (omega (arith, apart k, up k)) ∙ w .named k y;
+          own = set-same q blank m₃;
+          child = set-other q p blank m₃ (omega (arith, apart p, named p, self p)) ∙ set-same p page m₂ ∙ child;
+          above = set-other q h blank m₃ (omega (arith, apart h, up h, self h)) ∙ set-other p h page m₂ (omega (arith, apart h, up h, named h, self h))
+              ∙ set-same h liftedPage m₁;
+          others = λ k y i j n. set-other q k blank m₃ i ∙ set-other p k page m₂ j ∙ set-other h k liftedPage m₁ n ∙ w .other k y;
+        }
+
+  -- ── every record that is left stands on its page ──
 
   -- The record stays on its page.
   pub rewritten-stored : Rewritten t m m′ → Stored m′ 0 (store (whole (t .chain) left))

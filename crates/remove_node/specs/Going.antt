@@ -1,0 +1,164 @@
+-- What a removal works on: a node that stands in the records, and what each step needs of it.
+use mathlib.Core.Path.{_≡_, refl, sym, ap, subst, _∙_}
+use mathlib.Core.Bool.{Bool, true, false, cond}
+use mathlib.Core.List.{List}
+use Prim.Native.Nat.{ℕ, _+_, _*_, _≤_, _<_, max}
+use native.Mathlib.Omega.{arith}
+use lib.ListN.{length}
+use lib.Dec.{eqb}
+use Rattle.model.specs.Limits.{mostPages, pageSize, capacity}
+use Rattle.model.specs.Row.{Row, nil, agg, lit, rec, store, _⊹_, size, base, nodeCount, lone, recordPage, recordOn, count, Config}
+use Rattle.model.specs.Tree.{Tree}
+use Rattle.model.specs.Reading.{Reads, pageOf, settledAt, backAt}
+use Rattle.model.specs.Spot.{Position, here, inside, fill, Chain, lastPage, whole, lastHolder}
+use Rattle.model.specs.Removal.{Stand}
+use Rattle.theory_rows.specs.Fits.{Valid, Fits, RecordFits, Shape, one, more}
+use Rattle.theory_rows.specs.Bound.{fits-parts}
+use Rattle.theory_rows.specs.Pages.{bit, count-⊹}
+use Rattle.theory_decoding.specs.Decode.{in-trailer, stored-image}
+use Rattle.theory_decoding.specs.Reading.{reads-valid}
+use Rattle.theory_places.specs.Widths.{Table}
+use Rattle.theory_row_bytes.specs.RowAt.{byte-on, row-split}
+use Rattle.theory_layout.specs.Here.{Here, OnPage, nesting, root-nesting}
+use Rattle.theory_growth.specs.Chain.{before, lastSettled, chain-fits, hang}
+use Rattle.theory_growth.specs.Parts.{part-fill, part-whole}
+use Rattle.theory_insert_point.specs.Bytes.{lastHeld, chain-page, chain-bytes, here-fill}
+use Rattle.theory_insert_point.specs.Nesting.{nesting-part}
+use Rattle.theory_removal.specs.Stand.{Leaves, Onward}
+use Rattle.theory_page_memory.specs.Links.{stored-parted}
+use Rattle.theory_page_memory.specs.Removing.{own-apart, stands}
+use Rattle.grow_widths.specs.Raised.{Raising, hang-length}
+use Rattle.grow_locate.specs.Parent.{offsetIn}
+use Rattle.grow_splice.specs.Position.{isInside}
+use Rattle.remove_branch.specs.Branch.{Branch}
+use Rattle.remove_locate.specs.declared.Standing.{Standing}
+use Rattle.remove_locate.specs.Leave.{standingOf}
+use Rattle.remove_record.specs.Reduced.{Removing}
+
+-- The image reads as a store with this table, and the code has found where the node stands.
+pub record Going (img u : List ℕ) (s : Standing) : Type 0 where
+  pub st : Config
+  pub root : Row
+  pub reads : Reads img st root
+  pub new : Tree
+  pub t : Stand
+  pub leaves : Leaves root new t
+  pub found : s ≡ standingOf t
+  pub table : Table st root u
+
+nesting-left : (a b : Row) → nesting a ≤ nesting (a ⊹ b)
+nesting-left nil b = omega arith
+nesting-left (agg h cs rest) b = omega (arith, nesting-left rest b)
+nesting-left (lit h c rest) b = nesting-left rest b
+nesting-left (rec p s r rest) b = omega (arith, nesting-left rest b)
+
+module _ {img u : List ℕ} {s : Standing} (w : Going img u s) where
+  abbrev pub c : Chain
+  c = w .t .chain
+
+  abbrev pub row : Row
+  row = w .t .node ⊹ w .t .rest
+
+  abbrev pub old : Row
+  old = fill (w .t .position) row
+
+  pub v : Valid (w .st) (w .root)
+  v = reads-valid img (w .st) (w .root) (w .reads)
+
+  -- The numbers.
+  pub page-is : s .page ≡ lastPage c
+  page-is = ap (λ (s : Standing). s .page) (w .found)
+
+  pub at-is : s .at ≡ offsetIn (w .t .position) row
+  at-is = ap (λ (s : Standing). s .at) (w .found)
+
+  pub gone-is : s .gone ≡ size (w .t .node)
+  gone-is = ap (λ (s : Standing). s .gone) (w .found)
+
+  -- The record on its page.
+  pub on-page : OnPage img (lastPage c) (lastHolder c) old
+  on-page = chain-page img (w .st) (w .root) (w .reads) c old (w .leaves .held)
+
+  pub page-bytes : pageOf img (lastPage c) ≡ recordPage (lastHeld c old)
+  page-bytes = chain-bytes img (w .st) (w .root) (w .reads) c old (w .leaves .held)
+
+  pub settled-is : settledAt img (pageSize * s .page) ≡ cond (lastSettled c) 1 0
+  settled-is =
+      ap (λ (n : ℕ). settledAt img (pageSize * n)) page-is ∙ byte-on img (lastPage c) page-bytes (capacity + 1) (omega arith)
+      ∙ in-trailer (lastHeld c old) (on-page .fits) 1
+
+  pub holder-is : backAt img (pageSize * s .page) ≡ lastHolder c
+  holder-is = ap (λ (n : ℕ). backAt img (pageSize * n)) page-is ∙ on-page .back
+
+  -- Each page is named at most one time, and the record's own not in it.
+  pub apart : (k : ℕ) → bit (eqb k (lastPage c)) + count k (w .t .node) ≤ 1
+  apart k = omega (arith, own-apart (w .st) (w .root) v (w .new) (w .t) (w .leaves) (pageOf img) (pageOf img)
+      (stands img (w .st) (w .root) (w .reads) (w .new) (w .t) (w .leaves)) c refl k)
+
+  -- What the steps require.
+  abbrev pub raising : Raising img u (s .page) (s .deep)
+  raising = record {
+    st = w .st;
+    root = w .root;
+    reads = w .reads;
+    chain = c;
+    row = old;
+    is = w .leaves .held;
+    last = page-is;
+    enough = omega (arith, ap (λ (s : Standing). s .deep) (w .found), hang-length c (w .t .position));
+    long = w .table .long;
+  }
+
+  -- A node at the top of a row has another beside it.
+  pub beside : isInside (w .t .position) ≡ false → 2 ≤ nodeCount old
+  beside e = go (w .t .position) (w .leaves .onward) e (chain-fits c old (subst (λ (r : Row). Fits (store r)) (sym (w .leaves .held)) (v .rows)) .0 .shape)
+    where
+      two : {b : Bool} (r : Row) → Shape b r → lone r ≡ false → 2 ≤ nodeCount r
+      two r (one e) f = absurd (true≢false (sym e ∙ f))
+      two r (more _ h) f = h
+
+      go : (p : Position) → Onward p row → isInside p ≡ false → Shape (lastSettled c) (fill p row) → 2 ≤ nodeCount (fill p row)
+      go (here left) o e f = two (left ⊹ row) f o
+      go (inside left h right p) o e f = absurd (true≢false e)
+
+  abbrev pub removing : Removing img (s .page) (s .at) (s .par) (s .gone)
+  removing = record {
+    position = w .t .position;
+    node = w .t .node;
+    rest = w .t .rest;
+    settled = lastSettled c;
+    up = lastHolder c;
+    stands = subst (λ (n : ℕ). OnPage img n (lastHolder c) old) (sym page-is) on-page;
+    is = subst (λ (n : ℕ). pageOf img n ≡ recordPage (recordOn n (lastSettled c) (lastHolder c) old)) (sym page-is) page-bytes;
+    one = w .leaves .one;
+    goes = sym gone-is;
+    offset = at-is;
+    holder = ap (λ (s : Standing). s .par) (w .found);
+    beside = beside;
+  }
+
+  -- The node, in front of what follows it.
+  node-here : Here img (lastPage c) (pageSize * lastPage c + base old + before (w .t .position)) row
+  node-here = here-fill img (lastPage c) (pageSize * lastPage c + base old) (w .t .position) row (on-page .here)
+
+  front : (page pos : ℕ) (a b : Row) → Here img page pos (a ⊹ b) → Here img page pos a
+  front page pos a b h = record {
+    at = row-split img pos a b (h .at) .0;
+    on = h .on;
+    start = h .start;
+    room = omega (arith, h .room, size-⊹ a b);
+    fits = fits-parts a b (h .fits) .0;
+    stored = stored-parted (pageOf img) page .parts a b (h .stored) .0;
+    names = λ q k. h .names q (omega (arith, count-⊹ q a b));
+  }
+
+  abbrev pub branch : Branch img (pageSize * s .page + s .at) (pageSize * s .page + s .at + s .gone) mostPages
+  branch = record {
+    page = lastPage c;
+    row = w .t .node;
+    here = subst (λ (n : ℕ). Here img (lastPage c) n (w .t .node)) (omega (arith, page-is, at-is)) (front (lastPage c) _ (w .t .node) (w .t .rest) node-here);
+    ends = omega (arith, gone-is);
+    deep = omega (arith, nesting-left (w .t .node) (w .t .rest), part-fill nesting nesting-part (w .t .position) row, part-whole nesting nesting-part c old,
+        ap nesting (w .leaves .held), root-nesting img (w .st) (w .root) (w .reads));
+    once = λ q. omega (arith, apart q);
+  }
