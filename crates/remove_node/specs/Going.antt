@@ -1,6 +1,6 @@
 -- What a removal works on: a node that stands in the records, and what each step needs of it.
 use mathlib.Core.Path.{_≡_, refl, sym, ap, subst, _∙_}
-use mathlib.Core.Bool.{Bool, true, false, cond}
+use mathlib.Core.Bool.{Bool, false, cond, true≢false}
 use mathlib.Core.List.{List}
 use Prim.Native.Nat.{ℕ, _+_, _*_, _≤_, _<_, max}
 use native.Mathlib.Omega.{arith}
@@ -14,6 +14,7 @@ use Rattle.model.specs.Spot.{Position, here, inside, fill, Chain, lastPage, who
 use Rattle.model.specs.Removal.{Stand}
 use Rattle.theory_rows.specs.Fits.{Valid, Fits, RecordFits, Shape, one, more}
 use Rattle.theory_rows.specs.Bound.{fits-parts}
+use Rattle.theory_rows.specs.Laws.{size-⊹}
 use Rattle.theory_rows.specs.Pages.{bit, count-⊹}
 use Rattle.theory_decoding.specs.Decode.{in-trailer, stored-image}
 use Rattle.theory_decoding.specs.Reading.{reads-valid}
