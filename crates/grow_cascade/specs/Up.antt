@@ -10,10 +10,11 @@ use lib.Dec.{eqb, leb}
 use lib.ListN.{length, getD, take}
 use lib.IntN.{ℤ}
 use Rattle.model.specs.Limits.{pageSize, capacity}
-use Rattle.model.specs.Row.{Row, nil, agg, lit, rec, _⊹_, size, lone, bytes, recordSize, recordBytes, recordPage, count, Config, recordOn}
+use Rattle.model.specs.Row.{Row, nil, agg, lit, rec, _⊹_, size, bytes, recordSize, recordBytes, recordPage, count, Config, recordOn}
 use Rattle.model.specs.Reading.{pageOf}
-use Rattle.model.specs.Growth.{Work, Out, separator, counted, freed, rootRow, splitPoint, startOfD, rise}
-use Rattle.theory_rows.specs.Bound.{SplitGood, not-nil}
+use Rattle.model.specs.Growth.{Work, Out, separator, counted, freed, splitPoint, startOfD, rise}
+use Rattle.theory_rows.specs.Bound.{SplitGood}
+use Rattle.theory_rows.specs.Shows.{nodeCount-some}
 use Rattle.theory_decoding.specs.Valid.{names-own}
 use Rattle.theory_rows.specs.Pages.{count-⊹, or-right}
 use Rattle.model.specs.Tree.{width}
@@ -37,10 +38,9 @@ use Rattle.base_layout.specs.Growing.{separatorSize, nearTo}
 use Rattle.grow_groups.specs.declared.Output.{Output}
 use Rattle.grow_groups.specs.Used.{Past}
 use Rattle.grow_split.specs.Severed.{Severed}
-use Rattle.grow_split_point.specs.Level.{root-some}
 use Rattle.grow_splice.specs.Splice.{KeepsRoot}
 use Rattle.grow_replace_proxy.specs.Above.{above-stands, above-once}
-use Rattle.grow_replace_proxy.specs.Keeps.{shape-keeps, some-node, separator-least}
+use Rattle.grow_replace_proxy.specs.Keeps.{shape-keeps}
 use Rattle.grow_replace_proxy.specs.Lift.{Lift}
 use Rattle.grow_write_back.specs.Off.{leftImage, leftTable, length-left, left-tabled, left-frame, SplitOff}
 use Rattle.theory_rows.specs.Population.{population}
@@ -48,7 +48,7 @@ use Rattle.theory_places.specs.Widths.{Told, told-same}
 use Rattle.theory_growth.specs.Told.{told-parted, told-chain, told-swap, width-fill, along-own}
 use Rattle.grow_widths.specs.Tally.{mostEntry}
 use Rattle.grow_split.specs.Tells.{Keeps}
-use Rattle.grow_cascade.specs.Rising.{Rising, valid, inside as page-inside, long-image, able, good, named-once, named-used, tabled}
+use Rattle.grow_cascade.specs.Rising.{Rising, valid, inside as page-inside, long-image, good, named-once, named-used, tabled}
 
 -- ── rows that name pages of the image ──
 
@@ -190,16 +190,13 @@ module _ {st : Config} {was : List ℕ} {root : Row} {c : Chain} {s : Position} 
   pub sep-is : take (r .end) out₁ ≡ bytes (S .0)
   sep-is = (λ i. take (cut .end i) (cut .out i)) ∙ take-over (size (S .0)) (bytes (S .0)) out₀ (length-bytes (S .0))
 
-  pub sep-least : 8 ≤ size (S .0)
-  sep-least = separator-least st q row v (not-nil (rootRow st (lone row) row) (root-some st row (able w .fits) big))
-
   pub sep-most : size (S .0) ≤ separatorSize
   sep-most = omega (arith, split .small)
 
   keeps-root : KeepsRoot s (rec q false old rest) (S .0 ⊹ rest)
   keeps-root =
       shape-keeps s q false old rest (S .0) (chain-fits c above (w .grows .fits) .0 .shape)
-      (some-node (S .0) (omega (arith, sep-least)))
+      (nodeCount-some (S .0) (split .some))
 
   on-above : OnPage was (lastPage c) (lastHolder c) above
   on-above = above-stands was st root (w .reads) c s q false rest old (w .held)
@@ -245,7 +242,6 @@ module _ {st : Config} {was : List ℕ} {root : Row} {c : Chain} {s : Position} 
       once = lift-near .1;
       names = lift-near .2;
       comes = sep-is;
-      least = sep-least;
       most = sep-most;
       root = lift-near .3;
     }

@@ -46,7 +46,6 @@ pub record Lift (img : List ℕ) (holder page : ℕ) (sep : List ℕ) : Type 0 w
   pub once : count page (fill position (rec page settled old rest)) ≡ 1
   pub names : (q : ℕ) → 1 ≤ count q (fill position (rec page settled old rest)) → q < 65536
   pub comes : RowIs sep put
-  pub least : 8 ≤ size put
   pub most : size put ≤ 512
   pub root : KeepsRoot position (rec page settled old rest) (put ⊹ rest)
 
@@ -68,9 +67,6 @@ module _ (img : List ℕ) (holder page : ℕ) (sep : List ℕ) (w : Lift img hol
   pub part : (n : ℕ) → n ≡ usedAt img (pageSize * holder)
       → take (pageSize * holder + n - pageSize * holder) (drop (pageSize * holder) img) ≡ recordBytes before
   part n e = page-part img held (w .is) (w .small) n e
-
-  pub sep-least : 8 ≤ length sep
-  sep-least = omega (arith, w .least, length-bytes (w .put), ap length (w .comes))
 
   pub sep-most : length sep ≤ 512
   sep-most = omega (arith, w .most, length-bytes (w .put), ap length (w .comes))

@@ -1,3 +1,3 @@
 pub mod Position
-pub mod Bump
+pub mod Resize
 pub mod Splice

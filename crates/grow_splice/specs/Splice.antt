@@ -1,7 +1,7 @@
 -- The bytes of a record with another filling at a place.
 use mathlib.Core.Path.{_≡_, refl, sym, ap, _∙_}
 use mathlib.Core.Bool.{Bool, false, true≢false}
-use mathlib.Core.List.{List, _++_, append-assoc, append-nil}
+use mathlib.Core.List.{List, [], _++_, append-assoc, append-nil}
 use Prim.Native.Nat.{ℕ, _+_, _-_, _<_, _≤_}
 use native.Mathlib.Omega.{arith}
 use lib.ListN.{length, take, drop, length-append, length-take, length-drop}
@@ -13,7 +13,7 @@ use Rattle.theory_rows.specs.Laws.{length-bytes, size-⊹, bytes-⊹}
 use Rattle.theory_rows.specs.Bound.{isNil-⊹}
 use Rattle.model.specs.Spot.{Position, here, inside, fill}
 use Rattle.grow_splice.specs.Position.{at, parent, isInside, around, before, beyond, lone-many, size-around, bytes-fill, length-before}
-use Rattle.grow_splice.specs.Bump.{Cut, grown}
+use Rattle.grow_splice.specs.Resize.{Cut, resized}
 
 -- ── the root ──
 
@@ -141,18 +141,21 @@ module _ (l : List ℕ) (pos par gone : ℕ) (new : List ℕ) (w : Splicing l po
   pub within : pos + gone ≤ length l
   within = omega (arith, front-length, w .goes, length-bytes (w .old), simp length-append at (ap length parts))
 
-  -- the record's length, and how it grows
+  -- the record's length, and its new one
   long : length l ≡ 6 + around (seen .position) + size (w .old ⊹ w .tail)
   long = ap length (w .is ∙ seen .was) ∙ rw length-bytes (omega (arith, size-around (seen .position) (w .old ⊹ w .tail)))
 
-  larger : gone ≤ length new → size (w .put ⊹ w .tail) ≡ size (w .old ⊹ w .tail) + (length new - gone)
-  larger h = omega (arith, size-⊹ (w .put) (w .tail), size-⊹ (w .old) (w .tail), w .goes, length-bytes (w .put), ap length (w .comes))
+  goes-in : gone ≤ size (w .old ⊹ w .tail)
+  goes-in = omega (arith, size-⊹ (w .old) (w .tail), w .goes)
 
-  pub spliced-size : gone ≤ length new → recordSize (spliced l pos par gone new w) ≡ length l - gone + length new
-  spliced-size h = omega (arith, seen .size-is, size-around (seen .position) (w .put ⊹ w .tail), larger h, long, within)
+  size-after : size (w .put ⊹ w .tail) ≡ size (w .old ⊹ w .tail) - gone + length new
+  size-after = omega (arith, size-⊹ (w .put) (w .tail), size-⊹ (w .old) (w .tail), w .goes, length-bytes (w .put), ap length (w .comes))
 
-  -- the witness of `grow`
-  pub cut : (m : List ℕ) (n : ℕ) → m ≡ take pos l → length l + n < 65536 → Cut m par n
+  pub spliced-size : recordSize (spliced l pos par gone new w) ≡ length l - gone + length new
+  spliced-size = omega (arith, seen .size-is, size-around (seen .position) (w .put ⊹ w .tail), size-after, long, goes-in)
+
+  -- the witness of `resize`
+  pub cut : (m : List ℕ) (n : ℕ) → m ≡ take pos l → length l + n < 65536 → Cut m par gone n
   unfolding front-bytes
   cut m n e h = record {
     kind = seen .kind;
@@ -161,30 +164,31 @@ module _ (l : List ℕ) (pos par gone : ℕ) (new : List ℕ) (w : Splicing l po
     filled = size (w .old ⊹ w .tail);
     is = e ∙ front;
     at = w .holder ∙ seen .par-is;
+    least = goes-in;
     small = omega (arith, long);
   }
 
   -- the four writes of a splice
-  pub steps : (o a g b d : List ℕ) (n : ℕ) (e : take pos a ≡ take pos l) (h : length l + (n - gone) < 65536) → n ≡ length new → gone ≤ n
+  pub steps : (o a g b d : List ℕ) (n : ℕ) (e : take pos a ≡ take pos l) (h : length l + n < 65536) → n ≡ length new
       → length l + n ≤ length o + gone
-      → a ≡ over 0 (take pos l) o → g ≡ grown (take pos a) par (n - gone) (cut (take pos a) (n - gone) e h) → length g ≡ pos
+      → a ≡ over 0 (take pos l) o → g ≡ resized (take pos a) par gone n (cut (take pos a) n e h) → length g ≡ pos
       → b ≡ over pos new (g ++ drop pos a)
       → d ≡ over (pos + n) (drop (pos + gone) l) b → d ≡ over 0 (recordBytes (spliced l pos par gone new w)) o
   unfolding cut back-bytes
-  steps o a g b d n e h k low room pa pg len pb pd =
+  steps o a g b d n e h k room pa pg len pb pd =
       let i : pos + gone ≤ length l = within in
       let t = seen .position in
-      let m : ℕ = size (w .old ⊹ w .tail) in
+      let m : ℕ = size (w .old ⊹ w .tail) - gone + n in
       let f : g ++ drop pos a ≡ over 0 g o =
       over-front pos g a len ∙ ap (over 0 g) pa ∙ over-again 0 (take pos l) g o (simp length-take (omega arith)) (simp length-take (omega arith)) in
       let w1 : b ≡ over 0 (g ++ new) o = over-then _ _ _ _ _ _ _ f pb (omega arith) (omega arith) in
       let w2 : d ≡ over 0 ((g ++ new) ++ drop (pos + gone) l) o =
       over-then _ _ _ _ _ _ _ w1 pd (simp length-append (omega arith)) (simp (length-append, length-drop) (omega arith)) in
-      let z : m + (n - gone) ≡ size (w .put ⊹ w .tail) = omega (arith, larger (omega arith)) in
-      let x : (g ++ new) ++ drop (pos + gone) l ≡ (fore (seen .kind) (seen .head) t (m + (n - gone)) ++ bytes (w .put)) ++ (bytes (w .tail) ++ beyond t) =
+      let z : m ≡ size (w .put ⊹ w .tail) = omega (arith, size-after) in
+      let x : (g ++ new) ++ drop (pos + gone) l ≡ (fore (seen .kind) (seen .head) t m ++ bytes (w .put)) ++ (bytes (w .tail) ++ beyond t) =
       λ j. (pg j ++ w .comes j) ++ back j in
       let r : List ℕ = recordBytes (spliced l pos par gone new w) in
-      let y : (fore (seen .kind) (seen .head) t (m + (n - gone)) ++ bytes (w .put)) ++ (bytes (w .tail) ++ beyond t) ≡ r =
+      let y : (fore (seen .kind) (seen .head) t m ++ bytes (w .put)) ++ (bytes (w .tail) ++ beyond t) ≡ r =
       ap (λ (v : ℕ). (fore (seen .kind) (seen .head) t v ++ bytes (w .put)) ++ (bytes (w .tail) ++ beyond t)) z
       ∙ append-assoc (fore (seen .kind) (seen .head) t (size (w .put ⊹ w .tail))) (bytes (w .put)) (bytes (w .tail) ++ beyond t)
       ∙ sym (seen .is ∙ apart (seen .kind) (seen .head) t (w .put) (w .tail)) in
@@ -197,7 +201,7 @@ copied-front l o a pos h e = ap (take pos) e ∙ take-over pos (take pos l) o (l
 pub part-end : (l : List ℕ) (pos : ℕ) → take (length l - pos) (drop pos l) ≡ drop pos l
 part-end l pos = take-all (length l - pos) (drop pos l) (simp length-drop (omega arith))
 
--- ── the two uses ──
+-- ── the three uses ──
 
 -- A row put in, in front of `tail`.
 abbrev pub put-in : (s : Position) (put tail : Row) (l : List ℕ) (pos par : ℕ) (new : List ℕ) → RecordIs l (fill s tail) → pos ≡ at (base (fill s tail)) s
@@ -221,3 +225,9 @@ put-for s q t r put tail l pos par new e a p n k = record {
   holder = p;
   root = k;
 }
+
+-- A row taken out.
+abbrev pub take-out : (s : Position) (old tail : Row) (l : List ℕ) (pos par gone : ℕ) (new : List ℕ) → let r = fill s (old ⊹ tail) in RecordIs l r
+    → size old ≡ gone → pos ≡ at (base r) s → par ≡ parent 0 (base r) s → new ≡ [] → KeepsRoot s (old ⊹ tail) tail → Splicing l pos par gone new
+take-out s old tail l pos par gone new e g a p n k =
+    record { position = s; old = old; tail = tail; put = nil; is = e; goes = g; comes = n; offset = a; holder = p; root = k }

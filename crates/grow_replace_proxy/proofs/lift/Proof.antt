@@ -5,7 +5,7 @@ use borrow.Author.Needs.{needs}
 use denote.Ref.{now}
 use Rattle.model.specs.Row.{base}
 use Rattle.grow_splice.specs.Position.{at, parent}
-use Rattle.grow_replace_proxy.specs.Lift.{Lift, before, used, part, sep-least, sep-most, long, names-once, filled, place}
+use Rattle.grow_replace_proxy.specs.Lift.{Lift, before, used, part, sep-most, long, names-once, filled, place}
 use Rattle.grow_replace_proxy.proofs.lift.Statement.{statement}
 use Rattle.grow_replace_proxy.proofs.lift.Tie as tie
 
@@ -57,7 +57,7 @@ splice-requires c κs =
     let n = long _ _ _ _ w _ e in
     let z = sep-most _ _ _ _ w in
     let p = place _ _ _ _ w _ e _ _ (position-is (c .before .before) w) (parent-is (c .before) w) in
-    (p, (sep-least _ _ _ _ w, (omega (arith, n, z, w .small, s .pre .1), omega (arith, n, z, w .small))))
+    (p, (omega (arith, n, z, w .small, s .pre .1), omega (arith, n, z, w .small)))
 
 same-length : tie.Need-same-length
 same-length c = search needs

@@ -29,7 +29,7 @@ splice-requires c κs =
     let w = s .pre .0 in
     let e = taken-part w _ (c .before .before .used-at .ensures .0) in
     let n = taken-fits w _ e in
-    (taken-place w _ e, (omega arith, (omega (arith, n, s .pre .1), omega (arith, n))))
+    (taken-place w _ e, (omega (arith, n, s .pre .1), omega (arith, n)))
 
 same-length : tie.Need-same-length
 same-length c = search needs

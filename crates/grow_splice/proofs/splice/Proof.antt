@@ -1,7 +1,7 @@
--- `grow_splice::splice`: the front with its nodes grown, the new bytes, and what stood past those that go.
+-- `grow_splice::splice`: the front with its nodes' new sizes, the new bytes, and what stood past those that go.
 use mathlib.Core.Path.{_≡_, refl, sym, ap, _∙_}
 use mathlib.Core.List.{_++_}
-use Prim.Native.Nat.{_+_, _-_, _≤_, _<_}
+use Prim.Native.Nat.{_+_, _≤_}
 use native.Mathlib.Omega.{arith}
 use borrow.Author.Needs.{needs}
 use lib.ListN.{length, drop, length-take, length-drop}
@@ -18,48 +18,41 @@ ends s = within _ _ _ _ _ (s .pre .0)
 starts : (s : tie.Start) → s .args .at ≤ length (s .args .rec .now)
 starts s = omega (arith, ends s)
 
--- the record stays small
-small : (s : tie.Start) → length (s .args .rec .now) + (length (s .args .new .now) - s .args .gone) < 65536
-small s = omega (arith, s .pre .1 .0, s .pre .1 .1 .1)
-
 slice-aggregate-copy-in : tie.Need-slice-aggregate-copy-in
 slice-aggregate-copy-in c = sym (length-take-le _ _ (starts (c .before .before .before .before)))
 
 copy-in-requires : tie.Need-copy-in-requires
 copy-in-requires c κs =
     let s = c .before .before .before .before .before in
-    simp length-take (omega (arith, starts s, s .pre .1))
+    simp length-take (omega (arith, ends s, s .pre .1 .0))
 
-slice-relend-prefix-enlarge : tie.Need-slice-relend-prefix-enlarge
-slice-relend-prefix-enlarge c =
+slice-relend-prefix-resize : tie.Need-slice-relend-prefix-resize
+slice-relend-prefix-resize c =
     let s = c .before .before .before .before .before .before .before .before in
-    omega (arith, ends s, s .pre .1 .0, s .pre .1 .1 .0, c .before .before .copy-in .kept .1 .0)
+    omega (arith, ends s, s .pre .1 .0, c .before .before .copy-in .kept .1 .0)
 
-slice-aggregate-enlarge : tie.Need-slice-aggregate-enlarge
-slice-aggregate-enlarge c = sym (length-take-le _ _ (slice-relend-prefix-enlarge (c .before)))
+slice-aggregate-resize : tie.Need-slice-aggregate-resize
+slice-aggregate-resize c = sym (length-take-le _ _ (slice-relend-prefix-resize (c .before)))
 
-sub-enlarge : tie.Need-sub-enlarge
-sub-enlarge c = search needs
-
-enlarge-requires : tie.Need-enlarge-requires
-enlarge-requires c κs =
+resize-requires : tie.Need-resize-requires
+resize-requires c κs =
     let s = c .before .before .before .before .before .before .before .before .before in
-    cut _ _ _ _ _ (s .pre .0) _ _ (copied-front _ _ _ _ (starts s) (c .before .before .before .copy-in .ensures)) (small s)
+    cut _ _ _ _ _ (s .pre .0) _ _ (copied-front _ _ _ _ (starts s) (c .before .before .before .copy-in .ensures)) (s .pre .1 .1)
 
 -- the buffer keeps its length
 held : (c : tie.After-copy-in-arg3) → let g = c .before .before .before in let a = g .before .before .before .before in let s = a .before .before .before
     .before .before .before in
-    length (g .enlarge .last .0 ++ drop (s .args .at) (a .copy-in .last .1 .0)) ≡ length (s .args .out .now)
+    length (g .resize .last .0 ++ drop (s .args .at) (a .copy-in .last .1 .0)) ≡ length (s .args .out .now)
 held c =
     let g = c .before .before .before in
     let a = g .before .before .before .before in
     let s = a .before .before .before .before .before .before in
-    length-front (a .copy-in .last .1 .0) (g .enlarge .last .0) (s .args .at) (g .enlarge .kept .0) ∙ a .copy-in .kept .1 .0
+    length-front (a .copy-in .last .1 .0) (g .resize .last .0) (s .args .at) (g .resize .kept .0) ∙ a .copy-in .kept .1 .0
 
 copy-in-requires-2 : tie.Need-copy-in-requires-2
 copy-in-requires-2 c κs =
     let s = c .before .before .before .before .before .before .before .before .before .before .before .before .before in
-    omega (arith, held c, ends s, s .pre .1 .0, s .pre .1 .1 .0)
+    omega (arith, held c, ends s, s .pre .1 .0)
 
 add-rest : tie.Need-add-rest
 add-rest c =
@@ -80,7 +73,7 @@ add-copy-in : tie.Need-add-copy-in
 add-copy-in c =
     let s = c .before .before .before .before .before .before .before .before .before .before .before .before .before .before .before .before .before .before
     in
-    omega (arith, ends s, s .pre .1 .1 .1)
+    omega (arith, ends s, s .pre .1 .1)
 
 copy-in-requires-3 : tie.Need-copy-in-requires-3
 copy-in-requires-3 c κs =
@@ -92,7 +85,6 @@ copy-in-requires-3 c κs =
       c .before .before .before .before .copy-in2 .kept .1 .0,
       ends s,
       s .pre .1 .0,
-      s .pre .1 .1 .0,
     ))
 
 sub-result : tie.Need-sub-result
@@ -117,14 +109,14 @@ returns c =
     let s = a .before .before .before .before .before .before in
     let f = copied-front _ _ _ _ (starts s) (a .copy-in .ensures) in
     λ w. (
-      sym (spliced-size _ _ _ _ _ w (s .pre .1 .0)),
-      steps _ _ _ _ _ w _ _ _ _ _ _ f (small s) refl (s .pre .1 .0) (s .pre .1 .1 .0) (a .copy-in .ensures)
-          (g .enlarge .ensures (cut _ _ _ _ _ w _ _ f (small s)))
-          (g .enlarge .kept .0 ∙ ap length f ∙ length-take-le _ _ (starts s)) (b .copy-in2 .ensures) (rw part-end at (c .before .before .copy-in3 .ensures)),
+      sym (spliced-size _ _ _ _ _ w),
+      steps _ _ _ _ _ w _ _ _ _ _ _ f (s .pre .1 .1) refl (s .pre .1 .0) (a .copy-in .ensures)
+          (g .resize .ensures (cut _ _ _ _ _ w _ _ f (s .pre .1 .1)))
+          (g .resize .kept .0 ∙ ap length f ∙ length-take-le _ _ (starts s)) (b .copy-in2 .ensures) (rw part-end at (c .before .before .copy-in3 .ensures)),
     )
 
 pub splice-spec : {M : Type 1} → statement M
 splice-spec =
     tie.close
-    (tie.spec slice-aggregate-copy-in copy-in-requires slice-relend-prefix-enlarge slice-aggregate-enlarge sub-enlarge enlarge-requires copy-in-requires-2
+    (tie.spec slice-aggregate-copy-in copy-in-requires slice-relend-prefix-resize slice-aggregate-resize resize-requires copy-in-requires-2
     add-rest sub-copy-in part-copy-in-start part-copy-in-end add-copy-in copy-in-requires-3 sub-result add-result same-length returns)
