@@ -15,7 +15,7 @@ use Rattle.theory_rows.specs.Laws.{size-⊹}
 use Rattle.model.specs.Spot.{Position, here, inside, fill, past, into, Chain, below, lastPage, Spot, spotAfter, spotChild, spotIn, whole}
 use Rattle.model.specs.Removal.{Stand, standIn}
 use Rattle.theory_growth.specs.Chain.{both, before, fill-past, fill-into, hang, hang-past}
-use Rattle.grow_splice.specs.Position.{parent}
+use Rattle.grow_splice.specs.Position.{at, parent}
 use Rattle.grow_locate.specs.declared.Located.{Located}
 use Rattle.grow_locate.specs.Seek.{seekOf}
 use Rattle.grow_locate.specs.Behind.{behindOf}
@@ -37,6 +37,11 @@ parent-past (inside left h rest s) more outer pos = parent-past s more (pos + si
 parent-into : (s : Position) (h : Head) (rest : Row) (outer pos : ℕ) → parent outer pos (into s h rest) ≡ pos + before s
 parent-into (here left) h rest outer pos = refl
 parent-into (inside left g right s) h rest outer pos = omega (arith, parent-into s h rest (pos + size left) (pos + size left + 6))
+
+-- The two ways to count the bytes before a position.
+pub at-before : (s : Position) (pos : ℕ) → at pos s ≡ pos + before s
+at-before (here left) pos = refl
+at-before (inside left h rest s) pos = omega (arith, at-before s (pos + size left + 6))
 
 -- Of what fills a position of a record: its offset in the page, and that of the node that holds it, 0 if the record does not.
 abbrev pub offsetIn : Position → (x : Row) → ℕ

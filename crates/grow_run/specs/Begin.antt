@@ -52,6 +52,7 @@ use Rattle.grow_locate.specs.declared.Receiver.{Receiver}
 use Rattle.grow_new_node.specs.declared.Fresh.{Fresh}
 use Rattle.grow_cascade.specs.declared.Grown.{Grown}
 use Rattle.grow_locate.specs.Aim.{Aimed, receiverOf}
+use Rattle.grow_locate.specs.Parent.{at-before}
 use Rattle.grow_new_node.specs.Placed.{ownPage, imagePlaced, NodePlaced, as-lone}
 use Rattle.grow_new_node.specs.Marks.{rest-past}
 use Rattle.grow_cascade.specs.Rising.{Rising, LeftTable, Risen}
@@ -312,7 +313,7 @@ module _ {dry : Bool} {img u₀ : List ℕ} {above : ℕ} {t : Receiver} {label 
         small = stands .fits;
         comes = placed-is;
         most = placed-most st (w .x) (w .fits) h (lastPage c) W;
-        offset = ap (λ (r : Receiver). r .at) (w .receiver) ∙ sym (into.at-before s (base (fill s rest)));
+        offset = ap (λ (r : Receiver). r .at) (w .receiver) ∙ sym (at-before s (base (fill s rest)));
         holder = ap (λ (r : Receiver). r .par) (w .receiver);
         root = into.steady-keeps s rest (P ⊹ rest) (omega (arith, nodeCount-⊹ P rest, placed-some st (w .x) h (lastPage c) W)) (gap .steady);
       }

@@ -1,5 +1,5 @@
 -- The new node goes into the bytes of the record that takes it.
-use mathlib.Core.Path.{_≡_, refl, ap, _∙_}
+use mathlib.Core.Path.{_≡_, ap, _∙_}
 use mathlib.Core.Bool.{Bool, true≢false}
 use mathlib.Core.List.{List}
 use Prim.Native.Nat.{ℕ, _+_, _*_, _-_, _<_, _≤_}
@@ -14,16 +14,10 @@ use Rattle.theory_rows.specs.Laws.{length-bytes}
 use Rattle.theory_rows.specs.Image.{length-record}
 use Rattle.theory_layout.specs.Here.{PageIn}
 use Rattle.model.specs.Spot.{Position, here, inside, fill}
-use Rattle.theory_growth.specs.Chain.{before}
 use Rattle.theory_growth.specs.Gap.{Steady, steady-lone}
 use Rattle.grow_splice.specs.Position.{at, parent}
 use Rattle.grow_splice.specs.Splice.{KeepsRoot, Splicing, put-in}
 use Rattle.grow_replace_proxy.specs.Lift.{page-used, page-part}
-
--- The two ways to count the bytes before a position.
-pub at-before : (s : Position) (pos : ℕ) → at pos s ≡ pos + before s
-at-before (here left) pos = refl
-at-before (inside left h rest s) pos = omega (arith, at-before s (pos + size left + 6))
 
 -- More nodes leave the record its kind of root: at the top of a record's row a spot is in a helper, since beside a record's only node its proxy is passed.
 pub steady-keeps : (s : Position) (x y : Row) → nodeCount x < nodeCount y → Steady s x → KeepsRoot s x y

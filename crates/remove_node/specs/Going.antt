@@ -20,7 +20,7 @@ use Rattle.theory_decoding.specs.Decode.{in-trailer, stored-image}
 use Rattle.theory_decoding.specs.Reading.{reads-valid}
 use Rattle.theory_places.specs.Widths.{Table}
 use Rattle.theory_row_bytes.specs.RowAt.{byte-on, row-split}
-use Rattle.theory_layout.specs.Here.{Here, OnPage, nesting, root-nesting}
+use Rattle.theory_layout.specs.Here.{PageIn, Here, OnPage, nesting, root-nesting}
 use Rattle.theory_growth.specs.Chain.{before, lastSettled, chain-fits, hang}
 use Rattle.theory_growth.specs.Parts.{part-fill, part-whole}
 use Rattle.theory_insert_point.specs.Bytes.{lastHeld, chain-page, chain-bytes, here-fill}
@@ -47,7 +47,7 @@ pub record Going (img u : List ℕ) (s : Standing) : Type 0 where
   pub found : s ≡ standingOf t
   pub table : Table st root u
 
-nesting-left : (a b : Row) → nesting a ≤ nesting (a ⊹ b)
+pub nesting-left : (a b : Row) → nesting a ≤ nesting (a ⊹ b)
 nesting-left nil b = omega arith
 nesting-left (agg h cs rest) b = omega (arith, nesting-left rest b)
 nesting-left (lit h c rest) b = nesting-left rest b
@@ -129,7 +129,9 @@ module _ {img u : List ℕ} {s : Standing} (w : Going img u s) where
     rest = w .t .rest;
     settled = lastSettled c;
     up = lastHolder c;
-    stands = subst (λ (n : ℕ). OnPage img n (lastHolder c) old) (sym page-is) on-page;
+    on = subst (PageIn img) (sym page-is) (on-page .here .on);
+    small = on-page .fits;
+    names = on-page .here .names;
     is = subst (λ (n : ℕ). pageOf img n ≡ recordPage (recordOn n (lastSettled c) (lastHolder c) old)) (sym page-is) page-bytes;
     one = w .leaves .one;
     goes = sym gone-is;
@@ -139,10 +141,10 @@ module _ {img u : List ℕ} {s : Standing} (w : Going img u s) where
   }
 
   -- The node, in front of what follows it.
-  node-here : Here img (lastPage c) (pageSize * lastPage c + base old + before (w .t .position)) row
+  pub node-here : Here img (lastPage c) (pageSize * lastPage c + base old + before (w .t .position)) row
   node-here = here-fill img (lastPage c) (pageSize * lastPage c + base old) (w .t .position) row (on-page .here)
 
-  front : (page pos : ℕ) (a b : Row) → Here img page pos (a ⊹ b) → Here img page pos a
+  pub front : (page pos : ℕ) (a b : Row) → Here img page pos (a ⊹ b) → Here img page pos a
   front page pos a b h = record {
     at = row-split img pos a b (h .at) .0;
     on = h .on;

@@ -47,9 +47,9 @@ use Rattle.remove_record.specs.declared.Remnant.{Remnant}
 use Rattle.remove_record.specs.Reduced.{Reduced}
 use Rattle.remove_node.specs.Going.{Going, c, row, old, v, page-is, on-page, page-bytes, settled-is, holder-is, apart, removing, branch}
 
-pub record Gone {img u : List ℕ} {s : Standing} (w : Going img u s) (after table : List ℕ) : Type 0 where
+pub record Gone {img u : List ℕ} {s : Standing} (w : Going img u s) (after entries : List ℕ) : Type 0 where
   pub image : after ≡ rows.image (w .st) (without (w .t))
-  pub table : Table (w .st) (without (w .t)) table
+  pub table : Table (w .st) (without (w .t)) entries
 
 module _ {img u : List ℕ} {s : Standing} (w : Going img u s) where
   abbrev t : Stand

@@ -1,0 +1,3 @@
+pub mod Sibling
+pub mod Reduced
+pub mod Stands
