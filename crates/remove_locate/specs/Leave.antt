@@ -8,7 +8,7 @@ use native.Mathlib.Omega.{arith}
 use lib.Dec.{ltb}
 use Rattle.model.specs.Limits.{mostPages, pageSize}
 use Rattle.model.specs.Row.{Row, nil, agg, _⊹_, size, lone, base, Config}
-use Rattle.model.specs.Tree.{width, placeOf}
+use Rattle.model.specs.Tree.{shown, width, removeAt, placeOf}
 use Rattle.model.specs.declared.Place.{Place}
 use Rattle.model.specs.Reading.{Reads, sizeAt}
 use Rattle.model.specs.Spot.{Position, here, fill, into, Chain, top, lastPage}
@@ -17,7 +17,7 @@ use Rattle.theory_decoding.specs.Reading.{reads-valid}
 use Rattle.theory_places.specs.Order.{lone-root}
 use Rattle.theory_layout.specs.Here.{Here}
 use Rattle.theory_growth.specs.Chain.{before, hang}
-use Rattle.theory_removal.specs.Stand.{rootOf, stand-leaves}
+use Rattle.theory_removal.specs.Stand.{Leaves, stand-leaves}
 use Rattle.theory_insert_point.specs.Bytes.{here-fill, chain-page}
 use Rattle.read_find.specs.Rowed.{Rowed}
 use Rattle.grow_locate.specs.declared.Located.{Located}
@@ -86,18 +86,19 @@ module _ {img : List ℕ} {above k : ℕ} (w : Leaving img above k) where
   abbrev row : Row
   row = t .node ⊹ t .rest
 
-  held : rootOf t ≡ w .root
-  held = go (w .path) (w .stands)
+  -- The root record around it, and the tree without it.
+  pub leaves : Leaves (w .root) (removeAt 0 (w .path ++ k ∷ []) (shown (w .root))) t
+  leaves = go (w .path) (w .stands)
     where
-      go : (path : List ℕ) → standOf (w .root) (path ++ k ∷ []) ≡ some t → rootOf t ≡ w .root
-      go [] e = stand-leaves (w .root) k [] t e .held
-      go (j ∷ path) e = stand-leaves (w .root) j (path ++ k ∷ []) t e .held
+      go : (path : List ℕ) → standOf (w .root) (path ++ k ∷ []) ≡ some t → Leaves (w .root) (removeAt 0 (path ++ k ∷ []) (shown (w .root))) t
+      go [] e = stand-leaves (w .root) k [] t e
+      go (j ∷ path) e = stand-leaves (w .root) j (path ++ k ∷ []) t e
 
   -- The node stands there, or its proxy, and what follows it.
   pub stand-here : Here img (lastPage (t .chain)) (pageSize * lastPage (t .chain) + base (fill (t .position) row) + before (t .position)) row
   stand-here =
       here-fill img (lastPage (t .chain)) (pageSize * lastPage (t .chain) + base (fill (t .position) row)) (t .position) row
-      (chain-page img (w .st) (w .root) (w .reads) (t .chain) (fill (t .position) row) held .here)
+      (chain-page img (w .st) (w .root) (w .reads) (t .chain) (fill (t .position) row) (leaves .held) .here)
 
   -- Its parent, in the records.
   found : (p : Parent (w .root) (w .y)) × (standBelow k (p .chain) (p .position) 0 [] (agg (p .head) (p .children) (p .rest)) ≡ some t)

@@ -17,13 +17,8 @@ sub-t8 c =
     let s = c .before .before .before .before .before in
     let w = s .pre .0 in
     let e = c .before .before .before .seek-child .ensures w in
-    omega (
-      arith,
-      ap (λ (l : Located). l .at) e,
-      ap (λ (l : Located). l .past) e,
-      seek-order (s .args .parent + 6) (s .args .parent % pageSize) 0 (w .row)
-          (s .args .k),
-    )
+    let o = seek-order (s .args .parent + 6) (s .args .parent % pageSize) 0 (w .row) (s .args .k) in
+    omega (arith, ap (λ (l : Located). l .at) e, ap (λ (l : Located). l .past) e)
 
 returns : tie.Need-returns
 returns c = λ w. ap standingAt (c .before .before .before .seek-child .ensures w)
