@@ -10,7 +10,7 @@ use Rattle.model.specs.Limits.{mostPages, pageSize, capacity}
 use Rattle.model.specs.Row.{Row, nil, agg, lit, rec, store, _⊹_, size, base, nodeCount, lone, recordPage, recordOn, count, Config}
 use Rattle.model.specs.Tree.{Tree}
 use Rattle.model.specs.Reading.{Reads, pageOf, settledAt, backAt}
-use Rattle.model.specs.Spot.{Position, here, inside, fill, Chain, lastPage, whole, lastHolder}
+use Rattle.model.specs.Spot.{Position, here, inside, fill, Chain, top, below, lastPage, whole, lastHolder}
 use Rattle.model.specs.Removal.{Stand}
 use Rattle.theory_rows.specs.Fits.{Valid, Fits, RecordFits, Shape, one, more}
 use Rattle.theory_rows.specs.Bound.{fits-parts}
@@ -83,6 +83,17 @@ module _ {img u : List ℕ} {s : Standing} (w : Going img u s) where
   pub page-bytes : pageOf img (lastPage c) ≡ recordPage (lastHeld c old)
   page-bytes = chain-bytes img (w .st) (w .root) (w .reads) c old (w .leaves .held)
 
+  -- The node, in front of what follows it.
+  pub node-here : Here img (lastPage c) (pageSize * lastPage c + base old + before (w .t .position)) row
+  node-here = here-fill img (lastPage c) (pageSize * lastPage c + base old) (w .t .position) row (on-page .here)
+
+  -- It is one of the image's, and the node stands within it.
+  pub room : (1 ≤ s .page) × (s .page < mostPages) × (pageSize * s .page + pageSize ≤ length img) × (s .at + s .gone ≤ capacity)
+  room =
+      let h = on-page .here in
+      (omega (arith, page-is, h .on .low), omega (arith, page-is, h .on .high), omega (arith, page-is, h .on .inside), omega (arith, at-is, gone-is,
+      node-here .room, size-⊹ (w .t .node) (w .t .rest)))
+
   pub settled-is : settledAt img (pageSize * s .page) ≡ cond (lastSettled c) 1 0
   settled-is =
       ap (λ (n : ℕ). settledAt img (pageSize * n)) page-is ∙ byte-on img (lastPage c) page-bytes (capacity + 1) (omega arith)
@@ -90,6 +101,13 @@ module _ {img u : List ℕ} {s : Standing} (w : Going img u s) where
 
   pub holder-is : backAt img (pageSize * s .page) ≡ lastHolder c
   holder-is = ap (λ (n : ℕ). backAt img (pageSize * n)) page-is ∙ on-page .back
+
+  pub holder-high : lastHolder c < mostPages
+  holder-high = go c (w .leaves .held)
+    where
+      go : (c : Chain) → whole c old ≡ w .root → lastHolder c < mostPages
+      go top e = omega arith
+      go (below d p q b rest) e = chain-page img (w .st) (w .root) (w .reads) d (fill p (rec q b old rest)) e .here .on .high
 
   -- Each page is named at most one time, and the record's own not in it.
   pub apart : (k : ℕ) → bit (eqb k (lastPage c)) + count k (w .t .node) ≤ 1
@@ -139,10 +157,6 @@ module _ {img u : List ℕ} {s : Standing} (w : Going img u s) where
     holder = ap (λ (s : Standing). s .par) (w .found);
     beside = beside;
   }
-
-  -- The node, in front of what follows it.
-  pub node-here : Here img (lastPage c) (pageSize * lastPage c + base old + before (w .t .position)) row
-  node-here = here-fill img (lastPage c) (pageSize * lastPage c + base old) (w .t .position) row (on-page .here)
 
   pub front : (page pos : ℕ) (a b : Row) → Here img page pos (a ⊹ b) → Here img page pos a
   front page pos a b h = record {

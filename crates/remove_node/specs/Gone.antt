@@ -151,16 +151,16 @@ module _ {img u : List ℕ} {s : Standing} (w : Going img u s) where
     abbrev page : List ℕ
     page = recordPage (recordOn (lastPage (c w)) (lastSettled (c w)) (lastHolder (c w)) left)
 
-    pub gone-stays : (content after table : List ℕ) (settled holder : ℕ) → content ≡ take (r .len) is → settled ≡ settledAt img (pageSize * s .page)
-        → holder ≡ backAt img (pageSize * s .page) → after ≡ setPage (s .page) (pageBytesOf content settled holder) wipedImage → table ≡ emptied
-        → Gone w after table
-    gone-stays content after table settled holder a b h e k =
+    pub gone-stays : (mid content after table : List ℕ) (settled holder : ℕ) → mid ≡ wipedImage → content ≡ take (r .len) is
+        → settled ≡ settledAt img (pageSize * s .page) → holder ≡ backAt img (pageSize * s .page)
+        → after ≡ setPage (s .page) (pageBytesOf content settled holder) mid → table ≡ emptied → Gone w after table
+    gone-stays mid content after table settled holder m a b h e k =
         let long : length page ≡ pageSize = length-recordPage (recordOn (lastPage (c w)) (lastSettled (c w)) (lastHolder (c w)) left) (left-record-fits alone) in
         let room : pageSize * lastPage (c w) + pageSize ≤ length wipedImage = omega (arith, on-page w .here .on .inside, wipe-long) in
         let bytes : pageBytesOf content settled holder ≡ page =
         (λ i. pageBytesOf ((a ∙ content-is) i) ((b ∙ settled-is w) i) ((h ∙ holder-is w) i))
         ∙ sym (recordPage-is (recordOn (lastPage (c w)) (lastSettled (c w)) (lastHolder (c w)) left)) in
-        let is : after ≡ setPage (lastPage (c w)) page wipedImage = e ∙ (λ i. setPage (page-is w i) (bytes i) wipedImage) in
+        let is : after ≡ setPage (lastPage (c w)) page wipedImage = e ∙ (λ i. setPage (page-is w i) (bytes i) (m i)) in
         let pages = ap pageOf is ∙ mem-set (lastPage (c w)) page wipedImage long room in
         let all = stands img (w .st) (w .root) (w .reads) (w .new) t (w .leaves) in
         let x : Rewritten t (pageOf img) (pageOf after) =
@@ -259,8 +259,10 @@ module _ {img u : List ℕ} {s : Standing} (w : Going img u s) where
     }
 
     -- What `lift_child` requires.
-    pub lifting : Lifting wipedImage (s .page) child
-    lifting = subst (λ (n : ℕ). Lifting wipedImage n child) (sym own-page) (subst (Lifting wipedImage q) (sym (y .names)) own-lifting)
+    pub lifting : (mid : List ℕ) → mid ≡ wipedImage → Lifting mid (s .page) child
+    lifting mid m =
+        subst (λ (i : List ℕ). Lifting i (s .page) child) (sym m)
+        (subst (λ (n : ℕ). Lifting wipedImage n child) (sym own-page) (subst (Lifting wipedImage q) (sym (y .names)) own-lifting))
 
     lift-is : (after : List ℕ) → ((l : Lifting wipedImage (s .page) child) → after ≡ lifted l wipedImage) → after ≡ lifted own-lifting wipedImage
     lift-is after f =
@@ -268,12 +270,12 @@ module _ {img u : List ℕ} {s : Standing} (w : Going img u s) where
         (λ g. g own-lifting)
         (subst (λ (n : ℕ). (l : Lifting wipedImage n child) → after ≡ lifted l wipedImage) own-page f)
 
-    pub gone-goes : (after table : List ℕ) → ((l : Lifting wipedImage (s .page) child) → after ≡ lifted l wipedImage) → table ≡ set emptied (s .page) 0
-        → Gone w after table
+    pub gone-goes : (mid after table : List ℕ) → mid ≡ wipedImage → ((l : Lifting mid (s .page) child) → after ≡ lifted l mid)
+        → table ≡ set emptied (s .page) 0 → Gone w after table
     unfolding own-lifting renaming
-    gone-goes after table f k =
+    gone-goes mid after table m f k =
         let x = y .proxy in
-        let is = lift-is after f in
+        let is = lift-is after (subst (λ (i : List ℕ). (l : Lifting i (s .page) child) → after ≡ lifted l i) m f) in
         let all = stands img (w .st) (w .root) (w .reads) (w .new) t (w .leaves) in
         let pages = ap pageOf is ∙ lifted-pages own-lifting (x .settled) (x .inside) in
         let l : Lifted t (pageOf img) (pageOf after) d (y .position) q (y .settled) (y .rest) x =
