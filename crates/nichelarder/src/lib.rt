@@ -8,6 +8,7 @@ ghost use Rattle.model.specs.Answers.{nextNumbers};
 ghost use Rattle.model.specs.Calls.Format.{formatOf};
 ghost use Rattle.model.specs.Calls.Check.{checkOf};
 ghost use Rattle.model.specs.Calls.Insert.{insertOf};
+ghost use Rattle.model.specs.Calls.Remove.{removeOf};
 ghost use Rattle.model.specs.Calls.Find.{findOf};
 ghost use Rattle.model.specs.Calls.Climb.{climbOf};
 ghost use Rattle.model.specs.Calls.Read.{readOf};
@@ -83,6 +84,14 @@ pub extern "C" fn nl_insert(
     let l = a.lean;
     *lean = l;
     a.number
+}
+
+#[no_mangle]
+pub extern "C" fn nl_remove(image: &mut [u8], path: &[u8]) -> u32
+    ensures number { λ r. ⌜ r ≡ removeOf (now (image .entry)) (now (path .entry)) .0 ⌝ }
+    ensures image { λ _. ⌜ now (image .exit) ≡ removeOf (now (image .entry)) (now (path .entry)) .1 ⌝ }
+{
+    store::remove(image, path)
 }
 
 #[no_mangle]

@@ -5,6 +5,7 @@ use Prim.Native.Nat.{ℕ}
 use Rattle.model.specs.Answers.{insertRefused, findRefused, writeRefused, readRefused, nextRefused}
 use Rattle.model.specs.Calls.Check.{checkOf}
 use Rattle.model.specs.Calls.Insert.{insertOf}
+use Rattle.model.specs.Calls.Remove.{removeOf}
 use Rattle.model.specs.Calls.Find.{findOf}
 use Rattle.model.specs.Calls.Climb.{climbOf}
 use Rattle.model.specs.Calls.Read.{readOf}
@@ -18,6 +19,10 @@ module _ (img : List ℕ) (n : ℕ) (e : n ≡ checkOf img) (z : n ≡ 0 → ⊥
       → (insertRefused n, img) ≡ insertOf img path child kind origin label content
   unfolding insertOf
   insert-refused path child kind origin label content = rw (refuses img n (sym e) z)
+
+  pub remove-refused : (path : List ℕ) → (n, img) ≡ removeOf img path
+  unfolding removeOf
+  remove-refused path = rw (refuses img n (sym e) z)
 
   pub find-refused : (path : List ℕ) → findRefused n ≡ findOf img path
   unfolding findOf

@@ -13,6 +13,7 @@ ghost use Rattle.model.specs.Limits.{mostPages};
 ghost use Rattle.model.specs.Calls.Format.{formatOf};
 ghost use Rattle.model.specs.Calls.Check.{checkOf};
 ghost use Rattle.model.specs.Calls.Insert.{insertOf};
+ghost use Rattle.model.specs.Calls.Remove.{removeOf};
 ghost use Rattle.model.specs.Calls.Find.{findOf};
 ghost use Rattle.model.specs.Calls.Climb.{climbOf};
 ghost use Rattle.model.specs.Calls.Read.{readOf, partOf};
@@ -77,6 +78,19 @@ pub fn insert(
         label,
         content,
     )
+}
+
+// Takes out the node that the path names, with all under it.
+pub fn remove(image: &mut [u8], path: &[u8]) -> u32
+    ensures number { λ r. ⌜ r ≡ removeOf (now (image .entry)) (now (path .entry)) .0 ⌝ }
+    ensures image { λ _. ⌜ now (image .exit) ≡ removeOf (now (image .entry)) (now (path .entry)) .1 ⌝ }
+{
+    let mut widths = [0u32; Settings::PAGES];
+    let n = check_widths(image, &mut widths);
+    if n != 0 {
+        return n;
+    }
+    remove_node::remove_of(image, &mut widths, path)
 }
 
 // The place of the node that a path names.
