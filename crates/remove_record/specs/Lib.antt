@@ -1,3 +1,2 @@
 pub mod Sibling
 pub mod Reduced
-pub mod Stands

@@ -1,25 +1,25 @@
 -- What is left of the record on a page without one of its nodes.
 use mathlib.Core.Path.{_≡_, refl, sym, ap, subst, _∙_}
-use mathlib.Core.Bool.{Bool, true, false, true≢false, false≢true}
+use mathlib.Core.Bool.{Bool, true, false, true≢false}
 use mathlib.Core.List.{List, []}
 use Prim.Native.Nat.{ℕ, _+_, _*_, _-_, _≤_, _<_}
 use native.Mathlib.Omega.{arith}
 use lib.ListN.{length, take, drop}
 use Rattle.model.specs.Limits.{pageSize, capacity}
-use Rattle.model.specs.Row.{Head, Row, nil, agg, lit, rec, _⊹_, size, isNil, nodeCount, lone, loneRec, base, bytes, recordSize, recordBytes, recordPage, count, recordOn}
+use Rattle.model.specs.Row.{Head, Row, nil, agg, lit, rec, _⊹_, size, isNil, nodeCount, lone, loneRec, base, bytes, recordSize, recordBytes, recordPage}
+use Rattle.model.specs.Row.{recordOn, count}
 use Rattle.model.specs.Reading.{pageOf, usedAt, kindAt, nameAt}
 use Rattle.model.specs.Spot.{Position, here, inside, fill}
 use Rattle.base_numbers.specs.Over.{over}
 use Rattle.theory_rows.specs.Laws.{size-⊹}
 use Rattle.theory_rows.specs.Bound.{isNil-⊹}
 use Rattle.theory_rows.specs.Pages.{count-⊹}
-use Rattle.theory_rows.specs.Keeps.{nodeCount-⊹}
 use Rattle.theory_rows.specs.Image.{length-record}
 use Rattle.theory_decoding.specs.Valid.{names-own}
 use Rattle.theory_layout.specs.Here.{PageIn}
 use Rattle.theory_row_bytes.specs.RowAt.{FirstNode, first-node, RecordIs, kindOf, nameOf, row-bytes}
 use Rattle.theory_growth.specs.Chain.{size-fill, count-refill, nodes-some}
-use Rattle.theory_removal.specs.Keeps.{Proxy, proxy-of}
+use Rattle.theory_removal.specs.Keeps.{Proxy}
 use Rattle.grow_splice.specs.Position.{isInside}
 use Rattle.grow_splice.specs.Splice.{KeepsRoot, Splicing, many-keeps, take-out}
 use Rattle.grow_locate.specs.Parent.{offsetIn, holderIn, at-before}
@@ -50,26 +50,10 @@ pub record Removing (img : List ℕ) (page pos par gone : ℕ) : Type 0 where
 abbrev pub reduced : {img : List ℕ} {page pos par gone : ℕ} → Removing img page pos par gone → Row
 reduced w = fill (w .position) (w .rest)
 
--- What is left: one proxy, whose page is told, and the buffer as it was; or a record, at the buffer's front, and no page is told.
+-- What is left: one proxy, to page `child`, and the buffer as it was; or a record, at the buffer's front, and no child.
 pub record Reduced {img : List ℕ} {page pos par gone : ℕ} (w : Removing img page pos par gone) (r : Remnant) (was is : List ℕ) : Type 0 where
   pub proxy : (x : Proxy (reduced w)) → (r .child ≡ x .page) × PageIn img (x .page) × (is ≡ was)
   pub other : loneRec (reduced w) ≡ false → (r .child ≡ 0) × (r .len ≡ recordSize (reduced w)) × (is ≡ over 0 (recordBytes (reduced w)) was)
-
-module _ {img : List ℕ} {page pos par gone : ℕ} {w : Removing img page pos par gone} {r : Remnant} {was is : List ℕ} (k : Reduced w r was is) where
-  -- Whether a page is told says which it is.
-  told-none : (b : Bool) → loneRec (reduced w) ≡ b → r .child ≡ 0 → b ≡ false
-  told-none true e z = let x = proxy-of (reduced w) e in let v = k .proxy x in absurd (omega (arith, v .0, v .1 .low))
-  told-none false e z = refl
-
-  told-page : (b : Bool) → loneRec (reduced w) ≡ b → (r .child ≡ 0 → ⊥) → b ≡ true
-  told-page true e z = refl
-  told-page false e z = absurd (z (k .other e .0))
-
-  pub record-left : r .child ≡ 0 → loneRec (reduced w) ≡ false
-  record-left = told-none (loneRec (reduced w)) refl
-
-  pub proxy-left : (r .child ≡ 0 → ⊥) → loneRec (reduced w) ≡ true
-  proxy-left = told-page (loneRec (reduced w)) refl
 
 -- ── one proxy or not ──
 
@@ -101,7 +85,7 @@ root-alone (agg h cs rest) e k = (ap isNil (nodes-nil rest (omega arith)), refl)
 root-alone (lit h c rest) e k = (ap isNil (nodes-nil rest (omega arith)), refl)
 root-alone (rec p s x rest) e k = absurd (k refl)
 
--- And a proxy is one of the pages that it names.
+-- One that is a proxy names its page.
 proxy-alone : (r : Row) → nodeCount r ≡ 1 → kindOf r ≡ 3 → (loneRec r ≡ true) × (1 ≤ count (nameOf r) r)
 proxy-alone nil e k = absurd (omega arith)
 proxy-alone (agg h cs rest) e k = absurd (omega arith)
@@ -153,13 +137,14 @@ module _ {img : List ℕ} {page pos par gone : ℕ} (w : Removing img page pos p
       -- ── a record that keeps its root ──
 
       module _ (f : r .found ≡ false) where
-        pub keeps : KeepsRoot (w .position) (w .node ⊹ w .rest) (w .rest)
-        keeps k = many-keeps (w .position) (w .node ⊹ w .rest) (w .rest) (w .beside k) (s .none f k) k
+        pub keeps-root : KeepsRoot (w .position) (w .node ⊹ w .rest) (w .rest)
+        keeps-root k = many-keeps (w .position) (w .node ⊹ w .rest) (w .rest) (w .beside k) (s .none f k) k
 
         -- Where `splice` takes it out.
         abbrev pub out-place : (new : List ℕ) → new ≡ [] → Splicing l pos par gone new
         out-place new n =
-            take-out (w .position) (w .node) (w .rest) l pos par gone new e (w .goes) (w .offset ∙ sym (at-before (w .position) (base row))) (w .holder) n keeps
+            take-out (w .position) (w .node) (w .rest) l pos par gone new e (w .goes) (w .offset ∙ sym (at-before (w .position) (base row))) (w .holder) n
+            keeps-root
 
         pub left-spliced : (n : ℕ) (was is : List ℕ) → n ≡ recordSize (reduced w) → is ≡ over 0 (recordBytes (reduced w)) was
             → Reduced w (record { len = n; child = 0 }) was is

@@ -3,7 +3,7 @@ use mathlib.Core.Path.{_≡_, refl, sym, ap, subst, _∙_}
 use mathlib.Core.Bool.{Bool, true, false, cond, true≢false, false≢true}
 use mathlib.Core.List.{List, [], append-nil}
 use mathlib.Core.Logic.{⊎-elim}
-use Prim.Native.Nat.{ℕ, zero, suc, _+_, _≤_, _<_}
+use Prim.Native.Nat.{ℕ, _+_, _≤_}
 use native.Mathlib.Omega.{arith}
 use borrow.Author.Tests.{eq-eqb, eqb-true}
 use lib.Dec.{eqb}
@@ -31,7 +31,7 @@ nodes-nil (agg h cs rest) e = absurd (omega arith)
 nodes-nil (lit h c rest) e = absurd (omega arith)
 nodes-nil (rec p s r rest) e = absurd (omega arith)
 
-pub size-nil : (r : Row) → size r ≡ 0 → r ≡ nil
+size-nil : (r : Row) → size r ≡ 0 → r ≡ nil
 size-nil nil e = refl
 size-nil (agg h cs rest) e = absurd (omega arith)
 size-nil (lit h c rest) e = absurd (omega arith)
@@ -111,7 +111,7 @@ module _ {l : List ℕ} {pos par : ℕ} (w : Losing l pos par) where
   pub some : 6 ≤ length l
   some = omega (arith, long, size-around (w .position) (w .node ⊹ w .rest), size-⊹ (w .node) (w .rest), nodes-size (w .node) (omega (arith, w .one)))
 
-  -- At the top of a row the node is a child of a helper, which is known by its kind, and no node holds it.
+  -- At the top of a row the node is a child of a helper, which is known by its kind, and no other node of the record holds it.
   pub top-helper : isInside (w .position) ≡ false → kindAt l 0 ≡ 4
   top-helper e =
       let b : base row ≡ 6 = rw (lone-many row (w .beside e)) in
@@ -128,7 +128,7 @@ module _ {l : List ℕ} {pos par : ℕ} (w : Losing l pos par) where
       go (here left) e b = refl
       go (inside left h right s) e b = absurd (true≢false e)
 
-  -- And otherwise it is none.
+  -- Past the code's first two tests it is one.
   pub at-top : par ≡ 0 → kindAt l 0 ≡ 4 → AtTop w
   at-top p k = go (w .position) refl
     where
@@ -175,8 +175,8 @@ module _ {l : List ℕ} {pos par : ℕ} (w : Losing l pos par) (t : AtTop w) whe
   second : FirstNode l (6 + sizeOf kids) (restOf kids)
   second =
       let n = nodes-first kids (omega (arith, t .many)) in
-      first-node l (6 + sizeOf kids) (restOf kids) (omega (arith, nodes-size (restOf kids) (omega (arith, t .many)))) (omega (arith, small, t .long, size-first kids))
-      (first .rest)
+      let some = nodes-size (restOf kids) (omega (arith, t .many)) in
+      first-node l (6 + sizeOf kids) (restOf kids) (omega arith) (omega (arith, small, t .long, size-first kids)) (first .rest)
 
   pub first-fits : 12 ≤ length l
   first-fits = omega (arith, first .within, first .total, first .more)
@@ -202,12 +202,7 @@ module _ {l : List ℕ} {pos par : ℕ} (w : Losing l pos par) (t : AtTop w) whe
       pub keeps-two : (n ≡ length l → ⊥) → 2 ≤ nodeCount (fill (w .position) (w .rest))
       keeps-two k =
           let r = restOf (restOf kids) in
-          let more : 0 < size r = go (size r) refl in
-          omega (arith, nodes, kids-nodes, left-nodes, nodeCount-some r (not-nil r more))
-        where
-          go : (z : ℕ) → size (restOf (restOf kids)) ≡ z → 0 < z
-          go zero e = absurd (k (omega (arith, beyond)))
-          go (suc z) e = omega arith
+          omega (arith, nodes, kids-nodes, left-nodes, nodeCount-some r (not-nil r (omega (arith, beyond))))
 
       two : n ≡ length l → nodeCount kids ≡ 2
       two e = omega (arith, nodes, ap nodeCount (size-nil (restOf (restOf kids)) (omega (arith, beyond))))
@@ -230,8 +225,7 @@ module _ {l : List ℕ} {pos par : ℕ} (w : Losing l pos par) (t : AtTop w) whe
       pub leaves-first : n ≡ length l → (pos ≡ 6 → ⊥) → Alone l 6 m (fill (w .position) (w .rest))
       leaves-first e p =
           let a = t .left in
-          let some : 0 < size a = go (size a) refl in
-          let one : nodeCount a ≡ 1 = omega (arith, two e, kids-nodes, nodeCount-some a (not-nil a some)) in
+          let one : nodeCount a ≡ 1 = omega (arith, two e, kids-nodes, nodeCount-some a (not-nil a (omega (arith, t .starts)))) in
           let none = nodes-nil (w .rest) (omega (arith, two e, kids-nodes)) in
           let is : fill (w .position) (w .rest) ≡ a =
           ap (λ (s : Position). fill s (w .rest)) (t .is) ∙ ap (λ (z : Row). a ⊹ z) none ∙ ⊹-nil a in
@@ -240,7 +234,3 @@ module _ {l : List ℕ} {pos par : ℕ} (w : Losing l pos par) (t : AtTop w) whe
             at = row-split l 6 a (w .node ⊹ w .rest) (t .stands) .0;
             ends = omega (arith, starts-at, one-first a (w .node ⊹ w .rest) one .0);
           })
-        where
-          go : (z : ℕ) → size (t .left) ≡ z → 0 < z
-          go zero e = absurd (p (omega (arith, t .starts)))
-          go (suc z) e = omega arith

@@ -1,5 +1,4 @@
 -- `remove_record::only_sibling`: a node at the top of a record's row is the first or the second of a helper's two children, or it leaves two or more.
-use mathlib.Core.Path.{_≡_}
 use Prim.Native.Nat.{ℕ, _+_}
 use native.Mathlib.Omega.{arith}
 use borrow.Author.Needs.{needs}

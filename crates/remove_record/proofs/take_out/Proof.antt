@@ -1,10 +1,12 @@
 -- `remove_record::take_out`: the record's bytes without the node, or those of its only sibling, unless that is a proxy.
-use mathlib.Core.Path.{_≡_, refl}
+use mathlib.Core.Path.{refl}
+use Prim.Native.Nat.{_+_, _*_, _-_, _≤_}
 use native.Mathlib.Omega.{arith}
 use borrow.Author.Needs.{needs}
 use borrow.Author.Tests.{not-true, not-false}
-use lib.ListN.{length-take}
+use lib.ListN.{length, take, drop, length-take}
 use denote.Ref.{now}
+use Rattle.model.specs.Limits.{pageSize}
 use Rattle.remove_record.specs.Sibling.{SiblingIs}
 use Rattle.remove_record.specs.Reduced.{Removing, used, part, long, losing, out-place, left-spliced, alone-fits, name-fits, left-proxy, left-root}
 use Rattle.remove_record.proofs.take_out.Statement.{statement}
@@ -60,12 +62,17 @@ returns c = λ w.
     let k = c .before .before .splice .ensures (out-place w _ e _ (found r w) f _ refl) in
     left-spliced w _ e _ (found r w) f _ _ _ (k .0) (k .1)
 
-shared-slice-read-if2 : tie.Need-shared-slice-read-if2
-shared-slice-read-if2 c =
+-- the sibling is within the record
+stays : (c : tie.After-shared-slice-known2) → let r = c .before .before .before in let s = r .before .before .before .before .before in
+    let a = pageSize * s .args .page in let q = r .only-sibling .result in
+    (q .start + 6 ≤ q .end) × (q .end ≤ length (take (a + r .before .before .used-at .result - a) (drop a (now (s .args .image)))))
+stays c =
     let r = c .before .before .before in
     let w = r .before .before .before .before .before .pre .0 in
-    let n = alone-fits w _ (part w _ (r .before .before .used-at .ensures .0)) _ (found r w) (not-false _ (c .before .if1 .left)) in
-    omega (arith, n .0, n .1)
+    alone-fits w _ (part w _ (r .before .before .used-at .ensures .0)) _ (found r w) (not-false _ (c .before .if1 .left))
+
+shared-slice-read-if2 : tie.Need-shared-slice-read-if2
+shared-slice-read-if2 c = let n = stays c in omega (arith, n .0, n .1)
 
 name-at-requires : tie.Need-name-at-requires
 name-at-requires c κs =
@@ -76,38 +83,24 @@ name-at-requires c κs =
 returns-2 : tie.Need-returns-2
 returns-2 c = λ w.
     let r = c .before .before .before .before .before in
-    left-proxy w _ (part w _ (r .before .before .used-at .ensures .0)) _ (found r w) (not-false _ (c .before .before .before .if1 .left)) (c .before .if2 .taken)
-    _ _ (c .name-at .ensures .0)
+    left-proxy w _ (part w _ (r .before .before .used-at .ensures .0)) _ (found r w) (not-false _ (c .before .before .before .if1 .left))
+    (c .before .if2 .taken) _ _ (c .name-at .ensures .0)
 
 sub-copy-in : tie.Need-sub-copy-in
-sub-copy-in c =
-    let r = c .before .before .before .before in
-    let w = r .before .before .before .before .before .pre .0 in
-    let n = alone-fits w _ (part w _ (r .before .before .used-at .ensures .0)) _ (found r w) (not-false _ (c .before .before .if1 .left)) in
-    omega (arith, n .0)
+sub-copy-in c = let n = stays (c .before) in omega (arith, n .0)
 
 part-copy-in-start : tie.Need-part-copy-in-start
-part-copy-in-start c =
-    let r = c .before .before .before .before in
-    let w = r .before .before .before .before .before .pre .0 in
-    let n = alone-fits w _ (part w _ (r .before .before .used-at .ensures .0)) _ (found r w) (not-false _ (c .before .before .if1 .left)) in
-    omega (arith, n .0, n .1)
+part-copy-in-start c = let n = stays (c .before) in omega (arith, n .0, n .1)
 
 part-copy-in-end : tie.Need-part-copy-in-end
-part-copy-in-end c =
-    let r = c .before .before .before .before in
-    let w = r .before .before .before .before .before .pre .0 in
-    let n = alone-fits w _ (part w _ (r .before .before .used-at .ensures .0)) _ (found r w) (not-false _ (c .before .before .if1 .left)) in
-    omega (arith, n .0, n .1)
+part-copy-in-end c = let n = stays (c .before) in omega (arith, n .0, n .1)
 
 copy-in-requires : tie.Need-copy-in-requires
 copy-in-requires c κs =
     let r = c .before .before .before .before .before .before in
     let s = r .before .before .before .before .before in
-    let w = s .pre .0 in
-    let e = part w _ (r .before .before .used-at .ensures .0) in
-    let n = alone-fits w _ e _ (found r w) (not-false _ (c .before .before .before .before .if1 .left)) in
-    simp length-take (omega (arith, n .0, n .1, long w _ e, s .pre .1))
+    let n = stays (c .before .before .before) in
+    simp length-take (omega (arith, n .0, n .1, long (s .pre .0) _ (part (s .pre .0) _ (r .before .before .used-at .ensures .0)), s .pre .1))
 
 sub-t14 : tie.Need-sub-t14
 sub-t14 c = sub-copy-in (c .before .before .before .before .before)
@@ -118,7 +111,8 @@ same-length-2 c = search needs
 returns-3 : tie.Need-returns-3
 returns-3 c = λ w.
     let r = c .before .before .before .before .before .before .before .before .before in
-    left-root w _ (part w _ (r .before .before .used-at .ensures .0)) _ (found r w) (not-false _ (c .before .before .before .before .before .before .before .if1 .left))
+    left-root w _ (part w _ (r .before .before .used-at .ensures .0)) _ (found r w)
+    (not-false _ (c .before .before .before .before .before .before .before .if1 .left))
     (c .before .before .before .before .before .if2 .left) _ _ _ refl (c .before .before .copy-in .ensures)
 
 pub take-out-spec : {M : Type 1} → statement M
