@@ -13,18 +13,25 @@ use Rattle.theory_page_memory.specs.Links.{All, all-parted}
 use Rattle.theory_rows.specs.Laws.{length-bytes, size-⊹}
 use Rattle.base_numbers.specs.Over.{over}
 
--- The image after the back link of each record that the row names is set to page q.
-abbrev pub links : (q : ℕ) → Row → (image : List ℕ) → List ℕ
-links q nil img = img
-links q (agg h cs rest) img = links q rest (links q cs img)
-links q (lit h c rest) img = links q rest img
-links q (rec p s r rest) img = links q rest (over (pageSize * p + (capacity + 4)) (two q) img)
+-- What a step makes of some bytes for each page that the row names itself, one after another.
+abbrev pub each : (step : ℕ → List ℕ → List ℕ) → Row → List ℕ → List ℕ
+each f nil x = x
+each f (agg h cs rest) x = each f rest (each f cs x)
+each f (lit h c rest) x = each f rest x
+each f (rec p s r rest) x = each f rest (f p x)
 
-links-⊹ : (q : ℕ) (a b : Row) (img : List ℕ) → links q (a ⊹ b) img ≡ links q b (links q a img)
-links-⊹ q nil b img = refl
-links-⊹ q (agg h cs rest) b img = links-⊹ q rest b (links q cs img)
-links-⊹ q (lit h c rest) b img = links-⊹ q rest b img
-links-⊹ q (rec p s r rest) b img = links-⊹ q rest b (over (pageSize * p + (capacity + 4)) (two q) img)
+each-⊹ : (f : ℕ → List ℕ → List ℕ) (a b : Row) (x : List ℕ) → each f (a ⊹ b) x ≡ each f b (each f a x)
+each-⊹ f nil b x = refl
+each-⊹ f (agg h cs rest) b x = each-⊹ f rest b (each f cs x)
+each-⊹ f (lit h c rest) b x = each-⊹ f rest b x
+each-⊹ f (rec p s r rest) b x = each-⊹ f rest b (f p x)
+
+-- The back link of a page's record set to page q; the image after that of each record that the row names is.
+abbrev pub link : (q p : ℕ) → (image : List ℕ) → List ℕ
+link q p img = over (pageSize * p + (capacity + 4)) (two q) img
+
+abbrev pub links : (q : ℕ) → Row → (image : List ℕ) → List ℕ
+links q row img = each (link q) row img
 
 -- Each proxy of the row names a page below n.
 abbrev pub Below : (n : ℕ) → Row → Type 0
@@ -42,27 +49,27 @@ pub record Linked (l : List ℕ) (n : ℕ) : Type 0 where
 
 -- ── the walk over the headers ──
 
--- At pos: what is left of the bytes is a row, whose links lead from img to goal.
-pub record Relinking (l : List ℕ) (n q pos : ℕ) (img goal : List ℕ) : Type 0 where
+-- At pos: what is left of the bytes is a row, whose steps lead from x to goal.
+pub record Walking (l : List ℕ) (n : ℕ) (f : ℕ → List ℕ → List ℕ) (pos : ℕ) (x goal : List ℕ) : Type 0 where
   pub row : Row
   pub stands : RowAt l pos row
   pub ends : pos + size row ≡ length l
   pub small : size row < 65536
   pub below : Below n row
-  pub same : links q row img ≡ goal
+  pub same : each f row x ≡ goal
 
 -- How it goes on from the header at pos.
-pub record RelinkStep (l : List ℕ) (n q pos : ℕ) (img goal : List ℕ) : Type 0 where
+pub record WalkStep (l : List ℕ) (n : ℕ) (f : ℕ → List ℕ → List ℕ) (pos : ℕ) (x goal : List ℕ) : Type 0 where
   pub more : 6 ≤ sizeAt l pos
   pub within : pos + sizeAt l pos ≤ length l
-  pub into : kindAt l pos ≡ 1 → Relinking l n q (pos + 6) img goal
+  pub into : kindAt l pos ≡ 1 → Walking l n f (pos + 6) x goal
   pub proxy : kindAt l pos ≡ 3
-      → (sizeAt l pos ≡ 8) × ((nameAt l pos < n) × Relinking l n q (pos + 8) (over (pageSize * nameAt l pos + (capacity + 4)) (two q) img) goal)
-  pub past : (kindAt l pos ≡ 1 → ⊥) → (kindAt l pos ≡ 3 → ⊥) → Relinking l n q (pos + sizeAt l pos) img goal
+      → (sizeAt l pos ≡ 8) × ((nameAt l pos < n) × Walking l n f (pos + 8) (f (nameAt l pos) x) goal)
+  pub past : (kindAt l pos ≡ 1 → ⊥) → (kindAt l pos ≡ 3 → ⊥) → Walking l n f (pos + sizeAt l pos) x goal
 
-module _ (l : List ℕ) (n q pos : ℕ) (img goal : List ℕ) (few : n ≤ mostPages) where
-  step-by : (r : Row) → RowAt l pos r → FirstNode l pos r → pos + size r ≡ length l → size r < 65536 → Below n r → links q r img ≡ goal
-      → RelinkStep l n q pos img goal
+module _ (l : List ℕ) (n : ℕ) (f : ℕ → List ℕ → List ℕ) (pos : ℕ) (x goal : List ℕ) (few : n ≤ mostPages) where
+  step-by : (r : Row) → RowAt l pos r → FirstNode l pos r → pos + size r ≡ length l → size r < 65536 → Below n r → each f r x ≡ goal
+      → WalkStep l n f pos x goal
   step-by nil s v z t b e = absurd (omega (arith, v .more))
   step-by (agg lb cs rest) s v z t b e =
       let w = size-⊹ cs rest in
@@ -75,7 +82,7 @@ module _ (l : List ℕ) (n q pos : ℕ) (img goal : List ℕ) (few : n ≤ mostP
           ends = omega arith;
           small = omega arith;
           below = below-parted n .join cs rest (b .0) (b .1);
-          same = links-⊹ q cs rest img ∙ e;
+          same = each-⊹ f cs rest x ∙ e;
         };
         proxy = λ k. absurd (omega (arith, v .kind-is));
         past = λ k m. absurd (k (v .kind-is));
@@ -87,7 +94,7 @@ module _ (l : List ℕ) (n q pos : ℕ) (img goal : List ℕ) (few : n ≤ mostP
     proxy = λ k. absurd (omega (arith, v .kind-is));
     past = λ k m. rw (v .size-is) (record { row = rest; stands = v .rest; ends = omega arith; small = omega arith; below = b; same = e });
   }
-  step-by (rec p x y rest) s v z t b e =
+  step-by (rec p u y rest) s v z t b e =
       let name = v .name-is refl (omega (arith, b .0)) in
       record {
         more = omega (arith, v .size-is);
@@ -99,21 +106,21 @@ module _ (l : List ℕ) (n q pos : ℕ) (img goal : List ℕ) (few : n ≤ mostP
         past = λ k m. absurd (m (v .kind-is));
       }
 
-  pub relink-step : Relinking l n q pos img goal → pos < length l → RelinkStep l n q pos img goal
-  relink-step s h =
+  pub walk-step : Walking l n f pos x goal → pos < length l → WalkStep l n f pos x goal
+  walk-step s h =
       step-by (s .row) (s .stands) (first-node l pos (s .row) (omega (arith, s .ends)) (s .small) (s .stands)) (s .ends) (s .small) (s .below) (s .same)
 
-  pub relink-end : Relinking l n q pos img goal → length l ≤ pos → img ≡ goal
-  relink-end s h = none (s .row) (omega (arith, s .ends)) ∙ s .same
+  pub walk-end : Walking l n f pos x goal → length l ≤ pos → x ≡ goal
+  walk-end s h = none (s .row) (omega (arith, s .ends)) ∙ s .same
     where
-      none : (r : Row) → size r ≡ 0 → img ≡ links q r img
+      none : (r : Row) → size r ≡ 0 → x ≡ each f r x
       none nil e = refl
       none (agg lb cs rest) e = absurd (omega arith)
       none (lit lb c rest) e = absurd (omega arith)
-      none (rec p t x rest) e = absurd (omega arith)
+      none (rec p t y rest) e = absurd (omega arith)
 
-pub relink-start : (l img : List ℕ) (n q : ℕ) (w : Linked l n) → Relinking l n q 0 img (links q (w .row) img)
-relink-start l img n q w = record {
+pub walk-start : (l x : List ℕ) (n : ℕ) (f : ℕ → List ℕ → List ℕ) (w : Linked l n) → Walking l n f 0 x (each f (w .row) x)
+walk-start l x n f w = record {
   row = w .row;
   stands = record { post = []; is = w .is ∙ sym (append-nil (bytes (w .row))) };
   ends = omega (arith, ap length (w .is), length-bytes (w .row));

@@ -4,13 +4,13 @@ use mathlib.Core.List.{List}
 use Prim.Native.Nat.{ℕ, _-_}
 use native.Mathlib.Omega.{arith}
 use lib.ListN.{length}
-use Rattle.grow_pages.specs.Links.{links, Relinking, RelinkStep, relink-step, relink-end, relink-start}
+use Rattle.grow_pages.specs.Links.{link, links, Walking, WalkStep, walk-step, walk-end, walk-start}
 use Rattle.grow_pages.proofs.relink.Statement.{statement}
 use Rattle.grow_pages.proofs.relink.Tie as tie
 
 abbrev Inv-loop : tie.InvT-loop
 Inv-loop row image₀ pages q pos₀ image pos =
-    ((goal : List ℕ) → Relinking row pages q 0 image₀ goal → Relinking row pages q pos image goal) × (length image ≡ length image₀)
+    ((goal : List ℕ) → Walking row pages (link q) 0 image₀ goal → Walking row pages (link q) pos image goal) × (length image ≡ length image₀)
 
 abbrev μ-loop : tie.MeasureT-loop
 μ-loop row image₀ pages q pos₀ image pos = length row - pos
@@ -22,10 +22,10 @@ loop-holds c = (λ g s. s, refl)
 seen : (c : tie.In-loop Inv-loop μ-loop)
     → let s = c .before .before .before .before in
     let goal = links (s .args .q) (s .pre .1 .1 .1 .row) (s .args .image .now) in
-    RelinkStep (s .args .row .now) (s .args .pages) (s .args .q) (c .before .loop .pos) (c .before .loop .image) goal
+    WalkStep (s .args .row .now) (s .args .pages) (link (s .args .q)) (c .before .loop .pos) (c .before .loop .image) goal
 seen c =
     let s = c .before .before .before .before in
-    relink-step _ _ _ _ _ _ (s .pre .0) (c .before .loop .inv .0 _ (relink-start _ _ _ _ (s .pre .1 .1 .1))) (c .loop-test .taken)
+    walk-step _ _ _ _ _ _ (s .pre .0) (c .before .loop .inv .0 _ (walk-start _ _ _ _ (s .pre .1 .1 .1))) (c .loop-test .taken)
 
 shared-slice-read-kind : tie.Need-shared-slice-read-kind Inv-loop μ-loop
 shared-slice-read-kind c = omega arith
@@ -39,7 +39,7 @@ loop-less c = let v = seen (c .before .before) in omega (arith, v .more, v .with
 loop-again : tie.Need-loop-again Inv-loop μ-loop
 loop-again c =
     let i = c .before .before in (
-      λ g s. relink-step _ _ _ _ _ _ (i .before .before .before .before .pre .0) (i .before .loop .inv .0 g s) (i .loop-test .taken) .into (c .if1 .taken),
+      λ g s. walk-step _ _ _ _ _ _ (i .before .before .before .before .pre .0) (i .before .loop .inv .0 g s) (i .loop-test .taken) .into (c .if1 .taken),
       i .before .loop .inv .1,
     )
 
@@ -76,7 +76,7 @@ loop-again-2 c =
     let g = p .before .before in
     let i = c .before .before .before .before .before .before .before .before in (
       λ y s. rw (p .put16 .ensures, g .name-at .ensures .0)
-          (relink-step _ _ _ _ _ _ (i .before .before .before .before .pre .0) (i .before .loop .inv .0 y s) (i .loop-test .taken) .proxy
+          (walk-step _ _ _ _ _ _ (i .before .before .before .before .pre .0) (i .before .loop .inv .0 y s) (i .loop-test .taken) .proxy
           (g .before .if2 .taken) .1 .1),
       p .put16 .kept .0 ∙ i .before .loop .inv .1,
     )
@@ -93,7 +93,7 @@ loop-less-3 c = let v = seen (c .before .before .before .before) in omega (arith
 loop-again-3 : tie.Need-loop-again-3 Inv-loop μ-loop
 loop-again-3 c =
     let i = c .before .before .before .before in (
-      λ g s. let v = relink-step _ _ _ _ _ _ (i .before .before .before .before .pre .0) (i .before .loop .inv .0 g s) (i .loop-test .taken) in rw
+      λ g s. let v = walk-step _ _ _ _ _ _ (i .before .before .before .before .pre .0) (i .before .loop .inv .0 g s) (i .loop-test .taken) in rw
           (c .size-at .ensures .0) (v .past (c .before .before .if1 .left) (c .before .if2 .left)),
       i .before .loop .inv .1,
     )
@@ -102,7 +102,7 @@ same-length : tie.Need-same-length Inv-loop μ-loop
 same-length c = c .before .loop .inv .1
 
 returns : tie.Need-returns Inv-loop μ-loop
-returns c = λ w. relink-end _ _ _ _ _ _ (c .before .before .before .before .pre .0) (c .before .loop .inv .0 _ (relink-start _ _ _ _ w)) (c .loop-test .left)
+returns c = λ w. walk-end _ _ _ _ _ _ (c .before .before .before .before .pre .0) (c .before .loop .inv .0 _ (walk-start _ _ _ _ w)) (c .loop-test .left)
 
 pub relink-spec : {M : Type 1} → statement M
 relink-spec =
