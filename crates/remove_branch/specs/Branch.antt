@@ -1,207 +1,259 @@
--- A row whose records are to be freed, and the walk along it that frees them.
+-- A branch whose records are freed.
 use mathlib.Core.Path.{_≡_, refl, sym, ap, subst, _∙_}
-use mathlib.Core.Bool.{Bool}
-use mathlib.Core.List.{List}
-use Prim.Native.Nat.{ℕ, _+_, _*_, _-_, _≤_, _<_, max}
+use mathlib.Core.Bool.{Bool, true, false, cond}
+use mathlib.Core.List.{List, [], _∷_}
+use Prim.Native.Nat.{ℕ, zero, suc, _+_, _*_, _-_, _/_, _≤_, _<_}
 use native.Mathlib.Omega.{arith}
-use lib.Dec.{eqb}
-use lib.ListN.{length, set}
-use Rattle.model.specs.Limits.{pageSize, mostBytes}
-use Rattle.model.specs.Row.{Head, Row, nil, agg, lit, rec, _⊹_, size, base, count}
-use Rattle.model.specs.Reading.{pageOf, sizeAt, nameAt, kindAt}
-use Rattle.theory_rows.specs.Laws.{size-⊹}
-use Rattle.theory_rows.specs.Pages.{bit, count-⊹}
-use Rattle.theory_rows.specs.Bound.{Fits-⊹}
-use Rattle.theory_row_bytes.specs.RowAt.{row-into}
-use Rattle.theory_layout.specs.Here.{nesting, PageIn, Here, View, view}
+use borrow.Author.Tests.{eqb-true, eqb-false, leb-true, leb-false, ltb-true, ltb-false, lt-ltb, le-ltb}
+use lib.ListN.{length, getD, set, take, drop, replicate, length-set, length-replicate}
+use lib.Seq.{getD-set-same, getD-set-other}
+use lib.Dec.{eqb, leb, ltb}
+use Rattle.model.specs.Limits.{mostPages, pageSize}
+use Rattle.model.specs.Row.{Row, nil, agg, lit, rec, size, nodeCount, bytes, count}
+use Rattle.model.specs.Reading.{pageOf, kindAt}
+use Rattle.model.specs.Spot.{lastPage}
+use Rattle.theory_rows.specs.Fits.{Valid}
+use Rattle.theory_rows.specs.Pages.{reserved}
+use Rattle.theory_decoding.specs.Reading.{reads-valid, reads-length}
+use Rattle.theory_row_bytes.specs.RowAt.{kindOf, row-bytes}
+use Rattle.theory_layout.specs.Here.{Here, view}
 use Rattle.theory_page_memory.specs.Memory.{blank}
-use Rattle.theory_page_memory.specs.Links.{self, stored-parted}
-use Rattle.read_find.specs.Rowed.{startOn, endOn}
-use Rattle.grow_pages.specs.Write.{setPage}
-use Rattle.remove_branch.specs.Cleared.{wiped, blanked, cleared-⊹, wiped-long, wiped-other}
-use Rattle.remove_branch.specs.Kept.{here-kept}
+use Rattle.theory_page_memory.specs.Links.{self}
+use Rattle.grow_pages.specs.Links.{Below, Linked, each}
+use Rattle.remove_branch.specs.Direct.{direct, goes, each-long, each-other, each-named}
+use Rattle.remove_branch.specs.Holders.{once, own-else}
+use Rattle.remove_branch.specs.Marks.{markOf, Known, Branched, Sound, Marking, Marked}
+use Rattle.remove_branch.specs.Cleared.{Cleared}
 
--- A row stands from pos to end, with records nested at most `depth` deep below it. No page is named two times there, and the row's own page is not.
-pub record Branch (img : List ℕ) (pos end depth : ℕ) : Type 0 where
-  pub page : ℕ
-  pub row : Row
-  pub here : Here img page pos row
-  pub ends : end ≡ pos + size row
-  pub deep : nesting row ≤ depth
-  pub once : (q : ℕ) → count q row + bit (eqb q page) ≤ 1
+-- The node that goes stands from start to end, in the record of `page`; the table has an entry for each of its records, and none for a free page.
+pub record Branch (img u : List ℕ) (page start end : ℕ) : Type 0 where
+  pub b : Branched img
+  pub last : page ≡ lastPage (b .t .chain)
+  pub here : Here img page start (b .t .node)
+  pub ends : end ≡ start + size (b .t .node)
+  pub long : length u ≡ mostPages
+  pub named : (q : ℕ) → 1 ≤ count q (b .t .node) → Known u q
+  pub used : (q : ℕ) → 2 ≤ q → q < b .st .pages → Known u q → 1 ≤ count q (b .root)
 
--- ── the walk ──
+-- The pages of the node's records are blank and have no entry; all else is as it was.
+pub record Freed {img u : List ℕ} {page start end : ℕ} (w : Branch img u page start end) (after entries : List ℕ) : Type 0 where
+  pub long : length after ≡ length img
+  pub table : length entries ≡ length u
+  pub gone : (q : ℕ) → 1 ≤ count q (w .b .t .node) → (pageOf after q ≡ blank) × (getD entries q 0 ≡ 0)
+  pub other : (q : ℕ) → count q (w .b .t .node) ≡ 0 → (pageOf after q ≡ pageOf img q) × (getD entries q 0 ≡ getD u q 0)
 
--- At pos: what is left of the row leads from the image and the table to the goals.
-pub record Freeing (img u : List ℕ) (pos end depth : ℕ) (goal table : List ℕ) : Type 0 where
-  pub left : Branch img pos end depth
-  pub image : wiped (left .row) img ≡ goal
-  pub entries : blanked (left .row) u ≡ table
+-- ── what a row names ──
 
--- A proxy to page p: the row inside its record, and what is left once the records in that row and then the page itself are freed.
-pub record Proxied (img u : List ℕ) (pos end depth p : ℕ) (goal table : List ℕ) : Type 0 where
-  pub long : sizeAt img pos ≡ 8
-  pub on : PageIn img p
-  pub below : 1 ≤ depth
-  pub inside : (start stop : ℕ) → start ≡ startOn img p → stop ≡ endOn img p → Branch img start stop (depth - 1)
-  pub after : (start stop : ℕ) → start ≡ startOn img p → stop ≡ endOn img p → (img₁ u₁ img₂ u₂ : List ℕ)
-      → ((w : Branch img start stop (depth - 1)) → (img₁ ≡ wiped (w .row) img) × (u₁ ≡ blanked (w .row) u))
-      → img₂ ≡ setPage p blank img₁ → u₂ ≡ set u₁ p 0 → Freeing img₂ u₂ (pos + 8) end depth goal table
+direct-count : (q : ℕ) (row : Row) → direct q row ≤ count q row
+direct-count q nil = omega arith
+direct-count q (agg h cs rest) = omega (arith, direct-count q cs, direct-count q rest)
+direct-count q (lit h c rest) = direct-count q rest
+direct-count q (rec p s r rest) = omega (arith, direct-count q rest)
 
--- How it goes on from the node at pos.
-pub record FreeStep (img u : List ℕ) (pos end depth : ℕ) (goal table : List ℕ) : Type 0 where
-  pub into : kindAt img pos ≡ 1 → Freeing img u (pos + 6) end depth goal table
-  pub proxy : kindAt img pos ≡ 3 → (p : ℕ) → p ≡ nameAt img pos → Proxied img u pos end depth p goal table
-  pub past : (kindAt img pos ≡ 1 → ⊥) → (kindAt img pos ≡ 3 → ⊥) → Freeing img u (pos + sizeAt img pos) end depth goal table
+pub below-all : (n : ℕ) (row : Row) → ((q : ℕ) → 1 ≤ count q row → q < n) → Below n row
+below-all n nil f = tt
+below-all n (agg h cs rest) f = (below-all n cs (λ q k. f q (omega arith)), below-all n rest (λ q k. f q (omega arith)))
+below-all n (lit h c rest) f = below-all n rest f
+below-all n (rec p s r rest) f = (f p (omega (arith, self p)), below-all n rest (λ q k. f q (omega arith)))
 
-nesting-⊹ : (a b : Row) → nesting (a ⊹ b) ≤ max (nesting a) (nesting b)
-nesting-⊹ nil b = omega arith
-nesting-⊹ (agg h cs rest) b = omega (arith, nesting-⊹ rest b)
-nesting-⊹ (lit h c rest) b = omega (arith, nesting-⊹ rest b)
-nesting-⊹ (rec p s r rest) b = omega (arith, nesting-⊹ rest b)
+-- One node has a header, and a literal names no page.
+one-long : (r : Row) → nodeCount r ≡ 1 → 6 ≤ size r
+one-long nil e = absurd (omega arith)
+one-long (agg h cs rest) e = omega arith
+one-long (lit h c rest) e = omega arith
+one-long (rec p s r rest) e = omega arith
 
-module _ (img u : List ℕ) (pos end depth : ℕ) (goal table : List ℕ) (page : ℕ) where
-  -- An aggregate's children and the nodes behind it, as one row.
-  into-agg : (l : Head) (cs rest : Row) → Here img page pos (agg l cs rest) → end ≡ pos + size (agg l cs rest) → nesting (agg l cs rest) ≤ depth
-      → ((q : ℕ) → count q (agg l cs rest) + bit (eqb q page) ≤ 1) → wiped (agg l cs rest) img ≡ goal → blanked (agg l cs rest) u ≡ table
-      → Freeing img u (pos + 6) end depth goal table
-  unfolding wiped blanked
-  into-agg l cs rest h ends deep once e f =
-      let z = size-⊹ cs rest in
-      record {
-        left = record {
-          page = page;
-          row = cs ⊹ rest;
-          here = record {
-            at = row-into img pos l cs rest (h .at);
-            on = h .on;
-            start = omega (arith, h .start);
-            room = omega (arith, h .room);
-            fits = Fits-⊹ cs rest (h .fits .1) (h .fits .2);
-            stored = stored-parted (pageOf img) page .join cs rest (h .stored .0) (h .stored .1);
-            names = λ q k. h .names q (omega (arith, count-⊹ q cs rest));
-          };
-          ends = omega arith;
-          deep = omega (arith, nesting-⊹ cs rest);
-          once = λ q. omega (arith, once q, count-⊹ q cs rest);
-        };
-        image = cleared-⊹ _ cs rest img ∙ e;
-        entries = cleared-⊹ _ cs rest u ∙ f;
-      }
+no-nodes : (q : ℕ) (r : Row) → nodeCount r ≡ 0 → count q r ≡ 0
+no-nodes q nil e = refl
+no-nodes q (agg h cs rest) e = absurd (omega arith)
+no-nodes q (lit h c rest) e = absurd (omega arith)
+no-nodes q (rec p s r rest) e = absurd (omega arith)
 
-  -- A proxy names page q, whose record holds r.
-  module _ (q : ℕ) (s : Bool) (r rest : Row) (h : Here img page pos (rec q s r rest)) (ends : end ≡ pos + (8 + size rest))
-      (deep : nesting (rec q s r rest) ≤ depth) (once : (x : ℕ) → count x (rec q s r rest) + bit (eqb x page) ≤ 1)
-      (e : wiped (rec q s r rest) img ≡ goal) (f : blanked (rec q s r rest) u ≡ table) where
-    abbrev one : Row
-    one = rec q s r nil
+bare : (q : ℕ) (r : Row) → nodeCount r ≡ 1 → kindOf r ≡ 2 → count q r ≡ 0
+bare q nil e k = absurd (omega arith)
+bare q (agg h cs rest) e k = absurd (omega arith)
+bare q (lit h c rest) e k = no-nodes q rest (omega arith)
+bare q (rec p s r rest) e k = absurd (omega arith)
 
-    named-one : (x : ℕ) → 1 ≤ count x one → PageIn img x
-    named-one x k = h .names x (omega arith)
+-- ── entries ──
 
-    rest-left : Freeing (wiped one img) (blanked one u) (pos + 8) end depth goal table
-    unfolding wiped blanked
-    rest-left =
-        let other = wiped-other one img named-one in
-        record {
-          left = record {
-            page = page;
-            row = rest;
-            here = here-kept img (wiped one img) (wiped-long one img named-one) page (pos + 8) rest (other page (omega (arith, once page, self page)))
-                (λ x k. other x (omega (arith, once x))) (view h (omega arith) .after);
-            ends = omega arith;
-            deep = omega arith;
-            once = λ x. omega (arith, once x);
-          };
-          image = e;
-          entries = f;
-        }
+pub zeros : (n q : ℕ) → let l : List ℕ = replicate n 0 in getD l q 0 ≡ 0
+zeros zero q = refl
+zeros (suc n) zero = refl
+zeros (suc n) (suc q) = zeros n q
 
-    at-proxy : (p : ℕ) → p ≡ nameAt img pos → Proxied img u pos end depth p goal table
-    unfolding wiped blanked
-    at-proxy p named =
-        let v = view h (omega arith) in
-        let o = v .under in
-        let same : p ≡ q = named ∙ v .name-is refl in
-        let at : startOn img p ≡ pageSize * q + base r = ap (startOn img) same ∙ ap (λ (n : ℕ). pageSize * q + n) (o .first) in
-        let to : endOn img p ≡ pageSize * q + (base r + size r) = ap (endOn img) same ∙ ap (λ (n : ℕ). pageSize * q + n) (o .used) in
-        let inside : (start stop : ℕ) → start ≡ startOn img p → stop ≡ endOn img p → Branch img start stop (depth - 1) =
-        λ start stop a b. record {
-          page = q;
-          row = r;
-          here = subst (λ (n : ℕ). Here img q n r) (sym (a ∙ at)) (o .here);
-          ends = omega arith;
-          deep = omega arith;
-          once = λ x. omega (arith, once x);
-        } in
-        record {
-          long = v .size-is;
-          on = subst (PageIn img) (sym same) (o .here .on);
-          below = omega arith;
-          inside = inside;
-          after = λ start stop a b img₁ u₁ img₂ u₂ freed i t. let g = freed (inside start stop a b) in rw (i, g .0, t, g .1, same) rest-left;
-        }
+past-zero : (l : List ℕ) (q : ℕ) → length l ≤ q → getD l q 0 ≡ 0
+past-zero [] q h = refl
+past-zero (x ∷ l) zero h = absurd (omega arith)
+past-zero (x ∷ l) (suc q) h = past-zero l q (omega arith)
 
-  step-by : (row : Row) → View img page pos row → pos < end → Here img page pos row → end ≡ pos + size row → nesting row ≤ depth
-      → ((q : ℕ) → count q row + bit (eqb q page) ≤ 1) → wiped row img ≡ goal → blanked row u ≡ table → FreeStep img u pos end depth goal table
-  unfolding wiped blanked
-  step-by nil v some h ends deep once e f = absurd (omega arith)
-  step-by (agg l cs rest) v some h ends deep once e f = record {
-    into = λ k. into-agg l cs rest h ends deep once e f;
-    proxy = λ k. absurd (omega (arith, v .kind-is));
-    past = λ k m. absurd (k (v .kind-is));
-  }
-  step-by (lit l c rest) v some h ends deep once e f = record {
-    into = λ k. absurd (omega (arith, v .kind-is));
-    proxy = λ k. absurd (omega (arith, v .kind-is));
-    past = λ k m. rw (v .size-is) (record {
-      left = record { page = page; row = rest; here = v .after; ends = omega arith; deep = deep; once = once };
-      image = e;
-      entries = f;
-    });
-  }
-  step-by (rec q s r rest) v some h ends deep once e f = record {
-    into = λ k. absurd (omega (arith, v .kind-is));
-    proxy = λ k. at-proxy q s r rest h ends deep once e f;
-    past = λ k m. absurd (m (v .kind-is));
+known-low : (l : List ℕ) (q : ℕ) → Known l q → q < length l
+known-low l q k = go (ltb q (length l)) refl
+  where
+    go : (x : Bool) → ltb q (length l) ≡ x → q < length l
+    go true e = ltb-true q (length l) e
+    go false e = absurd (k (past-zero l q (ltb-false q (length l) e)))
+
+module _ {img u : List ℕ} {page start end : ℕ} (w : Branch img u page start end) where
+  abbrev node : Row
+  node = w .b .t .node
+
+  v : Valid (w .b .st) (w .b .root)
+  v = reads-valid img (w .b .st) (w .b .root) (w .b .reads)
+
+  pub room : (start + 6 ≤ length img) × (end ≤ length img) × (start ≤ end)
+  room =
+      let h = w .here in
+      let n = one-long node (w .b .leaves .one) in
+      (omega (arith, h .room, h .on .inside, n), omega (arith, h .room, h .on .inside, w .ends), omega (arith, w .ends))
+
+  -- A literal has no records below it.
+  pub literal-freed : kindAt img start ≡ 2 → Freed w img u
+  literal-freed e =
+      let one = w .b .leaves .one in
+      let is : kindOf node ≡ 2 = sym (view (w .here) (omega (arith, one-long node one)) .kind-is) ∙ e in
+      record { long = refl; table = refl; gone = λ q h. absurd (omega (arith, bare q node one is)); other = λ q h. (refl, refl) }
+
+  -- The node's own bytes.
+  pub own-bytes : take (end - start) (drop start img) ≡ bytes node
+  own-bytes =
+      let e : end - start ≡ size node = omega (arith, w .ends) in
+      ap (λ (n : ℕ). take n (drop start img)) e ∙ row-bytes img start node (w .here .at)
+
+  abbrev pub linked : Linked (take (end - start) (drop start img)) mostPages
+  linked = record {
+    row = node;
+    is = own-bytes;
+    below = below-all mostPages node (λ q k. w .here .names q k .high);
+    small = omega (arith, w .here .room);
   }
 
--- The node at pos is inside the image.
-pub record Seen (img : List ℕ) (pos end : ℕ) : Type 0 where
-  pub room : end + 16 ≤ length img
-  pub small : end < mostBytes
-  pub more : 6 ≤ sizeAt img pos
-  pub within : pos + sizeAt img pos ≤ end
+-- ── the first marks ──
 
-module _ {img u : List ℕ} {pos end depth : ℕ} {goal table : List ℕ} (s : Freeing img u pos end depth goal table) where
-  pub free-seen : pos < end → Seen img pos end
-  free-seen some =
-      let b = s .left in
-      let h = b .here in
-      let v = view h (omega (arith, b .ends)) in
-      record {
-        room = omega (arith, b .ends, h .room, h .on .inside);
-        small = omega (arith, b .ends, h .room, h .on .high);
-        more = omega (arith, v .size-is, v .more);
-        within = omega (arith, b .ends, v .size-is, v .total);
-      }
+-- Of none known, the root record's and that of the record that held the node are set.
+module _ {img u : List ℕ} {page start end : ℕ} (w : Branch img u page start end) (blanks : List ℕ) (wide : length blanks ≡ mostPages)
+    (empty : (q : ℕ) → getD blanks q 0 ≡ 0) where
+  abbrev begun : List ℕ
+  begun = set (set blanks 1 1) page 1
 
-  pub free-step : pos < end → FreeStep img u pos end depth goal table
-  free-step some =
-      let b = s .left in
-      step-by img u pos end depth goal table (b .page) (b .row) (view (b .here) (omega (arith, b .ends))) some (b .here) (b .ends) (b .deep) (b .once)
-      (s .image) (s .entries)
+  abbrev pub marked : List ℕ
+  marked = each goes (node w) begun
 
-  pub free-end : end ≤ pos → (img ≡ goal) × (u ≡ table)
-  unfolding wiped blanked
-  free-end none = go (s .left .row) (omega (arith, s .left .ends)) (s .image) (s .entries)
+  begun-long : length begun ≡ mostPages
+  begun-long = length-set (set blanks 1 1) page 1 ∙ length-set blanks 1 1 ∙ wide
+
+  marked-long : length marked ≡ mostPages
+  marked-long = each-long (node w) begun ∙ begun-long
+
+  -- The root record's page and the node's record's are not of the branch.
+  none-own : count page (node w) ≡ 0
+  none-own =
+      subst (λ (n : ℕ). count n (node w) ≡ 0) (sym (w .last)) (omega (arith, own-else img (w .b .st) (w .b .root) (w .b .reads) (w .b .new) (w .b .t) (w .b .leaves),
+      once img (w .b .st) (w .b .root) (w .b .reads) (w .b .new) (w .b .t) (w .b .leaves) (lastPage (w .b .t .chain))))
+
+  none-first : count 1 (node w) ≡ 0
+  none-first =
+      let z : reserved (w .b .st) 1 ≡ 1 = refl in
+      omega (arith, once img (w .b .st) (w .b .root) (w .b .reads) (w .b .new) (w .b .t) (w .b .leaves) 1)
+
+  -- What stands in the first marks.
+  begun-is : (q : ℕ) → Known begun q → (getD begun q 0 ≡ 1) × (count q (node w) ≡ 0)
+  begun-is q k = at (eqb q page) refl
     where
-      go : (r : Row) → size r ≡ 0 → wiped r img ≡ goal → blanked r u ≡ table → (img ≡ goal) × (u ≡ table)
-      go nil z e f = (e, f)
-      go (agg l cs rest) z e f = absurd (omega arith)
-      go (lit l c rest) z e f = absurd (omega arith)
-      go (rec p b r rest) z e f = absurd (omega arith)
+      inner : List ℕ
+      inner = set blanks 1 1
 
-pub free-start : {img : List ℕ} (u : List ℕ) {pos end depth : ℕ} → (w : Branch img pos end depth)
-    → Freeing img u pos end depth (wiped (w .row) img) (blanked (w .row) u)
-free-start u w = record { left = w; image = refl; entries = refl }
+      first : (x : Bool) → eqb q 1 ≡ x → Known inner q → (getD inner q 0 ≡ 1) × (count q (node w) ≡ 0)
+      first true e k = let z = eqb-true q 1 e in rw z (getD-set-same blanks 1 1 0 (omega (arith, wide)), none-first)
+      first false e k = absurd (k (getD-set-other blanks 1 q 1 0 (eqb-false q 1 e) ∙ empty q))
+
+      at : (x : Bool) → eqb q page ≡ x → (getD begun q 0 ≡ 1) × (count q (node w) ≡ 0)
+      at true e =
+          let z = eqb-true q page e in
+          rw z (getD-set-same inner page 1 0 (omega (arith, begun-long, length-set inner page 1, w .here .on .high)), none-own)
+      at false e =
+          let o = getD-set-other inner page q 1 0 (eqb-false q page e) in
+          let f = first (eqb q 1) refl (λ z. k (o ∙ z)) in
+          (o ∙ f .0, f .1)
+
+  begun-first : Known begun 1
+  begun-first z = at (eqb 1 page) refl
+    where
+      inner : List ℕ
+      inner = set blanks 1 1
+
+      at : (x : Bool) → eqb 1 page ≡ x → ⊥
+      at true e =
+          let p = eqb-true 1 page e in
+          omega (arith, sym (getD-set-same inner page 1 0 (omega (arith, begun-long, length-set inner page 1, w .here .on .high)))
+          ∙ ap (λ (n : ℕ). getD begun n 0) (sym p) ∙ z)
+      at false e =
+          omega (arith, sym (getD-set-same blanks 1 1 0 (omega (arith, wide)))
+          ∙ sym (getD-set-other inner page 1 1 0 (eqb-false 1 page e)) ∙ z)
+
+  first-sound : Sound (w .b) marked
+  first-sound = record {
+    long = marked-long;
+    right = λ q k. right q k (leb 1 (direct q (node w))) refl;
+    first = λ z. begun-first (sym (each-other (node w) begun 1 (omega (arith, begun-long)) (omega (arith, none-first, direct-count 1 (node w)))) ∙ z);
+    named = λ q d z. omega (arith, sym (each-named (node w) begun q (inside q d) d) ∙ z);
+  }
+    where
+      inside : (q : ℕ) → 1 ≤ direct q (node w) → q < length begun
+      inside q d = omega (arith, begun-long, w .here .names q (omega (arith, direct-count q (node w))) .high)
+
+      right : (q : ℕ) → Known marked q → (x : Bool) → leb 1 (direct q (node w)) ≡ x → getD marked q 0 ≡ markOf (node w) q
+      right q k true e =
+          let d = leb-true 1 (direct q (node w)) e in
+          each-named (node w) begun q (inside q d) d ∙ sym (rw (lt-ltb 0 (count q (node w)) (omega (arith, direct-count q (node w)))))
+      right q k false e =
+          let low : q < length begun = omega (arith, known-low marked q k, marked-long, begun-long) in
+          let o = each-other (node w) begun q low (omega (arith, leb-false 1 (direct q (node w)) e)) in
+          let b = begun-is q (λ z. k (o ∙ z)) in
+          o ∙ b .0 ∙ sym (rw (le-ltb 0 (count q (node w)) (omega (arith, b .1))))
+
+  -- ── all marks ──
+
+  pages-is : length img / pageSize ≡ w .b .st .pages
+  pages-is = omega (arith, reads-length img (w .b .st) (w .b .root) (w .b .reads))
+
+  pub marking : Marking img u marked (length img / pageSize)
+  marking = record {
+    b = w .b;
+    sound = first-sound;
+    few = omega (arith, pages-is, v w .ranges .many);
+    used = λ q a c k. w .used q a (omega (arith, pages-is)) k;
+  }
+
+  pub pages-fit : (2 ≤ length img / pageSize) × (length img / pageSize ≤ mostPages) × (pageSize * (length img / pageSize) ≤ length img)
+  pages-fit = (omega (arith, pages-is, v w .ranges .few), omega (arith, pages-is, v w .ranges .many), omega arith)
+
+  -- As the code has the first marks.
+  module _ (first : List ℕ) (e : first ≡ marked) where
+    pub first-marking : Marking img u first (length img / pageSize)
+    first-marking = subst (λ (l : List ℕ). Marking img u l (length img / pageSize)) (sym e) marking
+
+    pub all-marked : (now : List ℕ) → ((k : Marking img u first (length img / pageSize)) → Marked k now) → Marked marking now
+    all-marked now f =
+        subst (λ (l : List ℕ). ((k : Marking img u l (length img / pageSize)) → Marked k now) → Marked marking now) (sym e) (λ g. g marking) f
+
+  pub branch-freed : (marks after entries : List ℕ) → Marked marking marks → Cleared marks 2 (length img / pageSize) img u after entries → Freed w after entries
+  unfolding marking
+  branch-freed marks after entries m c = record {
+    long = c .long;
+    table = c .table;
+    gone = λ q h.
+        let i = w .here .names q h in
+        let far : 2 ≤ q = omega (arith, i .low, first-not q h) in
+        let high : q < length img / pageSize = omega (arith, i .inside) in
+        c .gone q (far, high, m .sound .right q (m .known q far high (w .named q h)) ∙ rw (lt-ltb 0 (count q (node w)) h));
+    other = λ q h. c .other q (λ g. stays q h (g .2));
+  }
+    where
+      stays : (q : ℕ) → count q (node w) ≡ 0 → getD marks q 0 ≡ 2 → ⊥
+      stays q h g =
+          let one : markOf (node w) q ≡ 1 = rw (le-ltb 0 (count q (node w)) (omega arith)) in
+          omega (arith, m .sound .right q (λ z. omega (arith, g, z)), one)
+
+      first-not : (q : ℕ) → 1 ≤ count q (node w) → q ≡ 1 → ⊥
+      first-not q h e = omega (arith, none-first, ap (λ (n : ℕ). count n (node w)) e)

@@ -1,3 +1,6 @@
+pub mod Reach
+pub mod Direct
+pub mod Holders
+pub mod Marks
 pub mod Cleared
-pub mod Kept
 pub mod Branch
