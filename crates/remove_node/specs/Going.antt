@@ -1,34 +1,34 @@
 -- What a removal works on: a node that stands in the records, and what each step needs of it.
 use mathlib.Core.Path.{_≡_, refl, sym, ap, subst, _∙_}
-use mathlib.Core.Bool.{Bool, false, cond, true≢false}
+use mathlib.Core.Bool.{Bool, true, false, cond, true≢false}
 use mathlib.Core.List.{List}
-use Prim.Native.Nat.{ℕ, _+_, _*_, _≤_, _<_, max}
+use Prim.Native.Nat.{ℕ, _+_, _*_, _≤_, _<_}
 use native.Mathlib.Omega.{arith}
-use lib.ListN.{length}
-use lib.Dec.{eqb}
+use borrow.Author.Tests.{leb-true, leb-false, ne-eqb}
+use lib.ListN.{length, getD}
+use lib.Dec.{eqb, leb}
 use Rattle.model.specs.Limits.{mostPages, pageSize, capacity}
 use Rattle.model.specs.Row.{Row, nil, agg, lit, rec, store, _⊹_, size, base, nodeCount, lone, recordPage, recordOn, count, Config}
 use Rattle.model.specs.Tree.{Tree}
 use Rattle.model.specs.Reading.{Reads, pageOf, settledAt, backAt}
 use Rattle.model.specs.Spot.{Position, here, inside, fill, Chain, top, below, lastPage, whole, lastHolder}
 use Rattle.model.specs.Removal.{Stand}
-use Rattle.theory_rows.specs.Fits.{Valid, Fits, RecordFits, Shape, one, more}
+use Rattle.theory_rows.specs.Fits.{Valid, Fits, Shape, one, more}
+use Rattle.theory_rows.specs.Image.{once}
 use Rattle.theory_rows.specs.Bound.{fits-parts}
 use Rattle.theory_rows.specs.Laws.{size-⊹}
 use Rattle.theory_rows.specs.Pages.{bit, count-⊹}
-use Rattle.theory_decoding.specs.Decode.{in-trailer, stored-image}
+use Rattle.theory_decoding.specs.Decode.{in-trailer}
 use Rattle.theory_decoding.specs.Reading.{reads-valid}
-use Rattle.theory_places.specs.Widths.{Table}
+use Rattle.theory_places.specs.Widths.{Table, told-some}
 use Rattle.theory_row_bytes.specs.RowAt.{byte-on, row-split}
-use Rattle.theory_layout.specs.Here.{PageIn, Here, OnPage, nesting, root-nesting}
-use Rattle.theory_growth.specs.Chain.{before, lastSettled, chain-fits, hang}
-use Rattle.theory_growth.specs.Parts.{part-fill, part-whole}
+use Rattle.theory_layout.specs.Here.{PageIn, Here, OnPage}
+use Rattle.theory_growth.specs.Chain.{before, lastSettled, chain-fits, beside, along, count-chain, count-refill}
 use Rattle.theory_insert_point.specs.Bytes.{lastHeld, chain-page, chain-bytes, here-fill}
-use Rattle.theory_insert_point.specs.Nesting.{nesting-part}
 use Rattle.theory_removal.specs.Stand.{Leaves, Onward}
 use Rattle.theory_page_memory.specs.Links.{stored-parted}
 use Rattle.theory_page_memory.specs.Removing.{own-apart, stands}
-use Rattle.grow_widths.specs.Raised.{Raising, hang-length}
+use Rattle.grow_widths.specs.Raised.{Raising, hang-length, entryAnew, lowered, changed-long, changed-other}
 use Rattle.grow_locate.specs.Parent.{offsetIn}
 use Rattle.grow_splice.specs.Position.{isInside}
 use Rattle.remove_branch.specs.Branch.{Branch}
@@ -46,12 +46,6 @@ pub record Going (img u : List ℕ) (s : Standing) : Type 0 where
   pub leaves : Leaves root new t
   pub found : s ≡ standingOf t
   pub table : Table st root u
-
-pub nesting-left : (a b : Row) → nesting a ≤ nesting (a ⊹ b)
-nesting-left nil b = omega arith
-nesting-left (agg h cs rest) b = omega (arith, nesting-left rest b)
-nesting-left (lit h c rest) b = nesting-left rest b
-nesting-left (rec p s r rest) b = omega (arith, nesting-left rest b)
 
 module _ {img u : List ℕ} {s : Standing} (w : Going img u s) where
   abbrev pub c : Chain
@@ -109,7 +103,7 @@ module _ {img u : List ℕ} {s : Standing} (w : Going img u s) where
       go top e = omega arith
       go (below d p q b rest) e = chain-page img (w .st) (w .root) (w .reads) d (fill p (rec q b old rest)) e .here .on .high
 
-  -- Each page is named at most one time, and the record's own not in it.
+  -- The record's own page is not one of the branch's.
   pub apart : (k : ℕ) → bit (eqb k (lastPage c)) + count k (w .t .node) ≤ 1
   apart k = omega (arith, own-apart (w .st) (w .root) v (w .new) (w .t) (w .leaves) (pageOf img) (pageOf img)
       (stands img (w .st) (w .root) (w .reads) (w .new) (w .t) (w .leaves)) c refl k)
@@ -129,8 +123,8 @@ module _ {img u : List ℕ} {s : Standing} (w : Going img u s) where
   }
 
   -- A node at the top of a row has another beside it.
-  pub beside : isInside (w .t .position) ≡ false → 2 ≤ nodeCount old
-  beside e = go (w .t .position) (w .leaves .onward) e (chain-fits c old (subst (λ (r : Row). Fits (store r)) (sym (w .leaves .held)) (v .rows)) .0 .shape)
+  pub has-sibling : isInside (w .t .position) ≡ false → 2 ≤ nodeCount old
+  has-sibling e = go (w .t .position) (w .leaves .onward) e (chain-fits c old (subst (λ (r : Row). Fits (store r)) (sym (w .leaves .held)) (v .rows)) .0 .shape)
     where
       two : {b : Bool} (r : Row) → Shape b r → lone r ≡ false → 2 ≤ nodeCount r
       two r (one e) f = absurd (true≢false (sym e ∙ f))
@@ -155,7 +149,7 @@ module _ {img u : List ℕ} {s : Standing} (w : Going img u s) where
     goes = sym gone-is;
     offset = at-is;
     holder = ap (λ (s : Standing). s .par) (w .found);
-    beside = beside;
+    beside = has-sibling;
   }
 
   pub front : (page pos : ℕ) (a b : Row) → Here img page pos (a ⊹ b) → Here img page pos a
@@ -169,13 +163,53 @@ module _ {img u : List ℕ} {s : Standing} (w : Going img u s) where
     names = λ q k. h .names q (omega (arith, count-⊹ q a b));
   }
 
-  abbrev pub branch : Branch img (pageSize * s .page + s .at) (pageSize * s .page + s .at + s .gone) mostPages
-  branch = record {
-    page = lastPage c;
-    row = w .t .node;
-    here = subst (λ (n : ℕ). Here img (lastPage c) n (w .t .node)) (omega (arith, page-is, at-is)) (front (lastPage c) _ (w .t .node) (w .t .rest) node-here);
+  pub stands-here : Here img (s .page) (pageSize * s .page + s .at) (w .t .node)
+  stands-here =
+      let h = front (lastPage c) (pageSize * lastPage c + base old + before (w .t .position)) (w .t .node) (w .t .rest) node-here in
+      let e : pageSize * lastPage c + base old + before (w .t .position) ≡ pageSize * s .page + s .at = omega (arith, page-is, at-is) in
+      subst (λ (n : ℕ). Here img n (pageSize * s .page + s .at) (w .t .node)) (sym page-is) (subst (λ (n : ℕ). Here img (lastPage c) n (w .t .node)) e h)
+
+  -- ── the branch's pages ──
+
+  -- The table with one node less in the records that showed the node.
+  abbrev pub less : List ℕ
+  less = lowered (s .deep) c u
+
+  pub named : (q : ℕ) → beside c q + along c q + count q old ≡ count q (w .root)
+  named q = sym (count-chain q c old) ∙ ap (count q) (w .leaves .held)
+
+  pub one-time : (q : ℕ) → beside c q + along c q + count q old ≤ 1
+  one-time q = omega (arith, named q, once (w .st) (w .root) v q)
+
+  pub parts : (q : ℕ) → count q (fill (w .t .position) (w .t .rest)) + count q (w .t .node) ≡ count q old
+  parts q = omega (arith, count-refill q (w .t .position) (w .t .rest) row, count-⊹ q (w .t .node) (w .t .rest))
+
+  -- Beside the chain it is as it was: each of the branch's records has an entry, and no free page.
+  pub less-other : (q : ℕ) → along c q ≡ 0 → getD less q 0 ≡ getD u q 0
+  less-other q e = changed-other (entryAnew false) (s .deep) c u q e
+
+  pub less-named : (q : ℕ) → 1 ≤ count q (w .t .node) → getD less q 0 ≡ 0 → ⊥
+  less-named q h z =
+      let told = told-some u (w .root) (v .rows .1) (w .table .told) q (omega (arith, named q, parts q)) in
+      omega (arith, told, sym (less-other q (omega (arith, one-time q, parts q))) ∙ z)
+
+  pub less-used : (q : ℕ) → 2 ≤ q → q < w .st .pages → (getD less q 0 ≡ 0 → ⊥) → 1 ≤ count q (w .root)
+  less-used q a b k = go (leb 1 (count q (w .root))) refl
+    where
+      go : (x : Bool) → leb 1 (count q (w .root)) ≡ x → 1 ≤ count q (w .root)
+      go true e = leb-true 1 (count q (w .root)) e
+      go false e =
+          let z : count q (w .root) ≡ 0 = omega (arith, leb-false 1 (count q (w .root)) e) in
+          let far : bit (eqb q 1) ≡ 0 = ap bit (ne-eqb q 1 (λ e. omega arith)) in
+          absurd (k (less-other q (omega (arith, named q)) ∙ w .table .free q (omega arith) b (omega (arith, z, far))))
+
+  abbrev pub branch : (u₁ : List ℕ) → u₁ ≡ less → Branch img u₁ (s .page) (pageSize * s .page + s .at) (pageSize * s .page + s .at + s .gone)
+  branch u₁ e = record {
+    b = record { st = w .st; root = w .root; reads = w .reads; new = w .new; t = w .t; leaves = w .leaves };
+    last = page-is;
+    here = stands-here;
     ends = omega (arith, gone-is);
-    deep = omega (arith, nesting-left (w .t .node) (w .t .rest), part-fill nesting nesting-part (w .t .position) row, part-whole nesting nesting-part c old,
-        ap nesting (w .leaves .held), root-nesting img (w .st) (w .root) (w .reads));
-    once = λ q. omega (arith, apart q);
+    long = ap length e ∙ changed-long (entryAnew false) (s .deep) c u ∙ w .table .long;
+    named = λ q h z. less-named q h (ap (λ (l : List ℕ). getD l q 0) (sym e) ∙ z);
+    used = λ q a b k. less-used q a b (λ z. k (ap (λ (l : List ℕ). getD l q 0) e ∙ z));
   }

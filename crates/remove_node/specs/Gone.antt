@@ -37,15 +37,16 @@ use Rattle.base_numbers.specs.Over.{over, take-over}
 use Rattle.grow_pages.specs.Write.{setPage, pageBytesOf, recordPage-is}
 use Rattle.grow_pages.specs.Paged.{length-setPage}
 use Rattle.grow_pages.specs.Relinked.{mem-set}
-use Rattle.grow_widths.specs.Raised.{lowered, entryAnew, changed-long, changed-other, lowered-along}
+use Rattle.grow_widths.specs.Raised.{lowered, entryAnew, changed-long, lowered-along}
 use Rattle.grow_replace_proxy.specs.Above.{above-once}
-use Rattle.remove_branch.specs.Cleared.{wiped, blanked, wiped-long, wiped-named, wiped-other, blanked-long, blanked-named, blanked-other}
+use Rattle.remove_branch.specs.Branch.{Freed}
 use Rattle.remove_lift.specs.Rename.{Renaming}
 use Rattle.remove_lift.specs.Lifting.{Lifting, lifted, lifted-long, lifted-pages}
 use Rattle.remove_locate.specs.declared.Standing.{Standing}
 use Rattle.remove_record.specs.declared.Remnant.{Remnant}
 use Rattle.remove_record.specs.Reduced.{Reduced}
-use Rattle.remove_node.specs.Going.{Going, c, row, old, v, page-is, on-page, page-bytes, settled-is, holder-is, apart, removing, branch}
+use Rattle.remove_node.specs.Going.{Going, c, row, old, v, page-is, on-page, settled-is, holder-is, apart, removing, less, named, one-time, parts}
+use Rattle.remove_node.specs.Going.{less-other, branch}
 
 pub record Gone {img u : List ℕ} {s : Standing} (w : Going img u s) (after entries : List ℕ) : Type 0 where
   pub image : after ≡ rows.image (w .st) (without (w .t))
@@ -58,62 +59,21 @@ module _ {img u : List ℕ} {s : Standing} (w : Going img u s) where
   abbrev left : Row
   left = fill (t .position) (t .rest)
 
-  -- ── the table ──
-
-  named : (q : ℕ) → beside (c w) q + along (c w) q + count q (old w) ≡ count q (w .root)
-  named q = sym (count-chain q (c w) (old w)) ∙ ap (count q) (w .leaves .held)
-
-  one : (q : ℕ) → beside (c w) q + along (c w) q + count q (old w) ≤ 1
-  one q = omega (arith, named q, once (w .st) (w .root) (v w) q)
-
-  parts : (q : ℕ) → count q left + count q (t .node) ≡ count q (old w)
-  parts q = omega (arith, count-refill q (t .position) (t .rest) (row w), count-⊹ q (t .node) (t .rest))
+  -- ── the table and the branch's pages ──
 
   inside : (q : ℕ) → 1 ≤ along (c w) q → q < length u
   inside q h =
-      omega (arith, named q, named-inside (w .st) (w .root) (v w) q (omega (arith, named q)) .1, v w .ranges .many, w .table .long)
+      omega (arith, named w q, named-inside (w .st) (w .root) (v w) q (omega (arith, named w q)) .1, v w .ranges .many, w .table .long)
 
-  -- With one node less, and without the branch's pages.
-  abbrev pub less : List ℕ
-  less = lowered (s .deep) (c w) u
-
-  abbrev pub emptied : List ℕ
-  emptied = blanked (t .node) less
-
-  less-shows : ToldAlong less (c w) left
+  less-shows : ToldAlong (less w) (c w) left
   less-shows =
       subst (λ (n : ℕ). ToldAlong (lowered n (c w) u) (c w) left) (sym (ap (λ (s : Standing). s .deep) (w .found)))
       (lowered-along (c w) (t .position) (row w) (t .rest) u (omega (arith, width-⊹ (t .node) (t .rest), w .leaves .wide))
-      (subst (λ (r : Row). Fits (store r)) (sym (w .leaves .held)) (v w .rows)) (w .leaves .onward) (λ q. omega (arith, one q)) inside
+      (subst (λ (r : Row). Fits (store r)) (sym (w .leaves .held)) (v w .rows)) (w .leaves .onward) (λ q. omega (arith, one-time w q)) inside
       (told-along u (c w) (old w) (subst (Told u) (sym (w .leaves .held)) (w .table .told))))
 
-  fewer : Fewer t u emptied
-  fewer = record {
-    long = blanked-long (t .node) less ∙ changed-long (entryAnew false) (s .deep) (c w) u;
-    shows = along-same less emptied (c w) left (λ q h. blanked-other (t .node) less q (omega (arith, one q, parts q))) less-shows;
-    branch = λ q h. blanked-named (t .node) less q h;
-    other = λ q h k. blanked-other (t .node) less q h ∙ changed-other (entryAnew false) (s .deep) (c w) u q k;
-  }
-
-  -- ── the branch's pages ──
-
-  abbrev pub wipedImage : List ℕ
-  wipedImage = wiped (t .node) img
-
-  pub wipe-long : length wipedImage ≡ length img
-  wipe-long = wiped-long (t .node) img (branch w .here .names)
-
-  is-wiped : Wiped t (pageOf img) (pageOf wipedImage)
-  is-wiped = record {
-    named = λ p h. wiped-named (t .node) img (branch w .here .names) p h;
-    other = λ p h. wiped-other (t .node) img (branch w .here .names) p h;
-  }
-
-  -- ── the record stays ──
-
-  -- No page of the branch is page 0, and the records' own are not.
   none-first : count 0 (t .node) ≡ 0
-  none-first = omega (arith, parts 0, named 0, v w .placed 0)
+  none-first = omega (arith, parts w 0, named w 0, v w .placed 0)
 
   own-low : 1 ≤ lastPage (c w)
   own-low = on-page w .here .on .low
@@ -128,54 +88,19 @@ module _ {img u : List ℕ} {s : Standing} (w : Going img u s) where
       keeps.record-left (t .position) (t .node) (t .rest) (w .leaves .onward) (w .leaves .one) (lastSettled (c w)) g z .fits
 
   -- A record is left, not one proxy.
-  pub record-left : (r : Remnant) (was is : List ℕ) → Reduced (removing w) r was is → r .child ≡ 0 → loneRec left ≡ false
+  record-left : (r : Remnant) (was is : List ℕ) → Reduced (removing w) r was is → r .child ≡ 0 → loneRec left ≡ false
   record-left r was is f z = go (loneRec left) refl
     where
       go : (b : Bool) → loneRec left ≡ b → loneRec left ≡ false
       go true e = let x = f .proxy (proxy-of left e) in absurd (omega (arith, x .0, x .1 .low))
       go false e = e
 
-  module _ (r : Remnant) (was is : List ℕ) (f : Reduced (removing w) r was is) (z : r .child ≡ 0) where
-    alone : loneRec left ≡ false
-    alone = record-left r was is f z
+  pub left-small : (r : Remnant) (was is : List ℕ) → Reduced (removing w) r was is → r .child ≡ 0 → r .len ≤ capacity
+  left-small r was is f z =
+      let alone = record-left r was is f z in
+      omega (arith, f .other alone .1, left-record-fits alone)
 
-    -- Its bytes are at the buffer's front.
-    pub content-is : take (r .len) is ≡ recordBytes left
-    content-is =
-        let o = f .other alone in
-        (λ i. take (o .1 i) (o .2 i)) ∙ take-over (recordSize left) (recordBytes left) was (length-record left)
-
-    pub left-small : r .len ≤ capacity
-    left-small = omega (arith, f .other alone .1, left-record-fits alone)
-
-    abbrev page : List ℕ
-    page = recordPage (recordOn (lastPage (c w)) (lastSettled (c w)) (lastHolder (c w)) left)
-
-    pub gone-stays : (mid content after table : List ℕ) (settled holder : ℕ) → mid ≡ wipedImage → content ≡ take (r .len) is
-        → settled ≡ settledAt img (pageSize * s .page) → holder ≡ backAt img (pageSize * s .page)
-        → after ≡ setPage (s .page) (pageBytesOf content settled holder) mid → table ≡ emptied → Gone w after table
-    gone-stays mid content after table settled holder m a b h e k =
-        let long : length page ≡ pageSize = length-recordPage (recordOn (lastPage (c w)) (lastSettled (c w)) (lastHolder (c w)) left) (left-record-fits alone) in
-        let room : pageSize * lastPage (c w) + pageSize ≤ length wipedImage = omega (arith, on-page w .here .on .inside, wipe-long) in
-        let bytes : pageBytesOf content settled holder ≡ page =
-        (λ i. pageBytesOf ((a ∙ content-is) i) ((b ∙ settled-is w) i) ((h ∙ holder-is w) i))
-        ∙ sym (recordPage-is (recordOn (lastPage (c w)) (lastSettled (c w)) (lastHolder (c w)) left)) in
-        let is : after ≡ setPage (lastPage (c w)) page wipedImage = e ∙ (λ i. setPage (page-is w i) (bytes i) (m i)) in
-        let pages = ap pageOf is ∙ mem-set (lastPage (c w)) page wipedImage long room in
-        let all = stands img (w .st) (w .root) (w .reads) (w .new) t (w .leaves) in
-        let x : Rewritten t (pageOf img) (pageOf after) =
-        subst (Rewritten t (pageOf img)) (sym pages)
-        (rewritten-by (w .st) (w .root) (v w) (w .new) t (w .leaves) (pageOf img) (pageOf img) all (pageOf wipedImage) is-wiped) in
-        record {
-          image = rewritten-image img (w .st) (w .root) (w .reads) (w .new) t (w .leaves) after
-              (ap length is ∙ length-setPage (lastPage (c w)) page wipedImage long room ∙ wipe-long) (x .others 0 none-first (far _ own-low)) alone x;
-          table = subst (Table (w .st) (without t)) (sym k)
-              (table-stays (w .st) (w .root) (v w) (w .new) t (w .leaves) u emptied (w .table) fewer
-              (stays img (w .st) (w .root) (w .reads) (w .new) t (w .leaves) alone (c w)));
-        }
-
-  -- ── one proxy takes the record's place ──
-
+  -- Or one proxy, which takes the record's place.
   pub record Lifts (child : ℕ) : Type 0 where
     pub upper : Chain
     pub position : Position
@@ -198,100 +123,153 @@ module _ {img u : List ℕ} {s : Standing} (w : Going img u s) where
           let o = f .proxy x in
           record { upper = c; position = p; page = q; settled = b; rest = rest; proxy = x; is = k; names = o .0; kid = o .1 }
 
-  module _ {child : ℕ} (y : Lifts child) where
-    abbrev d : Chain
-    d = y .upper
+  -- The branch's pages are freed.
+  module _ {u₁ : List ℕ} (is-less : u₁ ≡ less w) {mid entries : List ℕ} (free : Freed (branch w u₁ is-less) mid entries) where
+    entry-other : (q : ℕ) → count q (t .node) ≡ 0 → getD entries q 0 ≡ getD (less w) q 0
+    entry-other q h = free .other q h .1 ∙ ap (λ (l : List ℕ). getD l q 0) is-less
 
-    abbrev q : ℕ
-    q = y .page
-
-    abbrev up : Row
-    up = fill (y .position) (rec q (y .settled) (old w) (y .rest))
-
-    pub own-page : s .page ≡ q
-    own-page = page-is w ∙ ap lastPage (y .is)
-
-    is-root : whole (below d (y .position) q (y .settled) (y .rest)) (old w) ≡ w .root
-    is-root = ap (λ (c : Chain). whole c (old w)) (sym (y .is)) ∙ w .leaves .held
-
-    above : OnPage img (lastPage d) (lastHolder d) up
-    above = chain-page img (w .st) (w .root) (w .reads) d up is-root
-
-    in-wiped : (k : ℕ) → PageIn img k → PageIn wipedImage k
-    in-wiped k p = record { low = p .low; high = p .high; inside = omega (arith, p .inside, wipe-long) }
-
-    -- Neither the record above nor the helper's is one of the branch's.
-    above-kept : pageOf wipedImage (lastPage d) ≡ pageOf img (lastPage d)
-    above-kept =
-        is-wiped .other (lastPage d) (omega (arith, self (lastPage d), beyond-own (w .st) d (lastPage d),
-        own-apart (w .st) (w .root) (v w) (w .new) t (w .leaves) (pageOf img) (pageOf img)
-        (stands img (w .st) (w .root) (w .reads) (w .new) t (w .leaves)) (below d (y .position) q (y .settled) (y .rest)) (y .is) (lastPage d)))
-
-    own-kept : pageOf wipedImage q ≡ recordPage (recordOn q (y .settled) (lastPage d) (old w))
-    own-kept =
-        let z = chain-bytes img (w .st) (w .root) (w .reads) (below d (y .position) q (y .settled) (y .rest)) (old w) is-root in
-        is-wiped .other q (omega (arith, apart w q, self q, ap (λ (c : Chain). bit (eqb q (lastPage c))) (y .is))) ∙ z
-
-    renaming : Renaming wipedImage (lastPage d) q
-    renaming = record {
-      position = y .position;
-      settled = y .settled;
-      old = old w;
-      rest = y .rest;
-      above = lastSettled d;
-      up = lastHolder d;
-      on = in-wiped (lastPage d) (above .here .on);
-      is = above-kept ∙ chain-bytes img (w .st) (w .root) (w .reads) d up is-root;
-      small = above .fits;
-      once = above-once img (w .st) (w .root) (w .reads) d (y .position) q (y .settled) (y .rest) (old w) is-root;
-      names = λ k h. omega (arith, above .here .names k h .high);
+    fewer : Fewer t u entries
+    fewer = record {
+      long = free .table ∙ ap length is-less ∙ changed-long (entryAnew false) (s .deep) (c w) u;
+      shows = along-same (less w) entries (c w) left (λ q h. entry-other q (omega (arith, one-time w q, parts w q))) less-shows;
+      branch = λ q h. free .gone q h .1;
+      other = λ q h k. entry-other q h ∙ less-other w q k;
     }
 
-    own-lifting : Lifting wipedImage q (y .proxy .page)
-    unfolding renaming
-    own-lifting = record {
-      holder = lastPage d;
-      renaming = renaming;
-      on = in-wiped q (subst (PageIn img) (ap lastPage (y .is)) (on-page w .here .on));
-      kid = in-wiped (y .proxy .page) (y .kid);
-      own = own-kept;
-      small = on-page w .fits;
-    }
+    is-wiped : Wiped t (pageOf img) (pageOf mid)
+    is-wiped = record { named = λ p h. free .gone p h .0; other = λ p h. free .other p h .0 }
 
-    -- What `lift_child` requires.
-    pub lifting : (mid : List ℕ) → mid ≡ wipedImage → Lifting mid (s .page) child
-    lifting mid m =
-        subst (λ (i : List ℕ). Lifting i (s .page) child) (sym m)
-        (subst (λ (n : ℕ). Lifting wipedImage n child) (sym own-page) (subst (Lifting wipedImage q) (sym (y .names)) own-lifting))
+    -- ── the record stays ──
 
-    lift-is : (after : List ℕ) → ((l : Lifting wipedImage (s .page) child) → after ≡ lifted l wipedImage) → after ≡ lifted own-lifting wipedImage
-    lift-is after f =
-        subst (λ (n : ℕ). ((l : Lifting wipedImage q n) → after ≡ lifted l wipedImage) → after ≡ lifted own-lifting wipedImage) (sym (y .names))
-        (λ g. g own-lifting)
-        (subst (λ (n : ℕ). (l : Lifting wipedImage n child) → after ≡ lifted l wipedImage) own-page f)
+    module _ (r : Remnant) (was is : List ℕ) (f : Reduced (removing w) r was is) (z : r .child ≡ 0) where
+      alone : loneRec left ≡ false
+      alone = record-left r was is f z
 
-    pub gone-goes : (mid after table : List ℕ) → mid ≡ wipedImage → ((l : Lifting mid (s .page) child) → after ≡ lifted l mid)
-        → table ≡ set emptied (s .page) 0 → Gone w after table
-    unfolding own-lifting renaming
-    gone-goes mid after table m f k =
-        let x = y .proxy in
-        let is = lift-is after (subst (λ (i : List ℕ). (l : Lifting i (s .page) child) → after ≡ lifted l i) m f) in
-        let all = stands img (w .st) (w .root) (w .reads) (w .new) t (w .leaves) in
-        let pages = ap pageOf is ∙ lifted-pages own-lifting (x .settled) (x .inside) in
-        let l : Lifted t (pageOf img) (pageOf after) d (y .position) q (y .settled) (y .rest) x =
-        subst (λ (m : Mem). Lifted t (pageOf img) m d (y .position) q (y .settled) (y .rest) x) (sym pages)
-        (lifted-by (w .st) (w .root) (v w) (w .new) t (w .leaves) (pageOf img) (pageOf img) all d (y .position) q (y .settled) (y .rest) x (y .is)
-        (pageOf wipedImage) is-wiped) in
-        let low : 1 ≤ q = omega (arith, own-low, ap lastPage (y .is)) in
-        let high : q < length emptied = omega (arith, fewer .long, w .table .long, on-page w .here .on .high, ap lastPage (y .is)) in
-        let entries : table ≡ set emptied q 0 = k ∙ ap (λ (n : ℕ). set emptied n 0) own-page in
-        record {
-          image = lifted-image img (w .st) (w .root) (w .reads) (w .new) t (w .leaves) after (ap length is ∙ lifted-long own-lifting ∙ wipe-long)
-              (l .others 0 none-first (far q low) (far (x .page) (y .kid .low)) (far (lastPage d) (above .here .on .low)))
-              d (y .position) q (y .settled) (y .rest) x (y .is) l;
-          table = subst (Table (w .st) (without t)) (sym entries)
-              (table-goes (w .st) (w .root) (v w) (w .new) t (w .leaves) u emptied (w .table) fewer d (y .position) q (y .settled) (y .rest) x (y .is)
-              (goes img (w .st) (w .root) (w .reads) (w .new) t (w .leaves) d (y .position) q (y .settled) (y .rest) x (y .is)) (set emptied q 0)
-              (length-set emptied q 0) (getD-set-same emptied q 0 0 high)
-              (λ n h. getD-set-other emptied q n 0 0 (λ z. omega (arith, h, self n, ap (λ (i : ℕ). bit (eqb n i)) (sym z)))));
-        }
+      -- Its bytes are at the buffer's front.
+      content-is : take (r .len) is ≡ recordBytes left
+      content-is =
+          let o = f .other alone in
+          (λ i. take (o .1 i) (o .2 i)) ∙ take-over (recordSize left) (recordBytes left) was (length-record left)
+
+      abbrev page : List ℕ
+      page = recordPage (recordOn (lastPage (c w)) (lastSettled (c w)) (lastHolder (c w)) left)
+
+      pub gone-stays : (content after : List ℕ) (settled holder : ℕ) → content ≡ take (r .len) is → settled ≡ settledAt img (pageSize * s .page)
+          → holder ≡ backAt img (pageSize * s .page) → after ≡ setPage (s .page) (pageBytesOf content settled holder) mid → Gone w after entries
+      gone-stays content after settled holder a b h e =
+          let long : length page ≡ pageSize =
+          length-recordPage (recordOn (lastPage (c w)) (lastSettled (c w)) (lastHolder (c w)) left) (left-record-fits alone) in
+          let room : pageSize * lastPage (c w) + pageSize ≤ length mid = omega (arith, on-page w .here .on .inside, free .long) in
+          let bytes : pageBytesOf content settled holder ≡ page =
+          (λ i. pageBytesOf ((a ∙ content-is) i) ((b ∙ settled-is w) i) ((h ∙ holder-is w) i))
+          ∙ sym (recordPage-is (recordOn (lastPage (c w)) (lastSettled (c w)) (lastHolder (c w)) left)) in
+          let is : after ≡ setPage (lastPage (c w)) page mid = e ∙ (λ i. setPage (page-is w i) (bytes i) mid) in
+          let pages = ap pageOf is ∙ mem-set (lastPage (c w)) page mid long room in
+          let all = stands img (w .st) (w .root) (w .reads) (w .new) t (w .leaves) in
+          let x : Rewritten t (pageOf img) (pageOf after) =
+          subst (Rewritten t (pageOf img)) (sym pages)
+          (rewritten-by (w .st) (w .root) (v w) (w .new) t (w .leaves) (pageOf img) (pageOf img) all (pageOf mid) is-wiped) in
+          record {
+            image = rewritten-image img (w .st) (w .root) (w .reads) (w .new) t (w .leaves) after
+                (ap length is ∙ length-setPage (lastPage (c w)) page mid long room ∙ free .long) (x .others 0 none-first (far _ own-low)) alone x;
+            table = table-stays (w .st) (w .root) (v w) (w .new) t (w .leaves) u entries (w .table) fewer
+                (stays img (w .st) (w .root) (w .reads) (w .new) t (w .leaves) alone (c w));
+          }
+
+    -- ── one proxy takes its place ──
+
+    module _ {child : ℕ} (y : Lifts child) where
+      abbrev d : Chain
+      d = y .upper
+
+      abbrev q : ℕ
+      q = y .page
+
+      abbrev up : Row
+      up = fill (y .position) (rec q (y .settled) (old w) (y .rest))
+
+      pub own-page : s .page ≡ q
+      own-page = page-is w ∙ ap lastPage (y .is)
+
+      is-root : whole (below d (y .position) q (y .settled) (y .rest)) (old w) ≡ w .root
+      is-root = ap (λ (c : Chain). whole c (old w)) (sym (y .is)) ∙ w .leaves .held
+
+      above : OnPage img (lastPage d) (lastHolder d) up
+      above = chain-page img (w .st) (w .root) (w .reads) d up is-root
+
+      in-wiped : (k : ℕ) → PageIn img k → PageIn mid k
+      in-wiped k p = record { low = p .low; high = p .high; inside = omega (arith, p .inside, free .long) }
+
+      -- Neither the record above nor the helper's is one of the branch's.
+      above-kept : pageOf mid (lastPage d) ≡ pageOf img (lastPage d)
+      above-kept =
+          is-wiped .other (lastPage d) (omega (arith, self (lastPage d), beyond-own (w .st) d (lastPage d),
+          own-apart (w .st) (w .root) (v w) (w .new) t (w .leaves) (pageOf img) (pageOf img)
+          (stands img (w .st) (w .root) (w .reads) (w .new) t (w .leaves)) (below d (y .position) q (y .settled) (y .rest)) (y .is) (lastPage d)))
+
+      own-kept : pageOf mid q ≡ recordPage (recordOn q (y .settled) (lastPage d) (old w))
+      own-kept =
+          let z = chain-bytes img (w .st) (w .root) (w .reads) (below d (y .position) q (y .settled) (y .rest)) (old w) is-root in
+          is-wiped .other q (omega (arith, apart w q, self q, ap (λ (c : Chain). bit (eqb q (lastPage c))) (y .is))) ∙ z
+
+      renaming : Renaming mid (lastPage d) q
+      renaming = record {
+        position = y .position;
+        settled = y .settled;
+        old = old w;
+        rest = y .rest;
+        above = lastSettled d;
+        up = lastHolder d;
+        on = in-wiped (lastPage d) (above .here .on);
+        is = above-kept ∙ chain-bytes img (w .st) (w .root) (w .reads) d up is-root;
+        small = above .fits;
+        once = above-once img (w .st) (w .root) (w .reads) d (y .position) q (y .settled) (y .rest) (old w) is-root;
+        names = λ k h. omega (arith, above .here .names k h .high);
+      }
+
+      own-lifting : Lifting mid q (y .proxy .page)
+      unfolding renaming
+      own-lifting = record {
+        holder = lastPage d;
+        renaming = renaming;
+        on = in-wiped q (subst (PageIn img) (ap lastPage (y .is)) (on-page w .here .on));
+        kid = in-wiped (y .proxy .page) (y .kid);
+        own = own-kept;
+        small = on-page w .fits;
+      }
+
+      -- What `lift_child` requires.
+      pub lifting : Lifting mid (s .page) child
+      lifting = subst (λ (n : ℕ). Lifting mid n child) (sym own-page) (subst (Lifting mid q) (sym (y .names)) own-lifting)
+
+      lift-is : (after : List ℕ) → ((l : Lifting mid (s .page) child) → after ≡ lifted l mid) → after ≡ lifted own-lifting mid
+      lift-is after f =
+          subst (λ (n : ℕ). ((l : Lifting mid q n) → after ≡ lifted l mid) → after ≡ lifted own-lifting mid) (sym (y .names))
+          (λ g. g own-lifting)
+          (subst (λ (n : ℕ). (l : Lifting mid n child) → after ≡ lifted l mid) own-page f)
+
+      pub gone-goes : (after table : List ℕ) → ((l : Lifting mid (s .page) child) → after ≡ lifted l mid) → table ≡ set entries (s .page) 0
+          → Gone w after table
+      unfolding own-lifting renaming
+      gone-goes after table f k =
+          let x = y .proxy in
+          let is = lift-is after f in
+          let all = stands img (w .st) (w .root) (w .reads) (w .new) t (w .leaves) in
+          let pages = ap pageOf is ∙ lifted-pages own-lifting (x .settled) (x .inside) in
+          let l : Lifted t (pageOf img) (pageOf after) d (y .position) q (y .settled) (y .rest) x =
+          subst (λ (m : Mem). Lifted t (pageOf img) m d (y .position) q (y .settled) (y .rest) x) (sym pages)
+          (lifted-by (w .st) (w .root) (v w) (w .new) t (w .leaves) (pageOf img) (pageOf img) all d (y .position) q (y .settled) (y .rest) x (y .is)
+          (pageOf mid) is-wiped) in
+          let low : 1 ≤ q = omega (arith, own-low, ap lastPage (y .is)) in
+          let high : q < length entries = omega (arith, fewer .long, w .table .long, on-page w .here .on .high, ap lastPage (y .is)) in
+          let is-table : table ≡ set entries q 0 = k ∙ ap (λ (n : ℕ). set entries n 0) own-page in
+          record {
+            image = lifted-image img (w .st) (w .root) (w .reads) (w .new) t (w .leaves) after (ap length is ∙ lifted-long own-lifting ∙ free .long)
+                (l .others 0 none-first (far q low) (far (x .page) (y .kid .low)) (far (lastPage d) (above .here .on .low)))
+                d (y .position) q (y .settled) (y .rest) x (y .is) l;
+            table = subst (Table (w .st) (without t)) (sym is-table)
+                (table-goes (w .st) (w .root) (v w) (w .new) t (w .leaves) u entries (w .table) fewer d (y .position) q (y .settled) (y .rest) x (y .is)
+                (goes img (w .st) (w .root) (w .reads) (w .new) t (w .leaves) d (y .position) q (y .settled) (y .rest) x (y .is)) (set entries q 0)
+                (length-set entries q 0) (getD-set-same entries q 0 0 high)
+                (λ n h. getD-set-other entries q n 0 0 (λ z. omega (arith, h, self n, ap (λ (i : ℕ). bit (eqb n i)) (sym z)))));
+          }

@@ -4,7 +4,7 @@ use base_layout::settled_at;
 use grow_pages::put_record;
 use grow_widths::one_less;
 use model::Settings;
-use remove_branch::free_records;
+use remove_branch::free_branch;
 use remove_lift::lift_child;
 use remove_locate::Standing;
 use remove_record::take_out;
@@ -31,7 +31,7 @@ fn remove_at(image: &mut [u8], widths: &mut [u32; Settings::PAGES], s: Standing)
     let mut buf = [0u8; Settings::CAPACITY];
     let left = take_out(image, page, at, s.par, gone, &mut buf);
     let start = a + at;
-    free_records(image, widths, start, start + gone, Settings::PAGES);
+    free_branch(image, widths, page, start, start + gone);
     let child = left.child;
     if child != 0 {
         lift_child(image, page, child);
