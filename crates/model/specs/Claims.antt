@@ -137,7 +137,8 @@ abbrev pub putBelow : (path : List ℕ) → List Put → Tree → Tree
 putBelow path [] t = t
 putBelow path (p ∷ ps) t = putBelow path ps (insertAt (p .new) (p .child) 0 (path ++ p .path) t)
 
--- A branch put in and taken out again leaves the former tree: the first insert puts its top, as child k of the node that the path names, the others go under it.
+-- A branch put in and taken out again leaves the former tree: the first insert puts its top, as child k of the node that the path names, the others go
+-- under it.
 abbrev pub PutInTakenOut : Type 0
 PutInTakenOut = (t : Tree) (path : List ℕ) (k : ℕ) (x : New) (ps : List Put) (n : Node) → named t path ≡ some n → n .kind ≡ 1 → k ≤ n .children
     → removeAt 0 (path ++ k ∷ []) (putBelow (path ++ k ∷ []) ps (insertAt x k 0 path t)) ≡ t

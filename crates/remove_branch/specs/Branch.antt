@@ -1,11 +1,11 @@
 -- A branch whose records are freed.
 use mathlib.Core.Path.{_≡_, refl, sym, ap, subst, _∙_}
-use mathlib.Core.Bool.{Bool, true, false, cond}
+use mathlib.Core.Bool.{Bool, true, false}
 use mathlib.Core.List.{List, [], _∷_}
 use Prim.Native.Nat.{ℕ, zero, suc, _+_, _*_, _-_, _/_, _≤_, _<_}
 use native.Mathlib.Omega.{arith}
 use borrow.Author.Tests.{eqb-true, eqb-false, leb-true, leb-false, ltb-true, ltb-false, lt-ltb, le-ltb}
-use lib.ListN.{length, getD, set, take, drop, replicate, length-set, length-replicate}
+use lib.ListN.{length, getD, set, take, drop, replicate, length-set}
 use lib.Seq.{getD-set-same, getD-set-other}
 use lib.Dec.{eqb, leb, ltb}
 use Rattle.model.specs.Limits.{mostPages, pageSize}
@@ -148,8 +148,11 @@ module _ {img u : List ℕ} {page start end : ℕ} (w : Branch img u page start 
   -- The root record's page and the node's record's are not of the branch.
   none-own : count page (node w) ≡ 0
   none-own =
-      subst (λ (n : ℕ). count n (node w) ≡ 0) (sym (w .last)) (omega (arith, own-else img (w .b .st) (w .b .root) (w .b .reads) (w .b .new) (w .b .t) (w .b .leaves),
-      once img (w .b .st) (w .b .root) (w .b .reads) (w .b .new) (w .b .t) (w .b .leaves) (lastPage (w .b .t .chain))))
+      subst (λ (n : ℕ). count n (node w) ≡ 0) (sym (w .last)) (omega (
+        arith,
+        own-else img (w .b .st) (w .b .root) (w .b .reads) (w .b .new) (w .b .t) (w .b .leaves),
+        once img (w .b .st) (w .b .root) (w .b .reads) (w .b .new) (w .b .t) (w .b .leaves) (lastPage (w .b .t .chain)),
+      ))
 
   none-first : count 1 (node w) ≡ 0
   none-first =
@@ -185,11 +188,17 @@ module _ {img u : List ℕ} {page start end : ℕ} (w : Branch img u page start 
       at : (x : Bool) → eqb 1 page ≡ x → ⊥
       at true e =
           let p = eqb-true 1 page e in
-          omega (arith, sym (getD-set-same inner page 1 0 (omega (arith, begun-long, length-set inner page 1, w .here .on .high)))
-          ∙ ap (λ (n : ℕ). getD begun n 0) (sym p) ∙ z)
+          omega (
+            arith,
+            sym (getD-set-same inner page 1 0 (omega (arith, begun-long, length-set inner page 1, w .here .on .high)))
+                ∙ ap (λ (n : ℕ). getD begun n 0) (sym p) ∙ z,
+          )
       at false e =
-          omega (arith, sym (getD-set-same blanks 1 1 0 (omega (arith, wide)))
-          ∙ sym (getD-set-other inner page 1 1 0 (eqb-false 1 page e)) ∙ z)
+          omega (
+            arith,
+            sym (getD-set-same blanks 1 1 0 (omega (arith, wide)))
+                ∙ sym (getD-set-other inner page 1 1 0 (eqb-false 1 page e)) ∙ z,
+          )
 
   first-sound : Sound (w .b) marked
   first-sound = record {

@@ -8,7 +8,7 @@ use borrow.Author.Tests.{eqb-true, eqb-false}
 use lib.ListN.{length, getD, set, length-set, length-replicate}
 use lib.Seq.{getD-set-same, getD-set-other}
 use lib.Dec.{eqb}
-use Rattle.model.specs.Limits.{mostPages, pageSize}
+use Rattle.model.specs.Limits.{pageSize}
 use Rattle.model.specs.Reading.{pageOf}
 use Rattle.theory_rows.specs.Pages.{bit}
 use Rattle.theory_page_memory.specs.Memory.{Mem, blank, setMem}

@@ -115,8 +115,15 @@ module _ (img : List ℕ) (st : Config) (root : Row) (reads : Reads img st root)
   pub once : (k : ℕ) → elsewhere st c k + count k left + count k (t .node) ≤ 1
   unfolding v
   once k =
-      omega (arith, tally-rest st root (v .placed) refl k, bit-le (atRest st root .used k), count-chain k c old, ap (count k) (l .held),
-      count-refill k (t .position) (t .rest) (t .node ⊹ t .rest), count-⊹ k (t .node) (t .rest))
+      omega (
+        arith,
+        tally-rest st root (v .placed) refl k,
+        bit-le (atRest st root .used k),
+        count-chain k c old,
+        ap (count k) (l .held),
+        count-refill k (t .position) (t .rest) (t .node ⊹ t .rest),
+        count-⊹ k (t .node) (t .rest),
+      )
 
   -- The record's own page stands elsewhere.
   pub own-else : 1 ≤ elsewhere st c (lastPage c)

@@ -2,7 +2,7 @@
 use mathlib.Core.Path.{_≡_, refl, sym, ap, _∙_}
 use mathlib.Core.Bool.{Bool, true, false, cond}
 use mathlib.Core.List.{List}
-use Prim.Native.Nat.{ℕ, zero, suc, _+_, _*_, _-_, _≤_, _<_}
+use Prim.Native.Nat.{ℕ, suc, _+_, _*_, _-_, _≤_, _<_}
 use native.Mathlib.Omega.{arith}
 use borrow.Author.Tests.{eqb-true, eqb-false, leb-true, leb-false}
 use lib.ListN.{length, getD, set, length-set}
@@ -22,7 +22,7 @@ use Rattle.theory_insert_point.specs.Nesting.{chainLength, chain-nesting}
 use Rattle.theory_removal.specs.Stand.{Leaves}
 use Rattle.theory_page_memory.specs.Links.{self}
 use Rattle.remove_branch.specs.Direct.{direct}
-use Rattle.remove_branch.specs.Reach.{Reached, reach}
+use Rattle.remove_branch.specs.Reach.{reach}
 use Rattle.remove_branch.specs.Holders.{same-side}
 
 -- The mark of a page: it goes with the node, or stays.
@@ -120,8 +120,13 @@ module _ {img marks : List ℕ} {p left : ℕ} (w : Settling img marks p left) w
         let a = above z in
         let b = w .b in
         let used : 1 ≤ count p (b .root) =
-        omega (arith, ap (count p) (a .is), self p, count-chain p (a .upper) (fill (a .position) (rec p (a .settled) (w .row) (a .rest))),
-        count-refill p (a .position) (a .rest) (rec p (a .settled) (w .row) (a .rest))) in
+        omega (
+          arith,
+          ap (count p) (a .is),
+          self p,
+          count-chain p (a .upper) (fill (a .position) (rec p (a .settled) (w .row) (a .rest))),
+          count-refill p (a .position) (a .rest) (rec p (a .settled) (w .row) (a .rest)),
+        ) in
         let far : direct p (b .t .node) ≡ 0 = none (leb 1 (direct p (b .t .node))) refl in
         ap (λ (n : ℕ). cond (ltb 0 n) 2 1)
         (ap (λ (n : ℕ). count n (b .t .node)) e ∙ same-side img (b .st) (b .root) (b .reads) (b .new) (b .t) (b .leaves) p used far)

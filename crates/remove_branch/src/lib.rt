@@ -52,7 +52,12 @@ fn settle(image: &[u8], marks: &mut [u8; Settings::PAGES], p: usize, left: usize
 }
 
 // Marks every page in use.
-fn mark_all(image: &[u8], widths: &[u32; Settings::PAGES], marks: &mut [u8; Settings::PAGES], pages: usize)
+fn mark_all(
+    image: &[u8],
+    widths: &[u32; Settings::PAGES],
+    marks: &mut [u8; Settings::PAGES],
+    pages: usize,
+)
     requires { ⌜ Marking (now image) (now widths) (now marks) pages ⌝ }
     ensures { λ _. ⌜ ((w : Marking (now (image .entry)) (now (widths .entry)) (now (marks .entry)) pages) → Marked w (now (marks .exit))) ⌝ }
 {

@@ -67,7 +67,8 @@ module _ {img : List ℕ} {page child : ℕ} (w : Lifting img page child) where
       let one : pageOf first ≡ setMem (w .holder) above (pageOf img) =
       (λ i x. page-over (w .holder) (proxyOffset r + 6) (two child) img within (r .on .inside) x i)
       ∙ ap (λ (s : List ℕ). setMem (w .holder) s (pageOf img))
-      (ap (over (proxyOffset r + 6) (two child)) (r .is) ∙ renamed (w .holder) (r .up) (r .above) (r .position) (r .rest) page child (r .settled) c (r .old) y) in
+      (ap (over (proxyOffset r + 6) (two child)) (r .is) ∙ renamed (w .holder) (r .up) (r .above) (r .position) (r .rest) page child (r .settled) c
+      (r .old) y) in
       mem-cleared page second (omega (arith, second-long, w .on .inside))
       ∙ ap (setMem page blank) (mem-link child (w .holder) first (omega (arith, first-long, w .kid .inside))
       ∙ ap (λ (m : Mem). setMem child (relink (w .holder) (m child)) m) one)

@@ -5,11 +5,10 @@ use mathlib.Core.List.{List, [], _++_, append-assoc}
 use Prim.Native.Nat.{ℕ, _+_, _-_, _*_, _≤_, _<_}
 use native.Mathlib.Omega.{arith}
 use lib.ListN.{length, take, drop, replicate, length-append}
-use Rattle.model.specs.Limits.{mostPages, pageSize, capacity}
-use Rattle.model.specs.Row.{Row, nil, rec, size, lone, base, recordSize, two, header, bytes, recordBytes, trailer, recordPage, recordOn, count, noHead}
+use Rattle.model.specs.Limits.{pageSize, capacity}
+use Rattle.model.specs.Row.{Row, rec, size, lone, base, recordSize, two, header, bytes, trailer, recordPage, recordOn, count, noHead}
 use Rattle.model.specs.Reading.{pageOf, usedAt}
 use Rattle.model.specs.Spot.{Position, fill}
-use Rattle.theory_row_bytes.specs.RowAt.{RecordIs}
 use Rattle.theory_layout.specs.Here.{PageIn}
 use Rattle.theory_page_memory.specs.Around.{proxy-lone, proxy-long}
 use Rattle.base_numbers.specs.Over.{over, over-right, over-left, over-all}

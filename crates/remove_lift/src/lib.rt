@@ -32,6 +32,10 @@ pub fn lift_child(image: &mut [u8], page: usize, child: usize)
 {
     let holder = back_at(image, Settings::PAGE * page);
     rename(image, holder, page, child);
-    put16(image, Settings::PAGE * child + (Settings::CAPACITY + 4), holder);
+    put16(
+        image,
+        Settings::PAGE * child + (Settings::CAPACITY + 4),
+        holder,
+    );
     clear_page(image, page);
 }

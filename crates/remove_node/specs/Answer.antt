@@ -2,7 +2,6 @@
 use mathlib.Core.Path.{_≡_, sym, ap, subst, _∙_}
 use mathlib.Core.Bool.{true, false, not, not-eq-not, true≢false}
 use mathlib.Core.List.{List}
-use mathlib.Core.Option.{some}
 use Prim.Native.Nat.{ℕ, _≤_, _<_}
 use native.Mathlib.Omega.{arith}
 use borrow.Author.Tests.{le-ltb, lt-ltb, eq-eqb, ne-eqb}
@@ -11,7 +10,7 @@ use Rattle.model.specs.Limits.{longestPath}
 use Rattle.model.specs.Row.{Row, Config, image, valid}
 use Rattle.model.specs.Tree.{Tree, shown}
 use Rattle.model.specs.Reading.{Reads}
-use Rattle.model.specs.Removal.{Stand, standOf, without, removed}
+use Rattle.model.specs.Removal.{standOf, without, removed}
 use Rattle.model.specs.Common.{namedBy, pathOf, isNone}
 use Rattle.model.specs.Calls.Remove.{removeNumber, removeOf}
 use Rattle.theory_layout.specs.Widths.{Widths, widths}

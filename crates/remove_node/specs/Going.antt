@@ -8,7 +8,7 @@ use borrow.Author.Tests.{leb-true, leb-false, ne-eqb}
 use lib.ListN.{length, getD}
 use lib.Dec.{eqb, leb}
 use Rattle.model.specs.Limits.{mostPages, pageSize, capacity}
-use Rattle.model.specs.Row.{Row, nil, agg, lit, rec, store, _⊹_, size, base, nodeCount, lone, recordPage, recordOn, count, Config}
+use Rattle.model.specs.Row.{Row, rec, store, _⊹_, size, base, nodeCount, lone, recordPage, recordOn, count, Config}
 use Rattle.model.specs.Tree.{Tree}
 use Rattle.model.specs.Reading.{Reads, pageOf, settledAt, backAt}
 use Rattle.model.specs.Spot.{Position, here, inside, fill, Chain, top, below, lastPage, whole, lastHolder}
@@ -84,9 +84,18 @@ module _ {img u : List ℕ} {s : Standing} (w : Going img u s) where
   -- It is one of the image's, and the node stands within it.
   pub room : (1 ≤ s .page) × (s .page < mostPages) × (pageSize * s .page + pageSize ≤ length img) × (s .at + s .gone ≤ capacity)
   room =
-      let h = on-page .here in
-      (omega (arith, page-is, h .on .low), omega (arith, page-is, h .on .high), omega (arith, page-is, h .on .inside), omega (arith, at-is, gone-is,
-      node-here .room, size-⊹ (w .t .node) (w .t .rest)))
+      let h = on-page .here in (
+        omega (arith, page-is, h .on .low),
+        omega (arith, page-is, h .on .high),
+        omega (arith, page-is, h .on .inside),
+        omega (
+          arith,
+          at-is,
+          gone-is,
+          node-here .room,
+          size-⊹ (w .t .node) (w .t .rest),
+        ),
+      )
 
   pub settled-is : settledAt img (pageSize * s .page) ≡ cond (lastSettled c) 1 0
   settled-is =
@@ -105,8 +114,11 @@ module _ {img u : List ℕ} {s : Standing} (w : Going img u s) where
 
   -- The record's own page is not one of the branch's.
   pub apart : (k : ℕ) → bit (eqb k (lastPage c)) + count k (w .t .node) ≤ 1
-  apart k = omega (arith, own-apart (w .st) (w .root) v (w .new) (w .t) (w .leaves) (pageOf img) (pageOf img)
-      (stands img (w .st) (w .root) (w .reads) (w .new) (w .t) (w .leaves)) c refl k)
+  apart k = omega (
+    arith,
+    own-apart (w .st) (w .root) v (w .new) (w .t) (w .leaves) (pageOf img) (pageOf img)
+        (stands img (w .st) (w .root) (w .reads) (w .new) (w .t) (w .leaves)) c refl k,
+  )
 
   -- What the steps require.
   abbrev pub raising : Raising img u (s .page) (s .deep)

@@ -1,29 +1,27 @@
 -- What a removal leaves: the image and the table of the store without the node.
 use mathlib.Core.Path.{_≡_, refl, sym, ap, subst, _∙_}
-use mathlib.Core.Bool.{Bool, true, false, cond, true≢false}
+use mathlib.Core.Bool.{Bool, true, false, true≢false}
 use mathlib.Core.List.{List}
 use Prim.Native.Nat.{ℕ, _+_, _*_, _≤_, _<_}
 use native.Mathlib.Omega.{arith}
 use borrow.Author.Tests.{ne-eqb}
-use lib.ListN.{length, take, getD, set, length-set, length-replicate}
+use lib.ListN.{length, take, getD, set, length-set}
 use lib.Seq.{getD-set-same, getD-set-other}
 use lib.Dec.{eqb}
-use Rattle.model.specs.Limits.{mostPages, pageSize, capacity}
+use Rattle.model.specs.Limits.{pageSize, capacity}
 use Rattle.model.specs.Row as rows
-use Rattle.model.specs.Row.{Row, nil, rec, store, _⊹_, loneRec, recordSize, recordBytes, recordPage, recordOn, count, Config}
-use Rattle.model.specs.Tree.{width}
+use Rattle.model.specs.Row.{Row, rec, store, _⊹_, loneRec, recordSize, recordBytes, recordPage, recordOn, count}
 use Rattle.model.specs.Reading.{pageOf, settledAt, backAt}
 use Rattle.model.specs.Spot.{Position, fill, Chain, top, below, lastPage, whole, lastHolder}
 use Rattle.model.specs.Removal.{Stand, without}
 use Rattle.theory_rows.specs.Fits.{Fits}
 use Rattle.theory_rows.specs.Image.{once, length-record, length-recordPage}
 use Rattle.theory_rows.specs.Laws.{width-⊹}
-use Rattle.theory_rows.specs.Pages.{bit, count-⊹}
+use Rattle.theory_rows.specs.Pages.{bit}
 use Rattle.theory_decoding.specs.Steps.{named-inside}
-use Rattle.theory_decoding.specs.Reading.{reads-length}
 use Rattle.theory_places.specs.Widths.{Told, Table}
 use Rattle.theory_layout.specs.Here.{PageIn, OnPage}
-use Rattle.theory_growth.specs.Chain.{lastSettled, hang, beside, along, count-chain, count-refill, chain-fits}
+use Rattle.theory_growth.specs.Chain.{lastSettled, along, chain-fits}
 use Rattle.theory_growth.specs.Told.{ToldAlong, told-along, along-same}
 use Rattle.theory_insert_point.specs.Bytes.{chain-page, chain-bytes}
 use Rattle.theory_removal.specs.Keeps.{Proxy, proxy-of, root-stays}
@@ -33,7 +31,7 @@ use Rattle.theory_page_memory.specs.Memory.{Mem}
 use Rattle.theory_page_memory.specs.Links.{self}
 use Rattle.theory_page_memory.specs.Around.{beyond-own}
 use Rattle.theory_page_memory.specs.Removing.{Wiped, Rewritten, Lifted, own-apart, stands, stays, goes, rewritten-by, rewritten-image, lifted-by, lifted-image}
-use Rattle.base_numbers.specs.Over.{over, take-over}
+use Rattle.base_numbers.specs.Over.{take-over}
 use Rattle.grow_pages.specs.Write.{setPage, pageBytesOf, recordPage-is}
 use Rattle.grow_pages.specs.Paged.{length-setPage}
 use Rattle.grow_pages.specs.Relinked.{mem-set}
@@ -203,9 +201,13 @@ module _ {img u : List ℕ} {s : Standing} (w : Going img u s) where
       -- Neither the record above nor the helper's is one of the branch's.
       above-kept : pageOf mid (lastPage d) ≡ pageOf img (lastPage d)
       above-kept =
-          is-wiped .other (lastPage d) (omega (arith, self (lastPage d), beyond-own (w .st) d (lastPage d),
-          own-apart (w .st) (w .root) (v w) (w .new) t (w .leaves) (pageOf img) (pageOf img)
-          (stands img (w .st) (w .root) (w .reads) (w .new) t (w .leaves)) (below d (y .position) q (y .settled) (y .rest)) (y .is) (lastPage d)))
+          is-wiped .other (lastPage d) (omega (
+            arith,
+            self (lastPage d),
+            beyond-own (w .st) d (lastPage d),
+            own-apart (w .st) (w .root) (v w) (w .new) t (w .leaves) (pageOf img) (pageOf img)
+                (stands img (w .st) (w .root) (w .reads) (w .new) t (w .leaves)) (below d (y .position) q (y .settled) (y .rest)) (y .is) (lastPage d),
+          ))
 
       own-kept : pageOf mid q ≡ recordPage (recordOn q (y .settled) (lastPage d) (old w))
       own-kept =

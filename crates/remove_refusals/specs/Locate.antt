@@ -7,7 +7,7 @@ use Prim.Native.Nat.{ℕ, _+_, _*_, _-_, _%_, _≤_}
 use native.Mathlib.Omega.{arith}
 use borrow.Author.Tests.{eq-eqb}
 use lib.ListN.{length, take, length-take}
-use lib.Dec.{ltb, eqb}
+use lib.Dec.{ltb}
 use Rattle.model.specs.Limits.{mostPages, pageSize, longestPath, longestParent}
 use Rattle.model.specs.Row.{Row, Config}
 use Rattle.model.specs.Tree.{Node, shown, named, placeOf}
@@ -24,7 +24,7 @@ use Rattle.read_find.specs.Entries.{fourAt, broken}
 use Rattle.grow_locate.specs.Seek.{seekOf}
 use Rattle.grow_refusals.specs.Admit.{foundAt, FoundNode, find-number, found, not-literal, searched}
 use Rattle.remove_locate.specs.declared.Standing.{Standing}
-use Rattle.remove_locate.specs.Leave.{Leaving, standingAt, standingOf, standing-found, standing-is}
+use Rattle.remove_locate.specs.Leave.{standingAt, standingOf, standing-found, standing-is}
 use Rattle.remove_refusals.specs.Child.{hasChild, child-named, no-child, LastEntry, last-entry}
 
 abbrev pub nowhere : Standing
@@ -78,8 +78,11 @@ module _ (img : List ℕ) (st : Config) (root : Row) (reads : Reads img st root)
       parent : FoundNode img root (take up path)
       parent =
           found img st root reads (take up path) parent-short
-          (not-eq-not {b = false} .0 (λ e. omega (arith, find-number img st root reads (take up path) parent-short true e,
-          ap (λ (f : FindAnswer). f .number) is)))
+          (not-eq-not {b = false} .0 (λ e. omega (
+            arith,
+            find-number img st root reads (take up path) parent-short true e,
+            ap (λ (f : FindAnswer). f .number) is,
+          )))
 
       has-child : isNone (namedBy (shown root) path) ≡ not (hasChild k (parent .node))
       has-child = ap isNone node-is ∙ child-named 0 (last .front) k (shown root) (parent .node) (sym parent-is ∙ parent .names)

@@ -5,7 +5,7 @@ use mathlib.Core.List.{List, [], _∷_, _++_}
 use mathlib.Core.Option.{Option, none, some, Option·map}
 use Prim.Native.Nat.{ℕ, zero, suc, _+_, _≤_}
 use native.Mathlib.Omega.{arith}
-use borrow.Author.Tests.{eqb-true, ne-eqb, le-ltb}
+use borrow.Author.Tests.{ne-eqb, le-ltb}
 use lib.ListN.{length, length-append}
 use lib.Dec.{eqb}
 use Rattle.model.specs.Limits.{longestPath}
@@ -15,7 +15,7 @@ use Rattle.model.specs.Effect.{Effect, feedOf}
 use Rattle.model.specs.Calls.{Call, insert, remove}
 use Rattle.model.specs.Calls.Insert.{insertNumber, newOf, insertOf, insertCall}
 use Rattle.model.specs.Calls.Remove.{removeNumber, removeOf, removeCall}
-use Rattle.model.specs.Claims.{Put, putBelow, PutInTakenOut, Matches, Calls, Orders, imageAfter, Between, changesNothing, putsBelow, AllBetween, FormerTree}
+use Rattle.model.specs.Claims.{Put, putBelow, PutInTakenOut, Matches, Calls, Orders, imageAfter, Between, changesNothing, putsBelow, AllBetween}
 use Rattle.model.specs.Claims.{TakenOut}
 use Rattle.model.specs.declared.InsertAnswer.{InsertAnswer}
 use Rattle.theory_rows.specs.Laws.{cond-case}
@@ -83,11 +83,14 @@ still-named : (y : New) (k i : ℕ) (path more : List ℕ) (t : Tree) → Names 
 still-named y k i path more end h = h
 still-named y k zero [] [] (branch l cs rest) h = tt
 still-named y k zero [] (j ∷ more) (branch l cs rest) h = tt
-still-named y k zero (j ∷ path) more (branch l cs rest) h = any-map below (nodeAt j path cs) (nodeAt j path (insertAt y k j (path ++ more) cs)) (still-named y k j path more cs) h
-still-named y k (suc i) path more (branch l cs rest) h = any-map (further 1) (nodeAt i path rest) (nodeAt i path (insertAt y k i (path ++ more) rest)) (still-named y k i path more rest) h
+still-named y k zero (j ∷ path) more (branch l cs rest) h =
+    any-map below (nodeAt j path cs) (nodeAt j path (insertAt y k j (path ++ more) cs)) (still-named y k j path more cs) h
+still-named y k (suc i) path more (branch l cs rest) h =
+    any-map (further 1) (nodeAt i path rest) (nodeAt i path (insertAt y k i (path ++ more) rest)) (still-named y k i path more rest) h
 still-named y k zero [] more (leaf l c rest) h = tt
 still-named y k zero (j ∷ path) more (leaf l c rest) h = h
-still-named y k (suc i) path more (leaf l c rest) h = any-map (further 1) (nodeAt i path rest) (nodeAt i path (insertAt y k i (path ++ more) rest)) (still-named y k i path more rest) h
+still-named y k (suc i) path more (leaf l c rest) h =
+    any-map (further 1) (nodeAt i path rest) (nodeAt i path (insertAt y k i (path ++ more) rest)) (still-named y k i path more rest) h
 
 pub put-in-taken-out : PutInTakenOut
 put-in-taken-out t path k x ps n e kind many =
@@ -157,10 +160,14 @@ taken-out order o img z parent child kind origin label content y small passed ca
     let names = by-entries (Parent child) t (entries parent) (parent-says child (namedBy t parent) (f .named) (f .aggregate) (f .within)) in
     let u = insertAt x child 0 entry t in
     let path = entry ++ child ∷ [] in
-    let begun : Holds order o t path first = (u, subst (λ (n : ℕ). Matches first (accept n u t)) number (a .after), record {
-      out = top-out x child 0 entry t names;
-      node = any-named x (named u path) (insert-named x (f .kind) child 0 entry t names);
-    }) in
+    let begun : Holds order o t path first = (
+      u,
+      subst (λ (n : ℕ). Matches first (accept n u t)) number (a .after),
+      record {
+        out = top-out x child 0 entry t names;
+        node = any-named x (named u path) (insert-named x (f .kind) child 0 entry t names);
+      },
+    ) in
     let (v, matches, w) = all-between order o t path calls first b begun in
     let q = parent ++ four child in
     let last = imageAfter order first calls in

@@ -5,7 +5,7 @@ use Prim.Native.Nat.{ℕ, suc, _+_, _≤_}
 use native.Mathlib.Omega.{arith}
 use lib.Dec.{eqb}
 use Rattle.model.specs.Row.{Head, Row, nil, agg, lit, rec, _⊹_, store, size, isNil, lone, nodeCount, count}
-use Rattle.model.specs.Spot.{Position, here, inside, fill, past, into, Chain, top, below, lastPage, Spot, whole}
+use Rattle.model.specs.Spot.{Position, here, inside, fill, past, into, Chain, top, below, Spot, whole}
 use Rattle.theory_rows.specs.Laws.{⊹-assoc, size-⊹}
 use Rattle.theory_rows.specs.Fits.{Fits, RecordFits}
 use Rattle.theory_rows.specs.Bound.{Fits-⊹, fits-parts, isNil-⊹}

@@ -131,7 +131,8 @@ module _ (img : List ℕ) (st : Config) (root : Row) (r : Reads img st root) (ne
       by-left n (omega arith) b (omega (arith, ltb-false 0 (count n (t .node)) (or-left x y some))) (ap bit (or-right x y some)) (loneRec left) refl
       (t .chain) refl (or-right (x || y) u z)
     where
-      by-left : (n : ℕ) → 1 ≤ n → n < st .pages → count n (t .node) ≡ 0 → bit (eqb n (lastPage (t .chain))) ≡ 0 → (u : Bool) → loneRec left ≡ u → (c : Chain) → t .chain ≡ c
+      by-left : (n : ℕ) → 1 ≤ n → n < st .pages → count n (t .node) ≡ 0 → bit (eqb n (lastPage (t .chain))) ≡ 0 → (u : Bool) → loneRec left ≡ u
+          → (c : Chain) → t .chain ≡ c
           → u && eqb n (lastHolder (t .chain)) ≡ false → SameButLink (pageOf (image st (without t)) n) (m n)
       by-left n a b away own false y c e z = stay-others n a b away own y
       by-left n a b away own true y top e z = absurd (true≢false (sym y ∙ root-stays root new t l (v .rows) e))

@@ -3,12 +3,11 @@
 use mathlib.Core.Path.{_≡_, refl, sym, ap, subst, _∙_}
 use mathlib.Core.Bool.{Bool, true, false, _&&_}
 use mathlib.Core.List.{List}
-use Prim.Native.Nat.{ℕ, _+_, _*_, _≤_, _<_}
+use Prim.Native.Nat.{ℕ, _+_, _≤_, _<_}
 use native.Mathlib.Omega.{arith}
 use borrow.Author.Tests.{eq-eqb, eqb-true, leb-true, leb-false}
 use lib.ListN.{length}
 use lib.Dec.{eqb, leb}
-use Rattle.model.specs.Limits.{pageSize}
 use Rattle.model.specs.Row.{Row, nil, rec, store, _⊹_, loneRec, recordPage, recordOn, count, image, Config}
 use Rattle.model.specs.Reading.{Reads, pageOf}
 use Rattle.model.specs.Tree.{Tree}
@@ -18,7 +17,7 @@ use Rattle.model.specs.Removal.{Stand, replaced, lost, without}
 use Rattle.theory_rows.specs.Fits.{Valid, Fits}
 use Rattle.theory_rows.specs.Bound.{fits-parts}
 use Rattle.theory_rows.specs.Image.{Stored}
-use Rattle.theory_rows.specs.Pages.{bit, reserved, count-⊹, tally-rest}
+use Rattle.theory_rows.specs.Pages.{bit, count-⊹, tally-rest}
 use Rattle.theory_decoding.specs.Decode.{stored-same, stored-image}
 use Rattle.theory_decoding.specs.Reading.{reads-valid, reads-length}
 use Rattle.theory_check.specs.Images.{image-is}

@@ -7,21 +7,21 @@ use Prim.Native.Nat.{ℕ, _+_, _≤_}
 use native.Mathlib.Omega.{arith}
 use borrow.Author.Tests.{leb-true, leb-false}
 use lib.Dec.{leb, eqb}
-use Rattle.model.specs.Row.{Head, Row, nil, agg, lit, rec, store, _⊹_, size, lone, loneRec, nodeCount, base, recordSize, count, Config}
+use Rattle.model.specs.Row.{Row, nil, agg, lit, rec, store, _⊹_, size, lone, loneRec, nodeCount, base, count, Config}
 use Rattle.model.specs.Tree.{Tree, end, branch, leaf, _⊞_, shown, removeAt}
-use Rattle.model.specs.Spot.{Position, here, inside, fill, Chain, top, below, lastPage, whole}
+use Rattle.model.specs.Spot.{Position, here, inside, fill, Chain, top, below, whole}
 use Rattle.model.specs.Removal.{Stand, standOf, replaced, lost, without, removed, fromStand}
 use Rattle.theory_rows.specs.Fits.{Fits, RecordFits, Shape, one, more, Valid}
-use Rattle.theory_rows.specs.Laws.{cond-case, size-⊹, ⊞-end, shown-⊹, isNil-nil}
+use Rattle.theory_rows.specs.Laws.{cond-case, size-⊹, shown-⊹, isNil-nil}
 use Rattle.theory_rows.specs.Bound.{Fits-⊹, fits-parts}
 use Rattle.theory_rows.specs.Pages.{bit, count-⊹}
 use Rattle.theory_rows.specs.Keeps.{nodeCount-⊹, height-shown, levels, shape-kept, base-kept}
-use Rattle.theory_growth.specs.Chain.{size-fill, nodes-fill, fits-fill, fits-refill, chain-fits, lastSettled, lone-inside, lone-proxy, count-refill, count-chain}
-use Rattle.theory_growth.specs.Chain.{beside, along}
+use Rattle.theory_growth.specs.Chain.{size-fill, nodes-fill, fits-fill, fits-refill, chain-fits, lastSettled, lone-inside, lone-proxy, count-refill}
+use Rattle.theory_growth.specs.Chain.{count-chain}
 use Rattle.theory_growth.specs.Shown.{around, above, shown-fill, shown-whole}
 use Rattle.theory_growth.specs.Store.{settled-lone, isBranch, agg-branch}
 use Rattle.theory_removal.specs.Laws.{levels-removeAt}
-use Rattle.theory_removal.specs.Stand.{Onward, Leaves, rootOf, stand-leaves}
+use Rattle.theory_removal.specs.Stand.{Onward, Leaves, stand-leaves}
 
 -- ── one proxy ──
 
@@ -187,8 +187,13 @@ count-lost q (below c s p b rest) row = go (loneRec row)
   where
     go : (l : Bool) → count q (whole c (fill s (cond l (row ⊹ rest) (rec p b row rest)))) + bit (l && eqb q p) ≡ count q (whole c (fill s (rec p b row rest)))
     go true =
-        omega (arith, count-chain q c (fill s (row ⊹ rest)), count-chain q c (fill s (rec p b row rest)), count-refill q s (rec p b row rest) (row ⊹ rest),
-        count-⊹ q row rest)
+        omega (
+          arith,
+          count-chain q c (fill s (row ⊹ rest)),
+          count-chain q c (fill s (rec p b row rest)),
+          count-refill q s (rec p b row rest) (row ⊹ rest),
+          count-⊹ q row rest,
+        )
     go false = omega arith
 
 -- ── a stand ──
@@ -201,9 +206,15 @@ module _ (root : Row) (new : Tree) (t : Stand) (l : Leaves root new t) where
   -- A page that was named is named still, or is one of the branch's, or a replaced helper's; none is named anew.
   pub without-names : (q : ℕ) → count q (without t) + bit (helperFreed (t .chain) (fill (t .position) (t .rest)) q) + count q (t .node) ≡ count q root
   without-names q =
-      omega (arith, count-lost q (t .chain) (fill (t .position) (t .rest)), count-chain q (t .chain) (fill (t .position) (t .rest)),
-      count-chain q (t .chain) (fill (t .position) (t .node ⊹ t .rest)), count-refill q (t .position) (t .rest) (t .node ⊹ t .rest),
-      count-⊹ q (t .node) (t .rest), ap (count q) (l .held))
+      omega (
+        arith,
+        count-lost q (t .chain) (fill (t .position) (t .rest)),
+        count-chain q (t .chain) (fill (t .position) (t .rest)),
+        count-chain q (t .chain) (fill (t .position) (t .node ⊹ t .rest)),
+        count-refill q (t .position) (t .rest) (t .node ⊹ t .rest),
+        count-⊹ q (t .node) (t .rest),
+        ap (count q) (l .held),
+      )
 
   pub without-fits : Fits (store root) → Fits (store (without t))
   without-fits f = lost-fits (t .position) (t .node) (t .rest) (l .onward) (l .one) (t .chain) (subst (λ (r : Row). Fits (store r)) (sym (l .held)) f)

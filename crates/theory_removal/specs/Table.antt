@@ -1,17 +1,16 @@
 -- The table of widths of the store without a node: one node less in the records that showed it, 0 for the pages that come free.
 use mathlib.Core.Path.{_≡_, refl, sym, ap, subst, _∙_}
-use mathlib.Core.Bool.{Bool, true, false, _&&_}
+use mathlib.Core.Bool.{Bool, true, false}
 use mathlib.Core.List.{List}
 use Prim.Native.Nat.{ℕ, _+_, _≤_, _<_}
 use native.Mathlib.Omega.{arith}
 use borrow.Author.Tests.{leb-true, leb-false, eqb-true}
 use lib.ListN.{length, getD}
 use lib.Dec.{leb, eqb}
-use Rattle.model.specs.Limits.{mostPages}
-use Rattle.model.specs.Row.{Row, nil, rec, store, _⊹_, loneRec, count, Config}
+use Rattle.model.specs.Row.{Row, nil, rec, store, _⊹_, count, Config}
 use Rattle.model.specs.Tree.{Tree, width}
-use Rattle.model.specs.Spot.{Position, fill, Chain, top, below, lastPage, whole}
-use Rattle.model.specs.Removal.{Stand, lost, without, replaced}
+use Rattle.model.specs.Spot.{Position, fill, Chain, below, whole}
+use Rattle.model.specs.Removal.{Stand, without, replaced}
 use Rattle.theory_rows.specs.Fits.{Valid}
 use Rattle.theory_rows.specs.Image.{once}
 use Rattle.theory_rows.specs.Pages.{bit, count-⊹}
@@ -19,7 +18,7 @@ use Rattle.theory_places.specs.Widths.{Told, Table, told-same}
 use Rattle.theory_growth.specs.Chain.{fill-more, fill-less, count-refill, count-chain, beside, along}
 use Rattle.theory_growth.specs.Told.{ToldAround, ToldAlong, told-parted, told-chain, told-whole, around-same, along-same, along-width, width-fill}
 use Rattle.theory_removal.specs.Stand.{Leaves}
-use Rattle.theory_removal.specs.Keeps.{Proxy, without-names, helperFreed}
+use Rattle.theory_removal.specs.Keeps.{Proxy}
 
 module _ (t : Stand) (u v : List ℕ) where
   -- From u to v: the chain's records show one node less where they showed the node, the entries of the branch's pages are 0, all else is as it was.
@@ -29,15 +28,21 @@ module _ (t : Stand) (u v : List ℕ) where
     pub branch : (q : ℕ) → 1 ≤ count q (t .node) → getD v q 0 ≡ 0
     pub other : (q : ℕ) → count q (t .node) ≡ 0 → along (t .chain) q ≡ 0 → getD v q 0 ≡ getD u q 0
 
-module _ (st : Config) (root : Row) (w : Valid st root) (new : Tree) (t : Stand) (l : Leaves root new t) (u v : List ℕ) (b : Table st root u) (f : Fewer t u v) where
+module _ (st : Config) (root : Row) (w : Valid st root) (new : Tree) (t : Stand) (l : Leaves root new t) (u v : List ℕ) (b : Table st root u)
+    (f : Fewer t u v) where
   abbrev left : Row
   left = fill (t .position) (t .rest)
 
   -- Each page is named at most one time: beside the chain, by it, in what is left, or in the branch.
   named : (q : ℕ) → beside (t .chain) q + along (t .chain) q + count q left + count q (t .node) ≡ count q root
   named q =
-      omega (arith, count-chain q (t .chain) (fill (t .position) (t .node ⊹ t .rest)), count-refill q (t .position) (t .rest) (t .node ⊹ t .rest),
-      count-⊹ q (t .node) (t .rest), ap (count q) (l .held))
+      omega (
+        arith,
+        count-chain q (t .chain) (fill (t .position) (t .node ⊹ t .rest)),
+        count-refill q (t .position) (t .rest) (t .node ⊹ t .rest),
+        count-⊹ q (t .node) (t .rest),
+        ap (count q) (l .held),
+      )
 
   one : (q : ℕ) → beside (t .chain) q + along (t .chain) q + count q left + count q (t .node) ≤ 1
   one q = omega (arith, named q, once st root w q)
@@ -111,6 +116,16 @@ module _ (st : Config) (root : Row) (w : Valid st root) (new : Tree) (t : Stand)
           let n : count q (whole c up) ≡ count q (without t) = ap (count q) (sym is) in
           let h : bit (eqb q p) ≡ 0 = ap bit y in
           same q h ∙ zero-entry q a k
-          (omega (arith, z, n, h, count-chain q c up, count-refill q s rest (rec (x .page) (x .settled) (x .inside) rest), child q, named q,
-          ap (λ (c : Chain). beside c q) e, ap (λ (c : Chain). along c q) e))
+          (omega (
+            arith,
+            z,
+            n,
+            h,
+            count-chain q c up,
+            count-refill q s rest (rec (x .page) (x .settled) (x .inside) rest),
+            child q,
+            named q,
+            ap (λ (c : Chain). beside c q) e,
+            ap (λ (c : Chain). along c q) e,
+          ))
           (omega (arith, z))

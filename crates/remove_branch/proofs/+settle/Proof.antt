@@ -47,7 +47,9 @@ settle-requires t c κs =
     (omega (arith, s .pre .0, some-left (s .pre .1) z _ e), settle-up (s .pre .1) z _ e)
 
 element-copy-out-m : (t : ℕ) → settle-lts.Need-element-copy-out-m (claims t) (settle-at t) settle.Post
-element-copy-out-m t c = page-in (settle-up (c .before .before .before .before .before .before .pre .1) (c .before .before .before .if1 .left) _ (c .before .before .back-at .ensures .0)) .high
+element-copy-out-m t c =
+    page-in (settle-up (c .before .before .before .before .before .before .pre .1) (c .before .before .before .if1 .left) _
+    (c .before .before .back-at .ensures .0)) .high
 
 element-write-marks : (t : ℕ) → settle-lts.Need-element-write-marks (claims t) (settle-at t) settle.Post
 element-write-marks t c = page-in (c .before .before .before .before .before .before .before .pre .1) .high

@@ -20,17 +20,35 @@ element-copy-out-if1 c = omega (arith, c .loop-test .taken, c .before .before .b
 clear-page-requires : tie.Need-clear-page-requires Inv-loop μ-loop
 clear-page-requires c κs =
     let l = c .before .before .before .before in
-    let s = c .before .before .before .before .before .before in
-    (omega (arith, c .before .before .before .loop-test .taken, s .pre .1 .0), omega (arith, c .before .before .before .loop-test .taken, s .pre .1 .1 .0, l .loop .inv .0 .long))
+    let s = c .before .before .before .before .before .before in (
+      omega (arith, c .before .before .before .loop-test .taken, s .pre .1 .0),
+      omega
+          (arith, c .before .before .before .loop-test .taken, s .pre .1 .1 .0, l .loop .inv .0 .long),
+    )
 
 mul-widths : tie.Need-mul-widths Inv-loop μ-loop
-mul-widths c = omega (arith, c .before .before .before .before .before .before .loop-test .taken, c .before .before .before .before .before .before .before .before .before .pre .1 .0)
+mul-widths c =
+    omega (
+      arith,
+      c .before .before .before .before .before .before .loop-test .taken,
+      c .before .before .before .before .before .before .before .before .before .pre .1 .0,
+    )
 
 element-write-widths : tie.Need-element-write-widths Inv-loop μ-loop
-element-write-widths c = omega (arith, c .before .before .before .before .before .before .loop-test .taken, c .before .before .before .before .before .before .before .before .before .pre .1 .0)
+element-write-widths c =
+    omega (
+      arith,
+      c .before .before .before .before .before .before .loop-test .taken,
+      c .before .before .before .before .before .before .before .before .before .pre .1 .0,
+    )
 
 add-p : tie.Need-add-p Inv-loop μ-loop
-add-p c = omega (arith, c .before .before .before .before .before .before .loop-test .taken, c .before .before .before .before .before .before .before .before .before .pre .1 .0)
+add-p c =
+    omega (
+      arith,
+      c .before .before .before .before .before .before .loop-test .taken,
+      c .before .before .before .before .before .before .before .before .before .pre .1 .0,
+    )
 
 loop-less : tie.Need-loop-less Inv-loop μ-loop
 loop-less c = omega (arith, c .before .before .before .before .before .before .loop-test .taken)
@@ -40,9 +58,11 @@ loop-again c =
     let t = c .before .before .before .before .before .before .loop-test .taken in
     let l = c .before .before .before .before .before .before .before in
     let s = c .before .before .before .before .before .before .before .before .before in
-    let i = l .loop .inv in
-    (rw (c .before .before .clear-page .ensures) (cleared-page (i .0) (omega (arith, t, s .pre .1 .1 .0, i .0 .long))
-    (omega (arith, t, s .pre .1 .0, i .0 .table, s .pre .1 .1 .1)) (i .1 .0) (c .before .before .before .before .if1 .taken)), (omega (arith, i .1 .0), omega (arith, t)))
+    let i = l .loop .inv in (
+      rw (c .before .before .clear-page .ensures) (cleared-page (i .0) (omega (arith, t, s .pre .1 .1 .0, i .0 .long))
+          (omega (arith, t, s .pre .1 .0, i .0 .table, s .pre .1 .1 .1)) (i .1 .0) (c .before .before .before .before .if1 .taken)),
+      (omega (arith, i .1 .0), omega (arith, t)),
+    )
 
 add-p-2 : tie.Need-add-p-2 Inv-loop μ-loop
 add-p-2 c = omega (arith, c .before .before .loop-test .taken, c .before .before .before .before .before .pre .1 .0)

@@ -1,6 +1,5 @@
 -- `remove_branch::free_branch`: the first marks, all marks, and the pages that go.
-use mathlib.Core.Path.{_≡_, refl, sym, _∙_}
-use Prim.Native.Nat.{ℕ, _≤_}
+use Prim.Native.Nat.{ℕ}
 use native.Mathlib.Omega.{arith}
 use borrow.Author.Needs.{needs}
 use lib.ListN.{replicate, length-replicate}
@@ -53,7 +52,8 @@ returns-2 c =
     let a = c .before .before .before .before .before .before in
     let d = c .before .before .before .before .before .before .before .before .before .before in
     λ w.
-    let m = all-marked w (replicate mostPages 0) (length-replicate {A = ℕ} mostPages 0) (zeros mostPages) _ (d .mark-direct .ensures (linked w)) _ (a .mark-all .ensures) in
+    let m = all-marked w (replicate mostPages 0) (length-replicate {A = ℕ} mostPages 0) (zeros mostPages) _ (d .mark-direct .ensures (linked w)) _
+    (a .mark-all .ensures) in
     branch-freed w (replicate mostPages 0) (length-replicate {A = ℕ} mostPages 0) (zeros mostPages) _ _ _ m (c .before .before .clear-marked .ensures)
 
 pub free-branch-spec : {M : Type 1} → statement M

@@ -1,5 +1,5 @@
 -- `remove_branch::mark_all`: the marks of the pages below p are known.
-use Prim.Native.Nat.{ℕ, _-_, _≤_}
+use Prim.Native.Nat.{_-_, _≤_}
 use native.Mathlib.Omega.{arith}
 use Rattle.remove_branch.specs.Marks.{Marking, Along, along-first, along-free, along-settles, along-settled, along-end}
 use Rattle.remove_branch.proofs.mark_all.Statement.{statement}

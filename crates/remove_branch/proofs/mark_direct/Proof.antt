@@ -1,5 +1,4 @@
 -- `remove_branch::mark_direct`: what is left of the row leads to the same marks.
-use mathlib.Core.Path.{_≡_, refl, _∙_}
 use mathlib.Core.List.{List}
 use Prim.Native.Nat.{ℕ, _-_}
 use native.Mathlib.Omega.{arith}

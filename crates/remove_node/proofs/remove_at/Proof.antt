@@ -1,16 +1,11 @@
 -- `remove_node::remove_at`: one node less in the table, what is left of the record, the branch's pages, and the record's.
-use mathlib.Core.Path.{_≡_, refl, sym, ap, _∙_}
-use mathlib.Core.List.{List}
-use Prim.Native.Nat.{ℕ, _+_, _*_, _≤_, _<_}
+use mathlib.Core.Path.{refl, sym}
 use native.Mathlib.Omega.{arith}
 use borrow.Author.Needs.{needs}
-use lib.ListN.{length, set}
 use lib.Seq.{length-take-le}
-use denote.Ref.{now}
-use Rattle.model.specs.Limits.{mostPages, pageSize}
 use Rattle.theory_growth.specs.Chain.{lastSettled}
 use Rattle.theory_page_memory.specs.Steps.{bit-le}
-use Rattle.remove_node.specs.Going.{Going, page-is, at-is, gone-is, on-page, settled-is, holder-is, holder-high, raising, removing, branch, room}
+use Rattle.remove_node.specs.Going.{settled-is, holder-is, holder-high, raising, removing, branch, room}
 use Rattle.remove_node.specs.Gone.{left-small, gone-stays, proxy-left, lifting, gone-goes}
 use Rattle.remove_node.proofs.remove_at.Statement.{statement}
 use Rattle.remove_node.proofs.remove_at.Tie as tie
@@ -49,13 +44,18 @@ lift-child-requires c κs =
     let f = c .before .before .before .before in
     let w = f .before .before .before .before .before .before .before .before .before .before .before .before .before .before .before .pre in
     let e = f .before .before .before .before .before .before .before .one-less .ensures (raising w) in
-    lifting w e (f .free-branch .ensures (branch w _ e)) (proxy-left w _ _ _ (f .before .before .before .before .take-out .ensures (removing w)) (c .before .if1 .taken))
+    lifting w e (f .free-branch .ensures (branch w _ e))
+    (proxy-left w _ _ _ (f .before .before .before .before .take-out .ensures (removing w)) (c .before .if1 .taken))
 
 mul-widths : tie.Need-mul-widths
-mul-widths c = omega (arith, room (c .before .before .before .before .before .before .before .before .before .before .before .before .before .before .before .before .before .before .before .before .before .before .pre))
+mul-widths c =
+    let f = c .before .before .before .before .before .before .before in
+    omega (arith, room (f .before .before .before .before .before .before .before .before .before .before .before .before .before .before .before .pre))
 
 element-write-widths : tie.Need-element-write-widths
-element-write-widths c = omega (arith, room (c .before .before .before .before .before .before .before .before .before .before .before .before .before .before .before .before .before .before .before .before .before .before .pre))
+element-write-widths c =
+    let f = c .before .before .before .before .before .before .before in
+    omega (arith, room (f .before .before .before .before .before .before .before .before .before .before .before .before .before .before .before .pre))
 
 same-length : tie.Need-same-length
 same-length c = search needs
@@ -65,7 +65,8 @@ returns c w =
     let l = c .before .before in
     let f = c .before .before .before .before .before .before .before in
     let e = f .before .before .before .before .before .before .before .one-less .ensures (raising w) in
-    gone-goes w e (f .free-branch .ensures (branch w _ e)) (proxy-left w _ _ _ (f .before .before .before .before .take-out .ensures (removing w)) (c .before .before .before .before .if1 .taken)) _ _
+    gone-goes w e (f .free-branch .ensures (branch w _ e))
+    (proxy-left w _ _ _ (f .before .before .before .before .take-out .ensures (removing w)) (c .before .before .before .before .if1 .taken)) _ _
     (l .lift-child .ensures) refl
 
 array-share-prefix-buf : tie.Need-array-share-prefix-buf
@@ -82,11 +83,24 @@ put-record-requires c κs =
     let f = c .before .before .before .before .before in
     let o = f .before .before .before .before in
     let s = o .before .before .before .before .before .before .before .before .before .before .before in
-    let w = s .pre in
-    (omega (arith, room w), (omega (arith, room w, f .free-branch .kept .0),
-    (omega (arith, slice-aggregate-put-record c, left-small w _ _ _ (o .take-out .ensures (removing w)) (c .before .before .if1 .left)),
-    (omega (arith, o .before .before .before .before .before .before .before .before .settled-at .ensures .0, settled-is w, bit-le (lastSettled (w .t .chain))),
-    omega (arith, o .before .before .before .before .before .before .back-at .ensures .0, holder-is w, holder-high w)))))
+    let w = s .pre in (
+      omega (arith, room w),
+      (
+        omega (arith, room w, f .free-branch .kept .0),
+        (
+          omega (arith, slice-aggregate-put-record c, left-small w _ _ _ (o .take-out .ensures (removing w)) (c .before .before .if1 .left)),
+          (
+            omega (
+              arith,
+              o .before .before .before .before .before .before .before .before .settled-at .ensures .0,
+              settled-is w,
+              bit-le (lastSettled (w .t .chain)),
+            ),
+            omega (arith, o .before .before .before .before .before .before .back-at .ensures .0, holder-is w, holder-high w),
+          ),
+        ),
+      ),
+    )
 
 same-length-2 : tie.Need-same-length-2
 same-length-2 c = search needs
@@ -96,8 +110,10 @@ returns-2 c w =
     let f = c .before .before .before .before .before .before .before .before in
     let o = f .before .before .before .before in
     let e = f .before .before .before .before .before .before .before .one-less .ensures (raising w) in
-    gone-stays w e (f .free-branch .ensures (branch w _ e)) _ _ _ (o .take-out .ensures (removing w)) (c .before .before .before .before .before .if1 .left) _ _ _ _ refl
-    (o .before .before .before .before .before .before .before .before .settled-at .ensures .0) (o .before .before .before .before .before .before .back-at .ensures .0) (c .before .before .put-record .ensures)
+    gone-stays w e (f .free-branch .ensures (branch w _ e)) _ _ _ (o .take-out .ensures (removing w))
+    (c .before .before .before .before .before .if1 .left) _ _ _ _ refl
+    (o .before .before .before .before .before .before .before .before .settled-at .ensures .0)
+    (o .before .before .before .before .before .before .back-at .ensures .0) (c .before .before .put-record .ensures)
 
 pub remove-at-spec : {M : Type 1} → statement M
 remove-at-spec =

@@ -1,11 +1,10 @@
 -- `remove_node::remove_of`: each test in its order, and the node taken out.
 use mathlib.Core.Path.{_≡_}
 use mathlib.Core.List.{List}
-use Prim.Native.Nat.{ℕ, _≤_}
+use Prim.Native.Nat.{ℕ}
 use native.Mathlib.Omega.{arith}
 use borrow.Author.Needs.{needs}
 use borrow.Author.Tests.{not-true, not-false}
-use lib.ListN.{length}
 use denote.Ref.{now}
 use Rattle.model.specs.Calls.Remove.{removeOf}
 use Rattle.theory_layout.specs.Widths.{Widths}
@@ -44,14 +43,16 @@ returns-3 c =
     let l = c .before .before in
     let s = l .before .before .before .before .before .before .before in
     let (t, r) = passing (now (s .args .image)) (s .pre .0) in
-    promised (refused-absent r (s .pre .1) _ (l .before .before .before .before .if1 .left) (l .before .before .before .if2 .left) _ (l .locate .ensures (t .0) (t .1) r) (not-true _ (c .if3 .taken)))
+    promised (refused-absent r (s .pre .1) _ (l .before .before .before .before .if1 .left) (l .before .before .before .if2 .left) _
+    (l .locate .ensures (t .0) (t .1) r) (not-true _ (c .if3 .taken)))
 
 remove-at-requires : tie.Need-remove-at-requires
 remove-at-requires c κs =
     let l = c .before .before .before .before in
     let s = l .before .before .before .before .before .before .before in
     let (t, r) = passing (now (s .args .image)) (s .pre .0) in
-    going r (s .pre .1) _ (l .before .before .before .before .if1 .left) (l .before .before .before .if2 .left) _ (l .locate .ensures (t .0) (t .1) r) (not-false _ (c .before .before .if3 .left))
+    going r (s .pre .1) _ (l .before .before .before .before .if1 .left) (l .before .before .before .if2 .left) _ (l .locate .ensures (t .0) (t .1) r)
+    (not-false _ (c .before .before .if3 .left))
 
 same-length-2 : tie.Need-same-length-2
 same-length-2 c = search needs
@@ -65,7 +66,8 @@ returns-4 c =
     let located = l .locate .ensures (t .0) (t .1) r in
     let short = l .before .before .before .before .if1 .left in
     let some-bytes = l .before .before .before .if2 .left in
-    promised (accepted r (s .pre .1) _ short some-bytes _ located e _ _ (c .before .before .remove-at .ensures (going r (s .pre .1) _ short some-bytes _ located e)))
+    promised (accepted r (s .pre .1) _ short some-bytes _ located e _ _
+    (c .before .before .remove-at .ensures (going r (s .pre .1) _ short some-bytes _ located e)))
 
 pub remove-of-spec : {M : Type 1} → statement M
 remove-of-spec =

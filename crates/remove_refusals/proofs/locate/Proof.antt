@@ -1,6 +1,6 @@
 -- `remove_refusals::locate`: whole entries, the parent, and the child among its children.
-use mathlib.Core.Path.{_≡_, refl, sym, ap, _∙_}
-use Prim.Native.Nat.{ℕ, _+_, _*_, _≤_, _<_}
+use mathlib.Core.Path.{_≡_, refl, sym}
+use Prim.Native.Nat.{_+_, _*_, _≤_, _<_}
 use native.Mathlib.Omega.{arith}
 use borrow.Author.Needs.{needs}
 use lib.ListN.{length}
@@ -35,7 +35,8 @@ returns-2 : tie.Need-returns-2
 returns-2 c =
     let f = c .before .before .before in
     let s = f .before .before .before .before .before in
-    λ st root r. no-parent _ st root r (now (s .args .path)) (f .before .before .if1 .left) (s .pre .1 .1 .0) (s .pre .1 .1 .1) _ (f .find-in .ensures) _ (c .before .if2 .taken)
+    λ st root r. no-parent _ st root r (now (s .args .path)) (f .before .before .if1 .left) (s .pre .1 .1 .0) (s .pre .1 .1 .1) _ (f .find-in .ensures) _
+    (c .before .if2 .taken)
     (c .nowhere2 .ensures)
 
 -- the parent's byte, and its room
@@ -45,7 +46,8 @@ parent : (f : tie.After-find-in) → f .find-in .result .number ≡ 0 → let s 
 parent f z =
     let s = f .before .before .before .before .before in
     let (t, r) = passing (now (s .args .image)) (s .pre .0) in
-    read-room (node-read _ (t .0) (t .1) r (now (s .args .path)) (f .before .before .if1 .left) (s .pre .1 .1 .0) (s .pre .1 .1 .1) _ (f .find-in .ensures) z _ refl .1)
+    read-room (node-read _ (t .0) (t .1) r (now (s .args .path)) (f .before .before .if1 .left) (s .pre .1 .1 .0) (s .pre .1 .1 .1) _
+    (f .find-in .ensures) z _ refl .1)
 
 mul-parent : tie.Need-mul-parent
 mul-parent c = omega (arith, parent (c .before .before .before .before) (c .before .before .if2 .left))
@@ -64,7 +66,8 @@ returns-3 c =
     let i = c .before .before .before .before .before .before in
     let f = i .before .before in
     let s = f .before .before .before .before .before in
-    λ st root r. literal-located _ st root r (now (s .args .path)) (f .before .before .if1 .left) (s .pre .1 .1 .0) (s .pre .1 .1 .1) _ (f .find-in .ensures) (i .if2 .left) _ refl _
+    λ st root r. literal-located _ st root r (now (s .args .path)) (f .before .before .if1 .left) (s .pre .1 .1 .0) (s .pre .1 .1 .1) _
+    (f .find-in .ensures) (i .if2 .left) _ refl _
     (c .before .if3 .taken) (c .nowhere3 .ensures)
 
 four-requires : tie.Need-four-requires
@@ -75,9 +78,11 @@ stand-of-requires c κs =
     let i = c .before .before .before .before .before .before in
     let f = i .before .before in
     let s = f .before .before .before .before .before in
-    let (t, r) = passing (now (s .args .image)) (s .pre .0) in
-    (kids _ (t .0) (t .1) r (now (s .args .path)) (f .before .before .if1 .left) (s .pre .1 .1 .0) (s .pre .1 .1 .1) _ (f .find-in .ensures) (i .if2 .left) _ refl (c .before .if3 .left),
-    s .pre .1 .0)
+    let (t, r) = passing (now (s .args .image)) (s .pre .0) in (
+      kids _ (t .0) (t .1) r (now (s .args .path)) (f .before .before .if1 .left) (s .pre .1 .1 .0) (s .pre .1 .1 .1) _ (f .find-in .ensures)
+          (i .if2 .left) _ refl (c .before .if3 .left),
+      s .pre .1 .0,
+    )
 
 returns-4 : tie.Need-returns-4
 returns-4 c =
@@ -85,7 +90,8 @@ returns-4 c =
     let i = d .before .before .before .before .before .before in
     let f = i .before .before in
     let s = f .before .before .before .before .before in
-    λ st root r. child-located _ st root r (now (s .args .path)) (f .before .before .if1 .left) (s .pre .1 .1 .0) (s .pre .1 .1 .1) _ (f .find-in .ensures) (i .if2 .left) _ refl _ _
+    λ st root r. child-located _ st root r (now (s .args .path)) (f .before .before .if1 .left) (s .pre .1 .1 .0) (s .pre .1 .1 .1) _
+    (f .find-in .ensures) (i .if2 .left) _ refl _ _
     (d .four .ensures) (d .before .if3 .left) (c .stand-of .ensures)
 
 pub locate-spec : {M : Type 1} → statement M

@@ -17,7 +17,8 @@ same-length c = search needs
 returns : tie.Need-returns
 returns c =
     let s = c .before .before .before .before .before .before in
-    let e = remove-refused (now (s .args .image)) (c .before .check-widths .result) (c .before .check-widths .ensures .0) (c .if1 .taken) (now (s .args .path)) in
+    let e = remove-refused (now (s .args .image)) (c .before .check-widths .result) (c .before .check-widths .ensures .0) (c .if1 .taken)
+    (now (s .args .path)) in
     (ap (λ (z : ℕ × List ℕ). z .0) e, ap (λ (z : ℕ × List ℕ). z .1) e)
 
 remove-of-requires : tie.Need-remove-of-requires
