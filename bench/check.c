@@ -1,17 +1,11 @@
 /* The check against reading the image once and against a plain C check, side by side in one run. */
 #include <stdio.h>
 #include <stdlib.h>
-#include <time.h>
 
 #include "../include/nichelarder.h"
 #include "images.h"
 #include "plain.h"
-
-static double now(void) {
-    struct timespec t;
-    clock_gettime(CLOCK_MONOTONIC, &t);
-    return (double)t.tv_sec + 1e-9 * (double)t.tv_nsec;
-}
+#include "timing.h"
 
 static uint64_t sum(const uint8_t *p, size_t n) {
     uint64_t s = 0;

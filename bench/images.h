@@ -100,6 +100,47 @@ static inline unsigned fill_literals(uint8_t *at, unsigned left, unsigned page) 
     return left;
 }
 
+/* Fans on the pages from `page` on: helper records with an empty literal and up to 500 proxies; then the records that they lead to, under helpers, filled
+ * by `fill`: so many pages in all. Proxies to the fans are put at `at` in the record on page `holder`; gives where they end, and adds to *shown how many
+ * nodes they stand for. */
+static inline uint8_t *put_fans(uint8_t *image, unsigned page, unsigned count, unsigned holder, uint8_t *at,
+                                unsigned (*fill)(uint8_t *, unsigned, unsigned), uint32_t *shown) {
+    unsigned fans = (count + 500) / 501, next = page + fans, end = page + count;
+    for (unsigned f = page; f < page + fans; f++) {
+        uint8_t *fan = image + 4096u * f, *in = put_node(put_node(fan, 4, 0, 0), 2, 1, 6);
+        at = put_proxy(at, f);
+        ++*shown;
+        for (unsigned k = 0; k < 500 && next < end; k++, next++) {
+            in = put_proxy(in, next);
+            uint8_t *record = image + 4096u * next;
+            unsigned n = 6 + fill(record + 6, 4074, next);
+            for (unsigned i = 6; i < n; i += record[i + 4] + 256u * record[i + 5]) ++*shown;
+            put_node(record, 4, 0, n);
+            put_trailer(record, 1, 0, n, f);
+        }
+        put_node(fan, 4, 0, (unsigned)(in - fan));
+        put_trailer(fan, 1, 0, (unsigned)(in - fan), holder);
+    }
+    return at;
+}
+
+/* An image without a free page: the root begins (or, with `last`, ends) with an aggregate that is the root of the record on page 2 and takes so many
+ * records, that one included, under fans; all other pages hold records under fans of the root. Gives the aggregate's child number. */
+static inline uint32_t make_branch(uint8_t *image, unsigned pages, unsigned records, int last, unsigned (*fill)(uint8_t *, unsigned, unsigned)) {
+    memset(image, 0, (size_t)pages * 4096);
+    put_settings(image, pages);
+    uint32_t before = 0, inside = 0;
+    uint8_t *root = image + 4096, *branch = image + 8192, *at = root + 6, *end = put_fans(image, 3, records - 1, 2, branch + 6, fill, &inside);
+    put_node(branch, 1, 9, (unsigned)(end - branch));
+    put_trailer(branch, 1, 0, (unsigned)(end - branch), 1);
+    if (!last) at = put_proxy(at, 2);
+    at = put_fans(image, 2 + records, pages - 2 - records, 1, at, fill, &before);
+    if (last) at = put_proxy(at, 2);
+    put_node(root, 1, 7, (unsigned)(at - root));
+    put_trailer(root, 1, 1, (unsigned)(at - root), 0);
+    return last ? before : 0;
+}
+
 /* An image with `free` free pages. The root's record begins (or, with `last`, ends) with a proxy to the first of `full` nested records of 4,080
  * bytes, each of which begins with a proxy to the next; if `full` is 0, to one with two nodes. An insert after the first node of the deepest
  * splits all the `full` ones (and none if there are none). All other pages hold records filled by `fill`, under fans of up to 500 proxies.
@@ -109,10 +150,10 @@ static inline uint32_t make_nested(uint8_t *image, unsigned pages, unsigned free
     memset(image, 0, (size_t)pages * 4096);
     put_settings(image, pages);
     uint32_t before = 0;
-    unsigned nested = full ? full : 1, end = pages - free, fans = (end - 2 - nested + 500) / 501, next = 2 + nested + fans;
+    unsigned nested = full ? full : 1;
     uint8_t *root = image + 4096, *at = root + 6;
     if (!last) at = put_proxy(at, 2);
-    for (unsigned f = 0; f < fans; f++) at = put_proxy(at, 2 + nested + f);
+    at = put_fans(image, 2 + nested, pages - free - 2 - nested, 1, at, fill, &before);
     if (last) at = put_proxy(at, 2);
     put_node(root, 1, 7, (unsigned)(at - root));
     put_trailer(root, 1, 1, (unsigned)(at - root), 0);
@@ -127,21 +168,6 @@ static inline uint32_t make_nested(uint8_t *image, unsigned pages, unsigned free
         put_node(page, 4, 0, (unsigned)(at - page));
         put_trailer(page, 1, 0, (unsigned)(at - page), 1 + i);
     }
-    for (unsigned f = 0; f < fans; f++) {
-        uint8_t *fan = image + 4096u * (2 + nested + f);
-        at = put_node(put_node(fan, 4, 0, 0), 2, 1, 6);
-        before++;
-        for (unsigned k = 0; k < 500 && next < end; k++, next++) {
-            at = put_proxy(at, next);
-            uint8_t *page = image + 4096u * next;
-            unsigned n = 6 + fill(page + 6, 4074, next);
-            for (unsigned i = 6; i < n; i += page[i + 4] + 256u * page[i + 5]) before++;
-            put_node(page, 4, 0, n);
-            put_trailer(page, 1, 0, n, 2 + nested + f);
-        }
-        put_node(fan, 4, 0, (unsigned)(at - fan));
-        put_trailer(fan, 1, 0, (unsigned)(at - fan), 1);
-    }
     return last ? before + 1 : 1;
 }
 
@@ -153,12 +179,15 @@ static inline unsigned fill_small(uint8_t *at, unsigned left, unsigned page) {
     return n;
 }
 
+/* How many levels the fills below may take: those under the root. */
+static unsigned fill_levels = 23;
+
 /* Aggregates of which each is the only child of the last, down to level 24. */
 static inline unsigned fill_nested(uint8_t *at, unsigned left, unsigned page) {
     unsigned n = 0;
     (void)page;
-    while (n + 6 * 23 <= left)
-        for (unsigned d = 23; d >= 1; d--, n += 6) put_node(at + n, 1, 9, 6 * d);
+    while (n + 6 * fill_levels <= left)
+        for (unsigned d = fill_levels; d >= 1; d--, n += 6) put_node(at + n, 1, 9, 6 * d);
     return n;
 }
 
@@ -194,7 +223,7 @@ static inline unsigned comb(uint8_t *at, unsigned depth) {
 static inline unsigned fill_combs(uint8_t *at, unsigned left, unsigned page) {
     unsigned n = 0;
     (void)page;
-    while (n + 22 * 12 + 6 <= left) n += comb(at + n, 22);
+    while (n + (fill_levels - 1) * 12 + 6 <= left) n += comb(at + n, fill_levels - 1);
     return n;
 }
 

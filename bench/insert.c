@@ -1,28 +1,12 @@
 /* An insert into a 4 MB image against the check of the same image, side by side in one run. */
 #include <stdio.h>
 #include <stdlib.h>
-#include <time.h>
 
 #include "../include/nichelarder.h"
 #include "images.h"
+#include "timing.h"
 
-enum { LEN = 4194304, TIMES = 51 };
-
-static double now(void) {
-    struct timespec t;
-    clock_gettime(CLOCK_MONOTONIC, &t);
-    return (double)t.tv_sec + 1e-9 * (double)t.tv_nsec;
-}
-
-static int by_size(const void *a, const void *b) {
-    double x = *(const double *)a, y = *(const double *)b;
-    return (x > y) - (x < y);
-}
-
-static double median(double *t) {
-    qsort(t, TIMES, sizeof *t, by_size);
-    return t[TIMES / 2];
-}
+enum { LEN = 4194304 };
 
 /* One row, medians: both calls on fresh copies of the image, in turns; the copy is not timed. The ratio is that of a turn. */
 static int row(const char *name, const char *where, const uint8_t *image, uint8_t *copy, uint32_t child, uint32_t splits) {

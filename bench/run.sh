@@ -8,7 +8,9 @@ echo "bench: proving and building the archive (minutes)"
 rt staticlib nichelarder >/dev/null
 "$cc" "${flags[@]}" bench/check.c target/staticlib/libnichelarder.a -o target/bench_check
 "$cc" "${flags[@]}" bench/insert.c target/staticlib/libnichelarder.a -o target/bench_insert
+"$cc" "${flags[@]}" bench/remove.c target/staticlib/libnichelarder.a -o target/bench_remove
 "$cc" "${flags[@]}" bench/tree.c target/staticlib/libnichelarder.a -lsqlite3 -o target/bench_tree
 target/bench_check
 target/bench_insert
+target/bench_remove
 target/bench_tree

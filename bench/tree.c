@@ -3,18 +3,12 @@
 #include <sqlite3.h>
 #include <stdio.h>
 #include <stdlib.h>
-#include <time.h>
 
 #include "../include/nichelarder.h"
 #include "calls.h"
+#include "timing.h"
 
 enum { NODES = 10000, LOOKUPS = 1000, MOST = 1024 * 4096 };
-
-static double now(void) {
-    struct timespec t;
-    clock_gettime(CLOCK_MONOTONIC, &t);
-    return (double)t.tv_sec + 1e-9 * (double)t.tv_nsec;
-}
 
 static void fail(const char *what) {
     printf("bench: %s\n", what);

@@ -1,4 +1,5 @@
-/* A front panel in small: makes an image of three pages, puts two nodes into it, finds the way back to one of them, and prints all there is.
+/* A front panel in small: makes an image of three pages, puts two nodes into it, finds the way back to one of them, prints all there is, removes one
+ * of them and prints all again.
  * From the repository's root: rt staticlib nichelarder && cc -std=c99 examples/panel.c target/staticlib/libnichelarder.a -o panel && ./panel */
 #include "../include/nichelarder.h"
 #include <stdio.h>
@@ -65,4 +66,13 @@ static int print_all(void) {
     return 0;
 }
 
-int main(void) { return format() || fill() || find_and_climb() || print_all(); }
+/* The first child of the root, with all under it; places from before are void, and what was child 1 is child 0. */
+static int remove_first(void) {
+    const uint8_t first[4] = {0, 0, 0, 0};
+    if (refused("remove", nl_remove(image, sizeof image, first, sizeof first)))
+        return 1;
+    printf("aggregate 300 is removed\n");
+    return 0;
+}
+
+int main(void) { return format() || fill() || find_and_climb() || print_all() || remove_first() || print_all(); }

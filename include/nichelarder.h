@@ -4,7 +4,7 @@
  * record. The store keeps one ordered tree: an aggregate has a label and children, a literal a label and 0 to 520 content bytes; both have an
  * origin, which says where the field came from.
  * A path is a list of child numbers from 0, four bytes each, low byte first; the empty path is the root. A place is a page and a byte
- * offset at which a node starts; it lasts until the next accepted insert or format.
+ * offset at which a node starts; it lasts until the next accepted insert, removal or format.
  *
  * Each function returns 0, or the number of the first refusal that applies, in the order in which its comment names them. A refused call writes
  * zeros to its answer numbers and changes no byte of the image or of a byte buffer. Any bytes and any numbers may be handed over, but
@@ -12,7 +12,8 @@
  *  - a length is the number of bytes that the pointer leads to;
  *  - a buffer that is lent for writing, as are all answer numbers, overlaps neither the image nor another buffer of the same call.
  * A buffer that is only read (matrix, path, parent, content) may lie in the image, also where the call changes the image: what counts are its bytes
- * when the call is made. So format keeps its own matrix by image + 16, 256, and insert copies a content from where nl_read has found it.
+ * when the call is made. So format keeps its own matrix by image + 16, 256, insert copies a content from where nl_read has found it, and the path of a
+ * removal may stand in the node that it removes.
  * The image and the buffers stay the caller's; the library keeps no pointer. The functions keep no state and allocate nothing: they may be called
  * from several threads on different images. They need up to 28 KB of stack or, where records are nested deeply in one another, 10 KB and some
  * 390 bytes for each: up to 416 KB.
@@ -63,16 +64,19 @@ enum nl_refusal {
     NL_ABSENT = 7,    /* the path names no node, or is not whole entries of four bytes: look the node up again */
     NL_CLOSED = 8,    /* insert: the parent is a literal, which has no children: choose an aggregate */
     NL_GAP = 9,       /* insert: the child number is above the number of children: the number of children itself appends */
-    NL_STRAY = 10,    /* no node starts at the place: it is from before an insert or a format; find it again by its path */
+    NL_STRAY = 10,    /* no node starts at the place: it is from before an insert, a removal or a format; find it again by its path */
     NL_SHORT = 11,    /* the lent buffer is too short, and nothing was written: NL_PATH bytes take every path, 2 * NL_PAGES every list of records */
-    NL_FULL = 12,     /* insert: a page is needed and none is free: nothing was changed; format a larger image and insert again what this one holds */
-    NL_ORIGIN = 13    /* insert: the origin is above 3: give one of the four; tested directly after 5 */
+    NL_FULL = 12,     /* insert: a page is needed and none is free: nothing was changed; remove nodes to free pages, or format a larger image and
+                         insert again what this one holds */
+    NL_ORIGIN = 13,   /* insert: the origin is above 3: give one of the four; tested directly after 5 */
+    NL_EMPTY = 14     /* remove: the path is empty, and the root cannot be removed: format instead; tested directly after 4 */
 };
 
-/* The names of the numbers 0 to 13 for messages: static const char *const names[] = NL_REFUSAL_NAMES; */
+/* The names of the numbers 0 to 14 for messages: static const char *const names[] = NL_REFUSAL_NAMES; */
 #define NL_REFUSAL_NAMES                                                                                                                  \
     { "ok", "wrong length", "wrong settings", "broken image", "path too long", "wrong kind", "content too long", "no such node",           \
-      "parent is a literal", "child number too high", "no node at this place", "buffer too short", "store full", "wrong origin" }
+      "parent is a literal", "child number too high", "no node at this place", "buffer too short", "store full", "wrong origin",           \
+      "path is empty" }
 
 /* Makes any bytes an image with a root aggregate alone, of origin 0. matrix: 256 entries, 16 * class of parent + class of child, each 0
  * (apart) or 2 (free choice); a label's class is the label below 15, else 15. Usual: target 128, tolerance 409, form 1, matrix all 2.
@@ -90,6 +94,11 @@ uint32_t nl_check(const uint8_t *image, size_t image_len);
  * places from before it are void. Refusals 1, 3, 4, 5, 13, 6, 7, 8, 9, 12. */
 uint32_t nl_insert(uint8_t *image, size_t image_len, const uint8_t *parent, size_t parent_len, uint32_t child, uint32_t kind, uint32_t origin,
                    uint16_t label, const uint8_t *content, size_t content_len, uint32_t answer[3], int32_t *lean);
+
+/* Removes the node that the path names, with all under it: later siblings move down by one, and pages that are no longer needed come free. It needs no
+ * free page: 12 never applies. An accepted removal changes nothing of other nodes but may move them: places from before it are void.
+ * Refusals 1, 3, 4, 14, 7. */
+uint32_t nl_remove(uint8_t *image, size_t image_len, const uint8_t *path, size_t path_len);
 
 /* Path to place: page, offset. Refusals 1, 3, 4, 7. */
 uint32_t nl_find(const uint8_t *image, size_t image_len, const uint8_t *path, size_t path_len, uint32_t place[2]);

@@ -55,6 +55,18 @@ static uint32_t insert_within(size_t path, size_t path_len, uint32_t child, uint
     return a;
 }
 
+/* Remove with the path in the image, and with a copy of it. */
+static uint32_t remove_within(size_t path, size_t path_len) {
+    uint32_t a, b;
+    memcpy(copy, image + path, path_len);
+    memcpy(before, image, len);
+    a = nl_remove(image, len, image + path, path_len);
+    b = nl_remove(twin, len, copy, path_len);
+    expect(a == b && !memcmp(image, twin, len), "remove by a path in the image differs from remove by a copy");
+    expect(nl_check(image, len) == 0 && (!a || !memcmp(image, before, len)), "the image after a removal");
+    return a;
+}
+
 static void matrices(void) {
     size_t at;
     uint32_t i;
@@ -79,7 +91,7 @@ static void matrices(void) {
     expect(format_within(3, 1, 256) == NL_SETTINGS, "a matrix with another value");
 }
 
-/* Four zeros in the image, the path of the first child: on page 0, or behind the record of page 1, where the insert itself may write. */
+/* Four zeros in the image, the path of the first child: on page 0, or behind the record of page 1, where the call itself may write. */
 static size_t zeros_at(void) {
     size_t used = image[NL_PAGE + 4082] + 256u * image[NL_PAGE + 4083];
     return below(2) && used + 4 <= NL_CAPACITY ? NL_PAGE + used : 8;
@@ -120,6 +132,53 @@ static void copies(int apart) {
     }
 }
 
+static uint32_t root_children(void) {
+    uint32_t node[6];
+    expect(nl_read(image, len, 1, 0, node) == 0, "no root");
+    return node[2];
+}
+
+/* A literal whose content is a path of one entry, put into both images; gives where in the image the content lies, or 0 if the store is full. */
+static size_t path_put(const uint8_t *parent, size_t parent_len, uint32_t child, uint32_t entry) {
+    uint8_t content[4];
+    uint32_t place[3], node[6];
+    int32_t lean;
+    int i;
+    for (i = 0; i < 4; i++)
+        content[i] = (uint8_t)(entry >> (8 * i));
+    if (nl_insert(image, len, parent, parent_len, child, NL_LITERAL, NL_WIRE, 6, content, 4, place, &lean))
+        return 0;
+    expect(nl_insert(twin, len, parent, parent_len, child, NL_LITERAL, NL_WIRE, 6, content, 4, node, &lean) == 0, "insert differs");
+    expect(nl_read(image, len, place[0], place[1], node) == 0 && node[4] == 4, "no content");
+    return node[3];
+}
+
+/* Paths are taken from literals: a literal that names itself, which the call overwrites or zeroes, one that names a node beside it, and one that names the
+ * branch in which it stands; then from zeros, until the root is alone. */
+static void removals(void) {
+    static const uint8_t first[4];
+    uint32_t turn, n, child, entry;
+    size_t at;
+    expect(remove_within(8, 4) == 0, "remove refused"); /* a page for the literals */
+    for (turn = 0; turn < 200 && (n = root_children()) > 1; turn++) {
+        child = below(n + 1);
+        entry = below(2) ? child : below(n + 1);
+        at = path_put(NULL, 0, child, entry);
+        if (at && below(4) == 0)
+            expect(remove_within(at, below(4)) != 0 && remove_within(at, 5) == NL_ABSENT, "a path that is not whole");
+        expect(remove_within(at ? at : zeros_at(), 4) == 0, "remove refused");
+        if (below(3) == 0)
+            expect(remove_within(zeros_at(), 4) == 0, "remove refused");
+    }
+    expect(insert_within(8, 0, 0, NL_AGGREGATE, 3, 8, 0) == 0, "no branch");
+    while ((at = path_put(first, 4, 0, 0)) == 0)
+        expect(remove_within(8, 4) == 0 && insert_within(8, 0, 0, NL_AGGREGATE, 3, 8, 0) == 0, "no branch");
+    expect(remove_within(at, 4) == 0, "remove the branch in which the path stands");
+    while (root_children())
+        expect(remove_within(zeros_at(), 4) == 0, "remove refused");
+    expect(remove_within(zeros_at(), 4) == NL_ABSENT && remove_within(8, 0) == NL_EMPTY, "the root alone");
+}
+
 static void empty(void) {
     uint32_t number, six[6];
     int32_t lean;
@@ -130,10 +189,12 @@ static void empty(void) {
     expect(nl_climb(image, len, six[0], six[1], none, 0, &number) == NL_SHORT && number == 0, "climb to a buffer that is null");
     expect(nl_records(image, len, none, 0, &number) == NL_SHORT && number == 0, "records to a buffer that is null");
     memcpy(before, image, len);
+    expect(nl_remove(image, len, none, 0) == NL_EMPTY && !memcmp(before, image, len), "remove with an empty path that is null");
     expect(nl_format(image, len, MOST / NL_PAGE, 128, 409, 1, none, 0, 7) == NL_SETTINGS && !memcmp(before, image, len), "format with a matrix that is null");
     /* an image of no bytes */
     expect(nl_format(none, 0, 2, 128, 409, 1, copy, 256, 7) == NL_LENGTH && nl_check(none, 0) == NL_LENGTH, "an image that is null");
     expect(nl_insert(none, 0, none, 0, 0, NL_AGGREGATE, NL_WIRE, 1, none, 0, six, &lean) == NL_LENGTH, "an image that is null: insert");
+    expect(nl_remove(none, 0, none, 0) == NL_LENGTH, "an image that is null: remove");
     expect(nl_find(none, 0, none, 0, six) == NL_LENGTH && nl_read(none, 0, 1, 0, six) == NL_LENGTH, "an image that is null: find, read");
     expect(nl_climb(none, 0, 1, 0, none, 0, &number) == NL_LENGTH && nl_next(none, 0, 1, 0, six) == NL_LENGTH, "an image that is null: climb, next");
     expect(nl_records(none, 0, none, 0, &number) == NL_LENGTH, "an image that is null: records");
@@ -143,8 +204,10 @@ int main(void) {
     matrices();
     copies(0);
     empty();
+    removals();
     copies(1);
     empty();
+    removals();
     printf("buffers: %lu tests\n", tests);
     return 0;
 }

@@ -1,4 +1,5 @@
-/* The deepest image, a chain through 1,022 record pages, passes every call, and the longest cascade is done; run under a small stack. */
+/* The deepest image, a chain through 1,022 record pages, passes every call, the longest cascade is done, and the deepest branch is removed; run under a
+ * small stack. */
 #include <stdio.h>
 #include <stdlib.h>
 
@@ -34,6 +35,40 @@ static int inserts(uint8_t *image, size_t len) {
     return 0;
 }
 
+/* The chain in one branch: its node is the root of the record on page 2, or stands, with the proxy to that page, in the root's record. */
+static void make_deep_branch(uint8_t *image, int is_root) {
+    uint8_t *root = image + 4096;
+    make_chain(image, 1024, fill_small);
+    if (is_root) {
+        put_node(image + 8192, 1, 9, 14 + 6 * 677);
+        return;
+    }
+    memset(root, 0, 4096);
+    put_proxy(put_node(put_node(root, 1, 7, 20), 1, 9, 14), 2);
+    put_trailer(root, 1, 1, 20, 0);
+}
+
+/* The first child of the root, all 1,022 pages of records under it, is removed: page 1 has the only record, and every other page is free. */
+static int removals(uint8_t *image, size_t len) {
+    static const uint8_t first[4];
+    for (int is_root = 0; is_root < 2; is_root++) {
+        uint32_t read[6], written, left = is_root ? 677 : 0;
+        uint8_t record[2];
+        make_deep_branch(image, is_root);
+        if (nl_check(image, len) || nl_read(image, len, 1, 0, read) || read[2] != left + 1) return wrong("the image with a branch");
+        if (nl_remove(image, len, first, 4)) return wrong("remove, a branch of 1,022 records");
+        if (nl_check(image, len) || nl_read(image, len, 1, 0, read) || read[2] != left) return wrong("the image after the removal");
+        if (nl_records(image, len, record, sizeof record, &written) || written != 2 || record[0] != 1 || record[1]) return wrong("records are left");
+        for (size_t i = 8192; i < len; i++)
+            if (image[i]) return wrong("a page is not free");
+    }
+    /* the first node of the root's row stands in the last record of the chain, and only that one changes */
+    make_chain(image, 1024, fill_small);
+    if (nl_remove(image, len, first, 4) || nl_check(image, len)) return wrong("remove from the last record");
+    if (image[1023 * 4096 + 4082] + 256 * image[1023 * 4096 + 4083] != 676 * 6 + 6) return wrong("the last record after the removal");
+    return 0;
+}
+
 int main(void) {
     size_t len = 4194304;
     uint8_t *image = malloc(len), path[4];
@@ -54,7 +89,7 @@ int main(void) {
     /* from the last node of the deepest record up one, and from the root all the way down */
     if (nl_next(image, len, 1023, 4062, following) || following[1] != 1022 || following[2] != 14) return wrong("next, upwards");
     if (nl_next(image, len, 1, 0, following) || following[1] != 1023 || following[2] != 6) return wrong("next, downwards");
-    if (inserts(image, len)) return 1;
+    if (inserts(image, len) || removals(image, len)) return 1;
     free(image);
     puts("deep: passed");
     return 0;

@@ -1,4 +1,4 @@
-"""Writes a call script of hostile calls with the reference's answers: images with a few bytes wrong and any arguments, through all eight calls.
+"""Writes a call script of hostile calls with the reference's answers: images with a few bytes wrong and any arguments, through all calls.
 
     make_hostile.py SEED CALLS > SCRIPT
 
@@ -20,7 +20,7 @@ stores = {}
 
 
 def read_store(image):
-    """A reading is remembered: the calls on an image that stays are many. Not for calls that write, since growth works on what was read."""
+    """A reading is remembered: the calls on an image that stays are many. Not for calls that write, since they work on what was read."""
     key = zlib.crc32(image), len(image)
     if key not in stores:
         if len(stores) > 50:
@@ -51,9 +51,17 @@ def some_number(rng):
     return rng.choice((0, 1, 2, 3, rng.randrange(30), rng.randrange(5000), 65535, 65536, 2**31, 2**32 - 1))
 
 
+def some_removal(rng, entries):
+    """A removal by a path that is right or nearly so, or by any bytes."""
+    path = made.some_path(rng, entries) if rng.random() < 0.8 else rng.randbytes(rng.choice((0, 1, 2, 3, 4, 8, 91, 92, 93, 200)))
+    return "remove " + ref.to_hex(path)
+
+
 def some_call(rng, entries):
     """A call with arguments that are right, nearly right, or wrong."""
-    kind = rng.randrange(20)
+    kind = rng.randrange(24)
+    if kind >= 20:
+        return some_removal(rng, entries)
     if kind < 5:
         content = bytes([rng.randrange(256)]) * rng.choice((0, 0, 1, 6, 100, 519, 520, 521, 600))
         child = rng.choice((0, 0, 1, rng.randrange(8), some_number(rng)))
@@ -109,7 +117,7 @@ def main(seed, calls):
                 except ref.Refused:
                     entries = []
                 call = some_call(rng, entries)
-                ref.read_store = uncached if call.startswith("insert") else read_store
+                ref.read_store = uncached if call.startswith(("insert", "remove")) else read_store
                 made.ask(call, hurt, out)
                 ref.read_store = read_store
                 numbers[call.split(" ")[0] + " " + out[-1].split(" ")[1]] += 1

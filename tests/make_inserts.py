@@ -13,6 +13,7 @@ import time
 
 import make_scripts as made
 import reference as ref
+from reference import path_bytes
 
 LONGEST = 9000                                        # no line is longer
 NEAR = ref.CAPACITY - ref.HEADER - ref.CONTENT        # from here on the biggest literal splits the record
@@ -61,14 +62,10 @@ def path_to(record, node):
         node, record = siblings[at], record.holder
 
 
-def path_bytes(numbers):
-    return b"".join([number.to_bytes(4, "little") for number in numbers])
-
-
 # ---- One store
 
 class Done(Exception):
-    """The script has its number of inserts."""
+    """The script has its number of calls."""
 
 
 class Counts:
@@ -82,6 +79,10 @@ class Counts:
         self.leans = [0, 0]
         self.stores_of = dict.fromkeys(ref.TARGETS, 0)
         self.halves = {target: [0, 0] for target in ref.TARGETS}      # splits at an exact half: to the number below, and above
+
+    def calls(self):
+        """How many count for the length of the script."""
+        return self.inserts
 
     def target(self, rng):
         """The ends and the usual one now and then, else one whose halves were not both met yet, of those one with the fewest stores."""
@@ -142,10 +143,14 @@ class Larder:
         self.write("= " + " ".join([str(field) for field in answer] + [ref.checksum(self.image)]))
         return answer
 
+    def begin(self):
+        """To be called before each call that counts."""
+        if self.counts.calls() == self.limit:
+            raise Done
+
     def insert(self, path, child, kind, label, content=b"", origin=None):
         """One insert, of any origin if none is given; gives its number."""
-        if self.counts.inserts == self.limit:
-            raise Done
+        self.begin()
         if origin is None:
             origin = self.origin()
         try:
@@ -487,23 +492,30 @@ class Larder:
         self.insert(path, child, kind, label, content, origin)
 
     def damaged(self):
-        """An insert into an image with one byte wrong; the byte is put right after it."""
-        if self.counts.inserts == self.limit:
-            raise Done
-        page = self.rng.randrange(self.pages) * ref.PAGE
-        at = page + self.rng.choice((0, 1, 2, 4, 5, self.rng.randrange(ref.PAGE), 4080, 4081, 4082, 4084, 4090))
-        old, new, origin = self.image[at], self.rng.choice((self.rng.randrange(256), self.rng.randrange(6))), self.origin()
-        self.image[at] = new
-        self.write("B %d %02x" % (at, new))
+        """An insert into an image with one byte wrong; if it is refused, the byte is put right after it."""
+        self.begin()
+        at, old = self.hurt()
+        origin = self.origin()
         answer = self.ask("insert - 0 2 %d %d 41" % (origin, self.labels[0]))
         if answer[0]:
-            self.image[at] = old
-            self.write("B %d %02x" % (at, old))
+            self.put_byte(at, old)
             self.counts.inserts += 1
             self.counts.refused[answer[0]] = self.counts.refused.get(answer[0], 0) + 1
         else:
             self.store = ref.read_store(self.image)
             self.count(answer, 2, origin)
+
+    def hurt(self):
+        """Puts one byte wrong; gives where, and the byte that was there."""
+        page = self.rng.randrange(self.pages) * ref.PAGE
+        at = page + self.rng.choice((0, 1, 2, 4, 5, self.rng.randrange(ref.PAGE), 4080, 4081, 4082, 4084, 4090))
+        old = self.image[at]
+        self.put_byte(at, self.rng.choice((self.rng.randrange(256), self.rng.randrange(6))))
+        return at, old
+
+    def put_byte(self, at, value):
+        self.image[at] = value
+        self.write("B %d %02x" % (at, value))
 
     def grow(self):
         """Grows the store in a few of the ways until it has had its share of inserts or has been full for a while."""
@@ -531,16 +543,16 @@ class Larder:
                 full += self.rng.choice(ways)() == ref.FULL
 
 
-def main(seed, count, out=sys.stdout):
-    rng, counts, start = random.Random(seed), Counts(), time.time()
+def main(seed, count, counts=Counts, larder=Larder, out=sys.stdout):
+    rng, counts, start = random.Random(seed), counts(), time.time()
     out.write("V 1 %s %d\n" % (ref.RULES, LONGEST))
-    while counts.inserts < count:
-        larder = Larder(rng, counts, out, count)
+    while counts.calls() < count:
+        store = larder(rng, counts, out, count)
         try:
-            larder.grow()
+            store.grow()
         except Done:
             pass
-        larder.ask("check")
+        store.ask("check")
     for line in counts.lines():
         out.write("# %s\n" % line)
         print(line, file=sys.stderr)

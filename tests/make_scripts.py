@@ -2,8 +2,10 @@
 
     make_scripts.py SEED STORES DAMAGED > SCRIPT
 
-STORES images are grown; after each, calls that need no insert are asked, then inserts with right and wrong origins; nodes of each kind get right and
-wrong origins, and DAMAGED variants of the image are made: all these are checked (and, now and then, asked). The same seed gives the same script.
+First comes a small image with helpers in one another, from which each node is removed. Then STORES images are grown, some of them thinned by removals;
+after each, calls that change nothing are asked, then inserts with right and wrong origins, then removals, accepted and refused; nodes of each kind get
+right and wrong origins, and DAMAGED variants of the image are made: all these are checked (and, now and then, asked). The same seed gives the same
+script.
 """
 
 import random
@@ -32,12 +34,21 @@ def grow_store(rng):
         parents = [e for e in entries if e.node.kind == ref.AGGREGATE and len(e.path) <= 22]
         parent = parents[-1] if rng.random() < deep * 0.5 else rng.choice(parents)
         child = rng.choice((0, parent.children, rng.randrange(parent.children + 1)))
-        path = b"".join(n.to_bytes(4, "little") for n in parent.path)
         kind = rng.choice((1, 2))
         size = rng.choice((0, 1, 30, 200, 520)) if rng.random() < long else rng.randrange(40)
         content = bytes([rng.randrange(256)]) * size if kind == 2 else b""
-        ref.insert(image, path, child, kind, rng.randrange(ref.ORIGINS), rng.choice((0, 3, 14, 15, 300, 65535)), content)
+        ref.insert(image, ref.path_bytes(parent.path), child, kind, rng.randrange(ref.ORIGINS), rng.choice((0, 3, 14, 15, 300, 65535)), content)
+    if rng.random() < 0.5:
+        thin(rng, image)
     return image
+
+
+def thin(rng, image):
+    """Removes every second to tenth leaf, from the last back: helpers are left with one child, records with little."""
+    share = rng.randint(2, 10)
+    leaves = [e.path for e in ref.document_order(ref.read_store(image)) if not e.children]
+    for path in reversed(leaves[::share]):
+        ref.remove(image, ref.path_bytes(path))
 
 
 def pieces(total):
@@ -84,7 +95,7 @@ def some_path(rng, entries):
     numbers = list(rng.choice(entries).path) if entries else []
     if rng.random() < 0.3:
         numbers = numbers + [rng.choice((0, 0, 1, 5, 2**32 - 1))] * rng.choice((1, 1, 2, 24))
-    path = b"".join(n.to_bytes(4, "little") for n in numbers)
+    path = ref.path_bytes(numbers)
     if rng.random() < 0.1:
         path += bytes(rng.randrange(1, 4))
     return path
@@ -112,11 +123,57 @@ def ask_inserts(rng, image, out):
         _, page, offset, *_ = ask("insert - 0 %d %d 9 -" % (rng.choice((1, 2)), origin), image, out)
         ask("read %d %d" % (page, offset), image, out)
     ask("next 1 0", image, out)
-    literals = [e.path for e in ref.document_order(ref.read_store(image)) if e.node.kind == ref.LITERAL]
-    literal = ref.to_hex(b"".join(n.to_bytes(4, "little") for n in literals[-1])) if literals else "-"
+    literal = last_literal(image)
     for path, child, kind, content in (("-", 0, 2, "41"), ("00" * 92, 0, 2, "41"), ("-", 0, 3, "-"), ("-", 0, 1, "41"), ("-", 0, 2, "41" * 521),
                                        ("ff" * 4, 0, 2, "41"), ("00" * 3, 0, 1, "-"), (literal, 0, 2, "41"), ("-", 2**32 - 1, 2, "41")):
         ask("insert %s %d %d %d 9 %s" % (path, child, kind, rng.choice(WRONG_ORIGINS), content), image, out)
+
+
+def last_literal(image):
+    """The path of the last literal, or the empty path."""
+    literals = [e.path for e in ref.document_order(ref.read_store(image)) if e.node.kind == ref.LITERAL]
+    return ref.to_hex(ref.path_bytes(literals[-1] if literals else ()))
+
+
+def ask_removals(rng, image, out):
+    """Refused ones, then leaves and branches, then what a helper holds; at last a branch put in and taken out again."""
+    literal = last_literal(image)
+    for path in ("-", "00", "00" * 2, "00" * 3, "00" * 5, "ff" * 4, literal.strip("-") + "00" * 4, "00" * 91, "00" * 92, "00" * 93, "00" * 96):
+        ask("remove " + path, image, out)
+    for _ in range(4):
+        entries = ref.document_order(ref.read_store(image))[1:]
+        branches = [e for e in entries if e.children]
+        if not entries:
+            break
+        path = ref.to_hex(ref.path_bytes(rng.choice(branches if branches and rng.random() < 0.4 else entries).path))
+        ask("remove " + path, image, out)
+        ask("find " + path, image, out)
+    ask_helper(rng, image, out)
+    ask("insert - 0 1 3 9 -", image, out)
+    ask("insert 00000000 0 2 1 9 4142", image, out)
+    ask("remove 00000000", image, out)
+    ask("records 64", image, out)
+    ask("next 1 0", image, out)
+
+
+def ask_helper(rng, image, out):
+    """Removals from the helper with the fewest children until it has one, which replaces it."""
+    store = ref.read_store(image)
+    helpers = [record for record in store.records.values() if record.root.kind == ref.HELPER]
+    if not helpers:
+        return
+    page = min(helpers, key=lambda record: len(record.root.children)).page
+    while page in store.records and store.records[page].root.kind == ref.HELPER:
+        paths = held_by(store, store.records[page])
+        if not paths:
+            break
+        ask("remove " + ref.to_hex(ref.path_bytes(rng.choice(paths))), image, out)
+        store = ref.read_store(image)
+
+
+def held_by(store, record):
+    """The paths of the nodes that are children of a helper, or whose proxies are."""
+    return [e.path for e in ref.document_order(store) if e.node in record.root.children or (e.node is e.record.root and e.record.holder is record)]
 
 
 def origin_places(rng, image):
@@ -153,6 +210,44 @@ def damage(rng, image, out):
         put_byte(at, value, image, out)
 
 
+def nested_helpers():
+    """An image with a helper in a helper, records below, and a branch that stands in the root's record with a proxy; a removal can leave each helper with
+    a proxy or with another child."""
+    image = bytearray(8 * ref.PAGE)
+    ref.format_image(image, 8, 128, 409, 1, b"\x02" * 256, 7)
+    store = ref.read_store(image)
+
+    def literal(label):
+        return ref.Node(ref.LITERAL, label, b"AB", origin=label % ref.ORIGINS)
+
+    def proxy(page, settled, root):
+        store.records[page] = ref.Record(page, settled, root)
+        return ref.Node(ref.PROXY, record=store.records[page])
+
+    branch = proxy(2, True, ref.Node(ref.AGGREGATE, 4, children=[proxy(6, False, literal(5)), literal(6)]))
+    inner = proxy(5, False, ref.Node(ref.HELPER, children=[branch, literal(3)]))
+    outer = proxy(3, False, ref.Node(ref.HELPER, children=[literal(2), inner]))
+    store.records[1].root.children = [literal(1), outer, ref.Node(ref.AGGREGATE, 8, children=[proxy(7, True, literal(9))])]
+    store.changed = set(store.records)
+    ref.write_changes(store, image)
+    return image
+
+
+def ask_nested(out):
+    """Each node removed by itself; then the root's children, from the first on and from the last."""
+    image = nested_helpers()
+    put_image(image, out)
+    out.append("S")
+    entries = ref.document_order(ref.read_store(image))[1:]
+    row = [e.path for e in entries if len(e.path) == 1]
+    for paths in [[e.path] for e in entries] + [row[:1] * len(row), row[::-1]]:
+        out.append("R")
+        changed = bytearray(image)
+        for path in paths:
+            ask("remove " + ref.to_hex(ref.path_bytes(path)), changed, out)
+        ask("check", changed, out)
+
+
 def formats(rng, out):
     """Format over any bytes, in and out of range."""
     pages = rng.randrange(2, 5)
@@ -172,6 +267,7 @@ def formats(rng, out):
 def main(seed, stores, damaged):
     rng = random.Random(seed)
     out = []
+    ask_nested(out)
     for store in range(stores):
         print("store %d of %d" % (store + 1, stores), file=sys.stderr)
         formats(rng, out)
@@ -179,7 +275,9 @@ def main(seed, stores, damaged):
         put_image(image, out)
         out.append("S")
         ask_all(rng, image, 6, out)
-        ask_inserts(rng, bytearray(image), out)
+        changed = bytearray(image)
+        ask_inserts(rng, changed, out)
+        ask_removals(rng, changed, out)
         check_origins(rng, image, out)
         for number in range(damaged):
             out.append("R")

@@ -1,13 +1,13 @@
 #!/usr/bin/env bash
-# Random calls with the reference's answers, replayed on the library, from four seeds: random.sh inserts|hostile [COUNT].
-# Without COUNT, 200,000 inserts or 1,000,000 hostile calls. REPLAY names a replay program that is built already;
+# Random calls with the reference's answers, replayed on the library, from four seeds: random.sh inserts|removals|hostile [COUNT].
+# Without COUNT, 200,000 inserts, 200,000 inserts and removals, or 1,000,000 hostile calls. REPLAY names a replay program that is built already;
 # with MEMCHECK=1 it runs under valgrind, which finds what it reads or writes out of bounds.
 set -euo pipefail
 cd "$(dirname "$0")/.."
 case "${1:-}" in
-    inserts) count=${2:-200000} ;;
+    inserts|removals) count=${2:-200000} ;;
     hostile) count=${2:-1000000} ;;
-    *) echo "usage: random.sh inserts|hostile [COUNT]" >&2; exit 2 ;;
+    *) echo "usage: random.sh inserts|removals|hostile [COUNT]" >&2; exit 2 ;;
 esac
 kind=$1
 mkdir -p target
@@ -29,7 +29,12 @@ done
 awk -v kind="$kind" '/ calls, / { calls += $2; differences += $4 }
     match($0, /exact half: [0-9]+ go down/) { split(substr($0, RSTART), word, " "); down += word[3] }
     match($0, /[0-9]+ go up/) { split(substr($0, RSTART), word, " "); up += word[1] }
+    /^[0-9]+ removals; / { removed += $4 }
+    /^records freed: / { freed += $3 }
+    /^helpers replaced: / { by_proxy += $3; by_other += $13 }
     END {
-        halves = kind == "inserts" ? "; splits at an exact half: " down + 0 " go down, " up + 0 " up" : ""
-        print kind ": " calls " calls compared, " differences " differences" halves
+        reached["inserts"] = "; splits at an exact half: " down + 0 " go down, " up + 0 " up"
+        helpers = ", helpers replaced by a proxy " by_proxy + 0 ", by another child " by_other + 0
+        reached["removals"] = "; removed " removed + 0 ", records freed " freed + 0 helpers
+        print kind ": " calls " calls compared, " differences " differences" reached[kind]
     }' "target/$kind.log"

@@ -1,9 +1,9 @@
-"""A second implementation of the rules, for the tests: small, made from their text alone (the base with changes E1 and E2).
+"""A second implementation of the rules, for the tests: small, made from their text alone (the base with changes E1 to E3).
 
-As a module it offers the calls over an image held in a bytearray: format_image, check, insert, find, climb, read,
-next_node, records and listing. Each answer is a tuple that begins with the number. To make many inserts in one image,
-keep its store (read_store) and use insert_node and write_changes. As a command it replays call scripts, compares every
-answer and the checksum of the image, and exits with 1 on any difference:
+As a module it offers the calls over an image held in a bytearray: format_image, check, insert, remove, find, climb,
+read, next_node, records and listing. Each answer is a tuple that begins with the number. To make many inserts and
+removals in one image, keep its store (read_store) and use insert_node, remove_node and write_changes. As a command it
+replays call scripts, compares every answer and the checksum of the image, and exits with 1 on any difference:
 
     reference.py SCRIPT..
 """
@@ -36,7 +36,8 @@ MAY_STAND = {
     HELPER: (AGGREGATE, LITERAL, PROXY),
 }
 
-MISFIT, BAD_SETTINGS, BROKEN, LEVEL, BAD_KIND, LONG, ABSENT, CLOSED, GAP, STRAY, SHORT, FULL, BAD_ORIGIN = range(1, 14)
+(MISFIT, BAD_SETTINGS, BROKEN, LEVEL, BAD_KIND, LONG, ABSENT, CLOSED, GAP, STRAY, SHORT, FULL, BAD_ORIGIN,
+ EMPTY_PATH) = range(1, 15)
 
 sys.setrecursionlimit(20000)
 
@@ -87,14 +88,16 @@ class Settings:
 
 
 class Store:
-    """What an image holds: its settings and its records by page. `changed` names the pages that growth has changed;
-    `split_sizes` are the sizes S of the records that the last insert has split."""
+    """What an image holds: its settings and its records by page. `changed` names the pages that growth or removal has
+    changed; `split_sizes` are the sizes S of the records that the last insert has split; `replaced_by` is the child by
+    which the last removal has replaced a helper, or None."""
 
     def __init__(self, settings, records):
         self.settings = settings
         self.records = records
         self.changed = set()
         self.split_sizes = []
+        self.replaced_by = None
 
 
 class Entry:
@@ -495,6 +498,52 @@ def insert_node(store, path, child, kind, origin, label, content):
     raise AssertionError("the new node is in no changed record")
 
 
+# ---- Removal
+
+def records_below(node):
+    """The records of the proxies under a node, itself included, and those below them."""
+    found, nodes = [], [node]
+    while nodes:
+        below = [proxy.record for proxy in proxies_under(nodes.pop())]
+        found += below
+        nodes += [record.root for record in below]
+    return found
+
+
+def free_record(store, record):
+    del store.records[record.page]
+    store.changed.add(record.page)
+
+
+def replace_helper(store, record):
+    """A helper left with one child: a proxy takes the place of the helper's proxy, another child that of the helper."""
+    child = store.replaced_by = record.root.children[0]
+    if child.kind != PROXY:
+        record.root = child
+        return
+    siblings, at = proxy_position(record)
+    siblings[at] = child
+    store.changed.add(record.holder.page)
+    free_record(store, record)
+
+
+def remove_node(store, path):
+    """The removal on a store; gives what has left its list: the node, or its proxy."""
+    require(len(path) <= 4 * (LEVELS - 1), LEVEL)
+    require(path, EMPTY_PATH)
+    number = path_entries(path)[-1]
+    parent, record = node_of_path(store, path[:-4])
+    siblings, at, record = child_shown(parent.children, record, number)
+    gone = siblings.pop(at)
+    for below in records_below(gone):
+        free_record(store, below)
+    store.changed.add(record.page)
+    store.replaced_by = None
+    if record.root.kind == HELPER and len(record.root.children) == 1:
+        replace_helper(store, record)
+    return gone
+
+
 # ---- Calls
 
 def answered(call):
@@ -511,6 +560,10 @@ def answered(call):
 def path_entries(path):
     require(len(path) % 4 == 0, ABSENT)
     return tuple(int.from_bytes(path[at:at + 4], "little") for at in range(0, len(path), 4))
+
+
+def path_bytes(numbers):
+    return b"".join([number.to_bytes(4, "little") for number in numbers])
 
 
 def entry_of_path(entries, path):
@@ -560,6 +613,15 @@ def insert(image, path, child, kind, origin, label, content):
 
 
 @answered
+def remove(image, path):
+    """Gives (number)."""
+    store = read_store(image)
+    remove_node(store, path)
+    write_changes(store, image)
+    return (0,)
+
+
+@answered
 def find(image, path):
     """Gives (number, page, offset)."""
     store = read_store(image)
@@ -572,7 +634,7 @@ def climb(image, page, offset, buffer):
     """Gives (number, bytes written)."""
     entries = document_order(read_store(image))
     entry = entries[number_of_place(entries, page, offset)]
-    path = b"".join(number.to_bytes(4, "little") for number in entry.path)
+    path = path_bytes(entry.path)
     require(len(path) <= len(buffer), SHORT)
     buffer[:len(path)] = path
     return (0, len(path))
@@ -625,7 +687,7 @@ def listing(image):
 
 # ---- Replay of call scripts
 
-RULES = "2"                                           # the rule set: the base with E1 and E2
+RULES = "3"                                           # the rule set: the base with E1 to E3
 
 
 def from_hex(text):
@@ -658,6 +720,10 @@ def run_insert(image, a):
     return filled(insert(image, from_hex(a[0]), int(a[1]), int(a[2]), int(a[3]), int(a[4]), from_hex(a[5])), 5)
 
 
+def run_remove(image, a):
+    return remove(image, from_hex(a[0]))
+
+
 def run_find(image, a):
     return filled(find(image, from_hex(a[0])), 3)
 
@@ -683,8 +749,8 @@ def run_listing(image, a):
     return (listing(image).encode().hex(),)
 
 
-RUNS = {"format": run_format, "check": run_check, "insert": run_insert, "find": run_find, "climb": run_climb,
-        "read": run_read, "next": run_next, "records": run_records, "listing": run_listing}
+RUNS = {"format": run_format, "check": run_check, "insert": run_insert, "remove": run_remove, "find": run_find,
+        "climb": run_climb, "read": run_read, "next": run_next, "records": run_records, "listing": run_listing}
 
 
 def checksum(image):

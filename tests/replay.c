@@ -6,7 +6,7 @@
 
 #include "../include/nichelarder.h"
 
-#define RULES 2u /* the rule set: the base with E1 and E2 */
+#define RULES 3u /* the rule set: the base with E1 to E3 */
 
 static uint8_t *image, *kept;
 static size_t image_len, kept_len;
@@ -86,6 +86,10 @@ static int call(char **w, int words, char *out) {
         sprintf(out, "%u %u %u %u %d", r, answer[0], answer[1], answer[2], (int)lean);
         free(p);
         free(c);
+    } else if (!strcmp(w[0], "remove")) {
+        uint8_t *p = bytes(w[1], &a);
+        sprintf(out, "%u", nl_remove(image, image_len, p, a));
+        free(p);
     } else if (!strcmp(w[0], "find")) {
         uint32_t place[2] = {77, 77};
         uint8_t *p = bytes(w[1], &a);

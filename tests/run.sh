@@ -3,7 +3,7 @@
 set -euo pipefail
 cd "$(dirname "$0")/.."
 cc=${CC:-cc}
-at() { echo "tests: $1 of 10: $2"; }
+at() { echo "tests: $1 of 11: $2"; }
 at 1 "the archive (minutes, where the crates are not proved yet)"
 rt staticlib nichelarder >/dev/null
 flags=(-std=c99 -O2 -Wall -Wextra -Werror)
@@ -18,18 +18,20 @@ strict=(-Wall -Wextra -Wpedantic -Wconversion -Wshadow -Werror)
 "$cc" -std=c99 "${strict[@]}" examples/panel.c target/staticlib/libnichelarder.a -o target/panel
 target/panel | diff examples/panel.txt -
 at 3 "the stored scripts${VECTORS:+, and those of $VECTORS}"
-target/replay tests/scripts/*.txt ${VECTORS:+"$VECTORS"/e02-*.txt}
+target/replay tests/scripts/*.txt ${VECTORS:+"$VECTORS"/e03-*.txt}
 at 4 "the split point at every target"
 python3 -B tests/make_rounding.py | target/replay /dev/stdin
 at 5 "random inserts"
 REPLAY=target/replay bash tests/random.sh inserts 8000
-at 6 "hostile calls"
+at 6 "random inserts and removals"
+REPLAY=target/replay bash tests/random.sh removals 8000
+at 7 "hostile calls"
 REPLAY=target/replay bash tests/random.sh hostile 20000
-at 7 "the deepest image on a stack of 1 MB"
+at 8 "the deepest image on a stack of 1 MB"
 (ulimit -s 1024 && target/deep)
-at 8 "the stack of an insert"
+at 9 "the stack of an insert and of a removal"
 target/stack
-at 9 "buffers that lie in the image, and empty ones"
+at 10 "buffers that lie in the image, and empty ones"
 target/buffers
-at 10 "the listing program"
+at 11 "the listing program"
 bash tests/listing.sh

@@ -1,6 +1,7 @@
-/* How much stack the calls take, measured on a thread whose stack is painted: an insert takes at most 24 KB beside the check of the same image.
+/* How much stack the calls take, measured on a thread whose stack is painted: an insert takes at most 24 KB beside the check of the same image, a
+ * removal at most 8 KB.
  * The images: a small tree, one whose inserts cascade, one whose split goes down through all levels, and the deepest nesting of records, a chain of helper
- * records through 1,022 pages. */
+ * records through 1,022 pages, in the root's row and in one branch, which is removed whole. */
 #define _POSIX_C_SOURCE 200809L
 #include "../include/nichelarder.h"
 #include <pthread.h>
@@ -10,13 +11,14 @@
 
 #define STACK (8u << 20)
 #define PAINT 0xa5
-#define MOST 24576
+#define MOST_INSERT 24576
+#define MOST_REMOVAL 8192
 
 static uint8_t *image, *before;
 static size_t image_len;
-static uint8_t content[520];
+static uint8_t content[520], path[92];
 static uint32_t number, child, answer[3];
-static size_t above; /* the parent's path is so many zeros of the content */
+static size_t above; /* the parent's path is so many zeros of the content; that of the node to remove has an entry more */
 static int32_t lean;
 
 static void *check(void *unused) {
@@ -28,6 +30,12 @@ static void *check(void *unused) {
 static void *insert(void *unused) {
     (void)unused;
     number = nl_insert(image, image_len, content, above, child, NL_LITERAL, NL_WIRE, 9, content, 520, answer, &lean);
+    return NULL;
+}
+
+static void *removal(void *unused) {
+    (void)unused;
+    number = nl_remove(image, image_len, path, above + 4);
     return NULL;
 }
 
@@ -50,23 +58,39 @@ static size_t used(void *(*run)(void *)) {
     return STACK - i;
 }
 
-/* Check and insert, as the first and as the last child of the parent; the image stays. The most that an insert took beside the check so far. */
-static size_t worst, base;
+static size_t base, worst_insert, worst_removal; /* the most that each took beside the check so far */
+
+/* Runs the call on the image, which stays. */
+static size_t beside(void *(*run)(void *), size_t c, size_t *worst) {
+    size_t n = used(run);
+    memcpy(image, before, image_len);
+    if (n > c && n - c > *worst)
+        *worst = n - c;
+    return n - base;
+}
+
+/* Check, insert as the first and as the last child of the parent, and removal of its first and of its last child. */
 static void measure(const char *name) {
     uint32_t place[2], parent[6];
-    size_t c = used(check), i;
-    int last;
+    size_t c = used(check), n;
+    int last, i;
     nl_find(image, image_len, content, above, place);
     nl_read(image, image_len, place[0], place[1], parent);
     memcpy(before, image, image_len);
     for (last = 0; last < 2; last++) {
         child = last ? parent[2] : 0;
-        i = used(insert);
-        memcpy(image, before, image_len);
-        if (i > c && i - c > worst)
-            worst = i - c;
+        n = beside(insert, c, &worst_insert);
         if (name)
-            printf("%-8s check %7zu  insert %7zu bytes of stack, answer %u, %u splits\n", name, c - base, i - base, number, answer[2]);
+            printf("%-8s check %7zu  insert %7zu bytes of stack, answer %u, %u splits\n", name, c - base, n, number, answer[2]);
+    }
+    for (last = 0; last < 2 && parent[2]; last++) {
+        child = last ? parent[2] - 1 : 0;
+        memset(path, 0, above);
+        for (i = 0; i < 4; i++)
+            path[above + (size_t)i] = (uint8_t)(child >> (8 * i));
+        n = beside(removal, c, &worst_removal);
+        if (name)
+            printf("%-8s check %7zu  remove %7zu bytes of stack, answer %u\n", name, c - base, n, number);
     }
 }
 
@@ -127,6 +151,12 @@ int main(void) {
     for (k = 1; k <= 1023; k++)
         link_page(k, 1023);
     measure("deepest");
-    printf("insert beside the check: at most %zu bytes\n", worst);
-    return worst > MOST;
+    /* the proxy of page 2 in an aggregate of the root */
+    memcpy(image + 4096 + 12, image + 4096 + 6, 8);
+    two(image + 4096 + 6, 1), two(image + 4096 + 8, 9), two(image + 4096 + 10, 14);
+    two(image + 4096 + 4, 20), two(image + 4096 + 4082, 20);
+    measure("branch");
+    printf("insert beside the check: at most %zu bytes\n", worst_insert);
+    printf("remove beside the check: at most %zu bytes\n", worst_removal);
+    return worst_insert > MOST_INSERT || worst_removal > MOST_REMOVAL;
 }
