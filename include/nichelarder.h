@@ -58,7 +58,7 @@ enum nl_refusal {
     NL_LENGTH = 1,    /* the image's length is not 2 to 1,024 pages: lend the whole image and nothing more */
     NL_SETTINGS = 2,  /* format: a setting is out of range, or the page count is not the image's: correct the arguments */
     NL_BROKEN = 3,    /* the image does not pass the check: it is damaged or was never formatted; load it again, or format it */
-    NL_LEVEL = 4,     /* the path has over 23 entries (92 bytes), for an insert over 22 (88 bytes): a tree has 24 levels, put the node higher */
+    NL_LEVEL = 4,     /* the path has over 23 entries (92 bytes), for an insert over 22 (88 bytes): a tree has 24 levels; insert higher up */
     NL_KIND = 5,      /* insert: the kind is not 1 or 2, or an aggregate has content: content goes into a literal */
     NL_LONG = 6,      /* insert: the content has over 520 bytes: divide it over several literals */
     NL_ABSENT = 7,    /* the path names no node, or is not whole entries of four bytes: look the node up again */
@@ -66,7 +66,7 @@ enum nl_refusal {
     NL_GAP = 9,       /* insert: the child number is above the number of children: the number of children itself appends */
     NL_STRAY = 10,    /* no node starts at the place: it is from before an insert, a removal or a format; find it again by its path */
     NL_SHORT = 11,    /* the lent buffer is too short, and nothing was written: NL_PATH bytes take every path, 2 * NL_PAGES every list of records */
-    NL_FULL = 12,     /* insert: a page is needed and none is free: nothing was changed; remove nodes to free pages, or format a larger image and
+    NL_FULL = 12,     /* insert: a page is needed and none is free: nothing was changed; remove a branch to free pages, or format a larger image and
                          insert again what this one holds */
     NL_ORIGIN = 13,   /* insert: the origin is above 3: give one of the four; tested directly after 5 */
     NL_EMPTY = 14     /* remove: the path is empty, and the root cannot be removed: format instead; tested directly after 4 */
@@ -95,9 +95,9 @@ uint32_t nl_check(const uint8_t *image, size_t image_len);
 uint32_t nl_insert(uint8_t *image, size_t image_len, const uint8_t *parent, size_t parent_len, uint32_t child, uint32_t kind, uint32_t origin,
                    uint16_t label, const uint8_t *content, size_t content_len, uint32_t answer[3], int32_t *lean);
 
-/* Removes the node that the path names, with all under it: later siblings move down by one, and pages that are no longer needed come free. It needs no
- * free page: 12 never applies. An accepted removal changes nothing of other nodes but may move them: places from before it are void.
- * Refusals 1, 3, 4, 14, 7. */
+/* Removes the node that the path names, any but the root, with all under it: later siblings move down by one, and the pages of records that go are
+ * zeroed and free. It needs no free page: 12 never applies. An accepted removal changes nothing of other nodes but may move them: places from before
+ * it are void. Refusals 1, 3, 4, 14, 7. */
 uint32_t nl_remove(uint8_t *image, size_t image_len, const uint8_t *path, size_t path_len);
 
 /* Path to place: page, offset. Refusals 1, 3, 4, 7. */

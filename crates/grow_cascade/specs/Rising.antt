@@ -8,19 +8,19 @@ use borrow.Author.Tests.{leb-false}
 use lib.Dec.{leb}
 use lib.ListN.{length, take}
 use lib.IntN.{ℤ}
-use Rattle.theory_row_bytes.specs.RowAt.{RecordIs}
+use Rattle.theory_row_bytes.specs.RowAt.{RecordIs, back-on}
 use Rattle.model.specs.Limits.{mostPages, pageSize, capacity}
 use Rattle.model.specs.Row.{Row, isNil, recordSize, recordPage, count, outside, Config}
-use Rattle.model.specs.Reading.{Reads, twoAt, pageOf, backAt, settledAt}
+use Rattle.model.specs.Reading.{Reads, pageOf, backAt, settledAt}
 use Rattle.model.specs.Growth.{Work, Out, separator, splitPoint, startOfD, rise}
 use Rattle.model.specs.Claims.{InLean}
 use Rattle.theory_rows.specs.Fits.{Valid}
 use Rattle.theory_rows.specs.Bound.{SplitGood}
 use Rattle.theory_rows.specs.Lean.{Splittable}
 use Rattle.theory_rows.specs.Pages.{bit, or-right, reserved}
-use Rattle.theory_decoding.specs.Decode.{in-trailer, two-bytes}
+use Rattle.theory_decoding.specs.Decode.{in-trailer}
 use Rattle.theory_decoding.specs.Reading.{reads-valid, reads-length}
-use Rattle.theory_layout.specs.Here.{PageIn, OnPage, page-byte, page-number}
+use Rattle.theory_layout.specs.Here.{PageIn, OnPage, page-byte}
 use Rattle.model.specs.Spot.{Chain, top, below, lastPage, whole, lastHolder}
 use Rattle.theory_rows.specs.Population.{population}
 use Rattle.theory_places.specs.Widths.{Told}
@@ -146,11 +146,8 @@ module _ {st : Config} {was : List ℕ} {root : Row} {c : Chain} {old row : Row}
   settled-most = omega (arith, settled-is, bit-le (lastSettled c))
 
   pub holder-is : backAt img (pageSize * g .near) ≡ lastHolder c
-  unfolding twoAt
   holder-is =
-      ap (λ (i : ℕ). backAt img (pageSize * i)) (w .at) ∙ page-number img (lastHeld c old) on-page own-page (stands .fits) holder-high 4084 (omega arith)
-      ∙ rw (in-trailer (lastHeld c old) (stands .fits) 4, in-trailer (lastHeld c old) (stands .fits) 5)
-      (two-bytes (lastHolder c) (omega (arith, holder-high)))
+      ap (λ (i : ℕ). backAt img (pageSize * i)) (w .at) ∙ back-on img (lastHeld c old) own-page (stands .fits) (omega (arith, holder-high))
 
   -- ── the new row ──
 

@@ -10,12 +10,11 @@ use lib.Dec.{eqb, leb}
 use lib.ListN.{length, getD, take}
 use lib.IntN.{ℤ}
 use Rattle.model.specs.Limits.{pageSize, capacity}
-use Rattle.model.specs.Row.{Row, nil, agg, lit, rec, _⊹_, size, bytes, recordSize, recordBytes, recordPage, count, Config, recordOn}
+use Rattle.model.specs.Row.{Row, rec, _⊹_, size, bytes, recordSize, recordBytes, recordPage, count, Config, recordOn}
 use Rattle.model.specs.Reading.{pageOf}
 use Rattle.model.specs.Growth.{Work, Out, separator, counted, freed, splitPoint, startOfD, rise}
 use Rattle.theory_rows.specs.Bound.{SplitGood}
 use Rattle.theory_rows.specs.Shows.{nodeCount-some}
-use Rattle.theory_decoding.specs.Valid.{names-own}
 use Rattle.theory_rows.specs.Pages.{count-⊹, or-right}
 use Rattle.model.specs.Tree.{width}
 use Rattle.grow_cascade.specs.Stops.{separator-width, leanNow}
@@ -31,7 +30,7 @@ use Rattle.theory_growth.specs.Full.{full-rise}
 use Rattle.theory_page_memory.specs.Memory.{Mem, blank, setMem, separatorMem, riseMem}
 use Rattle.theory_page_memory.specs.Around.{rise-goes, mem-goes}
 use Rattle.theory_page_memory.specs.Kept.{Ready, goes-up}
-use Rattle.grow_pages.specs.Links.{Below, below-parted}
+use Rattle.grow_pages.specs.Links.{Below, below-count, below-parted}
 use Rattle.grow_pages.specs.Relinked.{After, after-then, mem-cleared}
 use Rattle.base_layout.specs.declared.Growing.{Growing}
 use Rattle.base_layout.specs.Growing.{separatorSize, nearTo}
@@ -49,14 +48,6 @@ use Rattle.theory_growth.specs.Told.{told-parted, told-chain, told-swap, width-
 use Rattle.grow_widths.specs.Tally.{mostEntry}
 use Rattle.grow_split.specs.Tells.{Keeps}
 use Rattle.grow_cascade.specs.Rising.{Rising, valid, inside as page-inside, long-image, good, named-once, named-used, tabled}
-
--- ── rows that name pages of the image ──
-
-pub below-count : (n : ℕ) (r : Row) → ((q : ℕ) → 1 ≤ count q r → q < n) → Below n r
-below-count n nil f = tt
-below-count n (agg h cs rest) f = (below-count n cs (λ q k. f q (omega arith)), below-count n rest (λ q k. f q (omega arith)))
-below-count n (lit h c rest) f = below-count n rest f
-below-count n (rec p s r rest) f = (f p (names-own p s r rest), below-count n rest (λ q k. f q (omega arith)))
 
 -- ── the page that is left ──
 

@@ -5,11 +5,11 @@ use Prim.Native.Nat.{ℕ, _+_, _*_, _<_, _≤_}
 use native.Mathlib.Omega.{arith}
 use lib.ListN.{length}
 use Rattle.model.specs.Limits.{mostPages, pageSize, capacity}
-use Rattle.model.specs.Row.{Row, nil, agg, lit, rec, _⊹_, size, two, bytes}
+use Rattle.model.specs.Row.{Row, nil, agg, lit, rec, _⊹_, size, two, bytes, count}
 use Rattle.model.specs.Reading.{sizeAt, nameAt, kindAt}
 use Rattle.theory_row_bytes.specs.RowAt.{RowAt, FirstNode, first-node, row-into, RowIs}
 use Rattle.theory_rows.specs.Works.{Parted}
-use Rattle.theory_page_memory.specs.Links.{All, all-parted}
+use Rattle.theory_page_memory.specs.Links.{All, all-parted, self}
 use Rattle.theory_rows.specs.Laws.{length-bytes, size-⊹}
 use Rattle.base_numbers.specs.Over.{over}
 
@@ -36,6 +36,12 @@ links q row img = each (link q) row img
 -- Each proxy of the row names a page below n.
 abbrev pub Below : (n : ℕ) → Row → Type 0
 Below n = All (λ p s r. p < n)
+
+pub below-count : (n : ℕ) (r : Row) → ((q : ℕ) → 1 ≤ count q r → q < n) → Below n r
+below-count n nil f = tt
+below-count n (agg h cs rest) f = (below-count n cs (λ q k. f q (omega arith)), below-count n rest (λ q k. f q (omega arith)))
+below-count n (lit h c rest) f = below-count n rest f
+below-count n (rec p s r rest) f = (f p (omega (arith, self p)), below-count n rest (λ q k. f q (omega arith)))
 
 pub below-parted : (n : ℕ) → Parted (Below n)
 below-parted n = all-parted (λ p s r. p < n)

@@ -41,7 +41,7 @@ use Rattle.theory_page_memory.specs.Kept.{Ready, ready-place}
 use Rattle.theory_page_memory.specs.Images as images
 use Rattle.grow_pages.specs.Write.{pageBytesOf, recordPage-is, length-pageBytesOf}
 use Rattle.grow_pages.specs.Paged.{length-setPage}
-use Rattle.grow_pages.specs.Links.{Below, below-parted}
+use Rattle.grow_pages.specs.Links.{Below, below-count, below-parted}
 use Rattle.grow_pages.specs.Relinked.{mem-set}
 use Rattle.base_layout.specs.declared.Setup.{Setup}
 use Rattle.base_layout.specs.declared.Growing.{Growing}
@@ -56,7 +56,6 @@ use Rattle.grow_locate.specs.Parent.{at-before}
 use Rattle.grow_new_node.specs.Placed.{ownPage, imagePlaced, NodePlaced, as-lone}
 use Rattle.grow_new_node.specs.Marks.{rest-past}
 use Rattle.grow_cascade.specs.Rising.{Rising, LeftTable, Risen}
-use Rattle.grow_cascade.specs.Up.{below-count}
 use Rattle.grow_cascade.specs.Cascade.{Cascade, goalOf, memOf}
 use Rattle.grow_run.specs.Taken as into
 

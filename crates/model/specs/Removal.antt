@@ -47,8 +47,8 @@ standOf root path = standIn top (here nil) 0 path root
 -- ── what is left ──
 
 -- What stands where the proxy of a record stood, now that the record has lost a node or a proxy and holds r; `rest` follows the proxy. A helper left with one
--- child is replaced: a proxy child is put where the helper's proxy was, and its page is free; any other child is the root of the same record, unsettled,
--- since a helper's record is.
+-- child is replaced: a proxy child is put where the helper's proxy was, and the helper's page is free; any other child is the root of the same record,
+-- unsettled, since a helper's record is.
 unfoldable pub replaced : (page : ℕ) → (settled : Bool) → (r rest : Row) → Row
 replaced q b r rest = cond (loneRec r) (r ⊹ rest) (rec q b r rest)
 

@@ -1,4 +1,4 @@
--- Step 1 of growth: where the new node goes.
+-- Chains of records and positions in them, and step 1 of growth: where the new node goes.
 use mathlib.Core.Bool.{Bool, cond}
 use mathlib.Core.List.{List, [], _∷_}
 use mathlib.Core.Option.{Option, none, some}

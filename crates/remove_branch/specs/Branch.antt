@@ -18,8 +18,8 @@ use Rattle.theory_decoding.specs.Reading.{reads-valid, reads-length}
 use Rattle.theory_row_bytes.specs.RowAt.{kindOf, row-bytes}
 use Rattle.theory_layout.specs.Here.{Here, view}
 use Rattle.theory_page_memory.specs.Memory.{blank}
-use Rattle.theory_page_memory.specs.Links.{self}
-use Rattle.grow_pages.specs.Links.{Below, Linked, each}
+use Rattle.grow_pages.specs.Links.{below-count, Linked, each}
+use Rattle.theory_rows.specs.Laws.{nodes-nil, nodes-size}
 use Rattle.remove_branch.specs.Direct.{direct, goes, each-long, each-other, each-named}
 use Rattle.remove_branch.specs.Holders.{once, own-else}
 use Rattle.remove_branch.specs.Marks.{markOf, Known, Branched, Sound, Marking, Marked}
@@ -50,29 +50,11 @@ direct-count q (agg h cs rest) = omega (arith, direct-count q cs, direct-count q
 direct-count q (lit h c rest) = direct-count q rest
 direct-count q (rec p s r rest) = omega (arith, direct-count q rest)
 
-pub below-all : (n : ℕ) (row : Row) → ((q : ℕ) → 1 ≤ count q row → q < n) → Below n row
-below-all n nil f = tt
-below-all n (agg h cs rest) f = (below-all n cs (λ q k. f q (omega arith)), below-all n rest (λ q k. f q (omega arith)))
-below-all n (lit h c rest) f = below-all n rest f
-below-all n (rec p s r rest) f = (f p (omega (arith, self p)), below-all n rest (λ q k. f q (omega arith)))
-
--- One node has a header, and a literal names no page.
-one-long : (r : Row) → nodeCount r ≡ 1 → 6 ≤ size r
-one-long nil e = absurd (omega arith)
-one-long (agg h cs rest) e = omega arith
-one-long (lit h c rest) e = omega arith
-one-long (rec p s r rest) e = omega arith
-
-no-nodes : (q : ℕ) (r : Row) → nodeCount r ≡ 0 → count q r ≡ 0
-no-nodes q nil e = refl
-no-nodes q (agg h cs rest) e = absurd (omega arith)
-no-nodes q (lit h c rest) e = absurd (omega arith)
-no-nodes q (rec p s r rest) e = absurd (omega arith)
-
+-- A literal names no page.
 bare : (q : ℕ) (r : Row) → nodeCount r ≡ 1 → kindOf r ≡ 2 → count q r ≡ 0
 bare q nil e k = absurd (omega arith)
 bare q (agg h cs rest) e k = absurd (omega arith)
-bare q (lit h c rest) e k = no-nodes q rest (omega arith)
+bare q (lit h c rest) e k = ap (count q) (nodes-nil rest (omega arith))
 bare q (rec p s r rest) e k = absurd (omega arith)
 
 -- ── entries ──
@@ -104,14 +86,14 @@ module _ {img u : List ℕ} {page start end : ℕ} (w : Branch img u page start 
   pub room : (start + 6 ≤ length img) × (end ≤ length img) × (start ≤ end)
   room =
       let h = w .here in
-      let n = one-long node (w .b .leaves .one) in
+      let n = nodes-size node (omega (arith, w .b .leaves .one)) in
       (omega (arith, h .room, h .on .inside, n), omega (arith, h .room, h .on .inside, w .ends), omega (arith, w .ends))
 
   -- A literal has no records below it.
   pub literal-freed : kindAt img start ≡ 2 → Freed w img u
   literal-freed e =
       let one = w .b .leaves .one in
-      let is : kindOf node ≡ 2 = sym (view (w .here) (omega (arith, one-long node one)) .kind-is) ∙ e in
+      let is : kindOf node ≡ 2 = sym (view (w .here) (omega (arith, nodes-size node (omega (arith, one)))) .kind-is) ∙ e in
       record { long = refl; table = refl; gone = λ q h. absurd (omega (arith, bare q node one is)); other = λ q h. (refl, refl) }
 
   -- The node's own bytes.
@@ -124,7 +106,7 @@ module _ {img u : List ℕ} {page start end : ℕ} (w : Branch img u page start 
   linked = record {
     row = node;
     is = own-bytes;
-    below = below-all mostPages node (λ q k. w .here .names q k .high);
+    below = below-count mostPages node (λ q k. w .here .names q k .high);
     small = omega (arith, w .here .room);
   }
 

@@ -7,27 +7,25 @@ use Prim.Native.Nat.{ℕ, _+_, _*_, _≤_, _<_}
 use native.Mathlib.Omega.{arith}
 use borrow.Author.Tests.{eqb-true, leb-true, leb-false}
 use lib.Dec.{eqb, leb}
-use Rattle.model.specs.Limits.{pageSize, capacity}
-use Rattle.model.specs.Row.{Row, nil, agg, lit, rec, _⊹_, recordSize, recordPage, recordOn, count, Config}
+use Rattle.model.specs.Limits.{pageSize}
+use Rattle.model.specs.Row.{Row, nil, agg, lit, rec, _⊹_, recordOn, count, Config}
 use Rattle.model.specs.Tree.{Tree}
-use Rattle.model.specs.Reading.{Reads, twoAt, pageOf, backAt}
-use Rattle.model.specs.Growth.{atRest}
+use Rattle.model.specs.Reading.{Reads, pageOf, backAt}
 use Rattle.model.specs.Spot.{fill, Chain, top, below, lastPage, whole, lastHolder}
 use Rattle.model.specs.Removal.{Stand}
 use Rattle.theory_rows.specs.Fits.{Fits, Valid}
 use Rattle.theory_rows.specs.Image.{Stored}
-use Rattle.theory_rows.specs.Pages.{bit, count-⊹, tally-rest}
-use Rattle.theory_decoding.specs.Decode.{two-bytes, in-trailer}
+use Rattle.theory_rows.specs.Pages.{bit}
 use Rattle.theory_decoding.specs.Reading.{reads-valid}
 use Rattle.theory_places.specs.Widths.{either}
-use Rattle.theory_row_bytes.specs.RowAt.{number-on}
+use Rattle.theory_row_bytes.specs.RowAt.{back-on}
 use Rattle.theory_layout.specs.Here.{OnPage}
-use Rattle.theory_growth.specs.Chain.{beside, along, count-chain, count-refill, fits-parted, fill-less}
+use Rattle.theory_growth.specs.Chain.{beside, along, count-refill, fits-parted, fill-less}
 use Rattle.theory_insert_point.specs.Bytes.{chain-page}
-use Rattle.theory_removal.specs.Stand.{Leaves}
+use Rattle.theory_removal.specs.Stand.{Leaves, stand-parts, stand-names}
 use Rattle.theory_page_memory.specs.Links.{self, stored-parted}
-use Rattle.theory_page_memory.specs.Steps.{bit-le}
 use Rattle.theory_page_memory.specs.Around.{elsewhere, beyond-own}
+use Rattle.theory_page_memory.specs.Removing.{around-once}
 use Rattle.remove_branch.specs.Direct.{direct}
 
 module _ (img : List ℕ) where
@@ -36,13 +34,6 @@ module _ (img : List ℕ) where
 
   abbrev pub back : ℕ → ℕ
   back q = backAt img (pageSize * q)
-
-  -- The back link on a record's page.
-  page-back : (q h : ℕ) (s : Bool) (r : Row) → recordSize r ≤ capacity → h < 65536 → m q ≡ recordPage (recordOn q s h r) → back q ≡ h
-  unfolding twoAt
-  page-back q h s r f small e =
-      let x = recordOn q s h r in
-      number-on img q e (capacity + 4) (omega arith) ∙ rw (in-trailer x f 4, in-trailer x f 5) (two-bytes h small)
 
   -- A page that a row names is named in its record itself, and then its back link is the record's page, or the row names the page of its back link.
   abbrev Held : (h : ℕ) → Row → (q : ℕ) → Type 0
@@ -63,7 +54,7 @@ module _ (img : List ℕ) where
           → Held h (rec p b r rest) q
       go true e c x y =
           let z : q ≡ p = eqb-true q p e in
-          inl (omega (arith, ap bit e), ap back z ∙ page-back p h b r (f .0 .fits) s (k .0))
+          inl (omega (arith, ap bit e), ap back z ∙ back-on img (recordOn p b h r) (k .0) (f .0 .fits) s)
       go false e c x y =
           either (count q r) (count q rest) (omega arith)
           (λ i. ⊎-elim (λ d. inr (rw (d .1) (omega (arith, self p)))) (λ d. inr (omega arith)) (x i))
@@ -114,16 +105,7 @@ module _ (img : List ℕ) (st : Config) (root : Row) (reads : Reads img st root)
   -- Each page is named at most one time.
   pub once : (k : ℕ) → elsewhere st c k + count k left + count k (t .node) ≤ 1
   unfolding v
-  once k =
-      omega (
-        arith,
-        tally-rest st root (v .placed) refl k,
-        bit-le (atRest st root .used k),
-        count-chain k c old,
-        ap (count k) (l .held),
-        count-refill k (t .position) (t .rest) (t .node ⊹ t .rest),
-        count-⊹ k (t .node) (t .rest),
-      )
+  once = around-once st root v new t l c refl
 
   -- The record's own page stands elsewhere.
   pub own-else : 1 ≤ elsewhere st c (lastPage c)
@@ -134,7 +116,7 @@ module _ (img : List ℕ) (st : Config) (root : Row) (reads : Reads img st root)
 
   names-small : (k : ℕ) → 1 ≤ count k left + count k (t .node) → k < 65536
   names-small k z =
-      omega (arith, stands-on .here .names k (omega (arith, count-refill k (t .position) (t .rest) (t .node ⊹ t .rest), count-⊹ k (t .node) (t .rest))) .high)
+      omega (arith, stands-on .here .names k (omega (arith, stand-parts t k)) .high)
 
   stored-both : Stored (pageOf img) (lastPage c) left × Stored (pageOf img) (lastPage c) (t .node)
   stored-both = fill-less (stored-parted (pageOf img) (lastPage c)) (t .position) (t .node) (t .rest) (stands-on .here .stored)
@@ -150,7 +132,7 @@ module _ (img : List ℕ) (st : Config) (root : Row) (reads : Reads img st root)
   out-branch : (q : ℕ) → 1 ≤ count q root → count q (t .node) ≡ 0 → count (back img q) (t .node) ≡ 0
   out-branch q h z =
       either (count q left) (beside c q + along c q)
-      (omega (arith, count-chain q c old, ap (count q) (l .held), count-refill q (t .position) (t .rest) (t .node ⊹ t .rest), count-⊹ q (t .node) (t .rest)))
+      (omega (arith, stand-names root new t l q))
       (λ y. ⊎-elim (λ d. rw (d .1) (omega (arith, own-else, once (lastPage c)))) (λ d. omega (arith, once (back img q)))
       (held-in img (lastPage c) left q (fits-both .0) (stored-both .0) (omega (arith, stands-on .here .on .high)) (λ k y. names-small k (omega arith)) y))
       (λ y. omega (arith, held-above img st root reads c old q (l .held) y, once (back img q)))

@@ -7,10 +7,9 @@ use native.Mathlib.Omega.{arith}
 use lib.ListN.{length, length-replicate}
 use Rattle.model.specs.Limits.{pageSize, capacity}
 use Rattle.model.specs.Row.{Row, rec, recordSize, two, recordPage, recordOn}
-use Rattle.model.specs.Reading.{twoAt, backAt, pageOf}
+use Rattle.model.specs.Reading.{backAt, pageOf}
 use Rattle.model.specs.Spot.{fill}
-use Rattle.theory_decoding.specs.Decode.{two-bytes, in-trailer}
-use Rattle.theory_row_bytes.specs.RowAt.{number-on}
+use Rattle.theory_row_bytes.specs.RowAt.{back-on}
 use Rattle.theory_layout.specs.Here.{PageIn}
 use Rattle.theory_page_memory.specs.Memory.{Mem, blank, setMem, relink}
 use Rattle.base_numbers.specs.Over.{over, length-over}
@@ -77,11 +76,7 @@ module _ {img : List ℕ} {page child : ℕ} (w : Lifting img page child) where
 
   -- The back link names the holder.
   pub back-is : backAt img (pageSize * page) ≡ w .holder
-  unfolding twoAt
-  back-is =
-      let h = recordOn page (r .settled) (w .holder) (r .old) in
-      number-on img page (w .own) (capacity + 4) (omega arith)
-      ∙ rw (in-trailer h (w .small) 4, in-trailer h (w .small) 5) (two-bytes (w .holder) (omega (arith, r .on .high)))
+  back-is = back-on img (recordOn page (r .settled) (w .holder) (r .old)) (w .own) (w .small) (omega (arith, r .on .high))
 
   pub holder-renames : (h : ℕ) → h ≡ backAt img (pageSize * page) → Renaming img h page
   holder-renames h e = subst (λ (n : ℕ). Renaming img n page) (sym (e ∙ back-is)) r

@@ -18,7 +18,7 @@ use Rattle.theory_places.specs.Order.{lone-root}
 use Rattle.theory_layout.specs.Here.{Here}
 use Rattle.theory_growth.specs.Chain.{before, hang}
 use Rattle.theory_removal.specs.Stand.{Leaves, stand-leaves}
-use Rattle.theory_insert_point.specs.Bytes.{here-fill, chain-page}
+use Rattle.theory_insert_point.specs.Bytes.{chain-fill}
 use Rattle.read_find.specs.Rowed.{Rowed}
 use Rattle.grow_locate.specs.declared.Located.{Located}
 use Rattle.grow_locate.specs.Seek.{seekOf, seek-found}
@@ -96,9 +96,7 @@ module _ {img : List ℕ} {above k : ℕ} (w : Leaving img above k) where
 
   -- The node stands there, or its proxy, and what follows it.
   pub stand-here : Here img (lastPage (t .chain)) (pageSize * lastPage (t .chain) + base (fill (t .position) row) + before (t .position)) row
-  stand-here =
-      here-fill img (lastPage (t .chain)) (pageSize * lastPage (t .chain) + base (fill (t .position) row)) (t .position) row
-      (chain-page img (w .st) (w .root) (w .reads) (t .chain) (fill (t .position) row) (leaves .held) .here)
+  stand-here = chain-fill img (w .st) (w .root) (w .reads) (t .chain) (t .position) row (leaves .held)
 
   -- Its parent, in the records.
   found : (p : Parent (w .root) (w .y)) × (standBelow k (p .chain) (p .position) 0 [] (agg (p .head) (p .children) (p .rest)) ≡ some t)

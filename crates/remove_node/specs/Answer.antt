@@ -18,7 +18,7 @@ use Rattle.theory_removal.specs.Stand.{stand-leaves}
 use Rattle.theory_removal.specs.Keeps.{removed-is}
 use Rattle.theory_calls.specs.Remove.{Removable, removable, removal, remove-accepted, remove-refused}
 use Rattle.remove_locate.specs.declared.Standing.{Standing}
-use Rattle.remove_refusals.specs.Locate.{Locates}
+use Rattle.remove_path.specs.Locate.{Locates}
 use Rattle.remove_node.specs.Going.{Going}
 use Rattle.remove_node.specs.Gone.{Gone}
 

@@ -14,7 +14,6 @@ use Rattle.model.specs.Reading.{Reads, pageOf, settledAt, backAt}
 use Rattle.model.specs.Spot.{Position, here, inside, fill, Chain, top, below, lastPage, whole, lastHolder}
 use Rattle.model.specs.Removal.{Stand}
 use Rattle.theory_rows.specs.Fits.{Valid, Fits, Shape, one, more}
-use Rattle.theory_rows.specs.Image.{once}
 use Rattle.theory_rows.specs.Bound.{fits-parts}
 use Rattle.theory_rows.specs.Laws.{size-⊹}
 use Rattle.theory_rows.specs.Pages.{bit, count-⊹}
@@ -23,11 +22,11 @@ use Rattle.theory_decoding.specs.Reading.{reads-valid}
 use Rattle.theory_places.specs.Widths.{Table, told-some}
 use Rattle.theory_row_bytes.specs.RowAt.{byte-on, row-split}
 use Rattle.theory_layout.specs.Here.{PageIn, Here, OnPage}
-use Rattle.theory_growth.specs.Chain.{before, lastSettled, chain-fits, beside, along, count-chain, count-refill}
-use Rattle.theory_insert_point.specs.Bytes.{lastHeld, chain-page, chain-bytes, here-fill}
-use Rattle.theory_removal.specs.Stand.{Leaves, Onward}
+use Rattle.theory_growth.specs.Chain.{before, lastSettled, chain-fits, beside, along}
+use Rattle.theory_insert_point.specs.Bytes.{lastHeld, chain-page, chain-bytes, chain-fill}
+use Rattle.theory_removal.specs.Stand.{Leaves, Onward, stand-names, stand-once}
 use Rattle.theory_page_memory.specs.Links.{stored-parted}
-use Rattle.theory_page_memory.specs.Removing.{own-apart, stands}
+use Rattle.theory_page_memory.specs.Removing.{own-apart}
 use Rattle.grow_widths.specs.Raised.{Raising, hang-length, entryAnew, lowered, changed-long, changed-other}
 use Rattle.grow_locate.specs.Parent.{offsetIn}
 use Rattle.grow_splice.specs.Position.{isInside}
@@ -46,6 +45,18 @@ pub record Going (img u : List ℕ) (s : Standing) : Type 0 where
   pub leaves : Leaves root new t
   pub found : s ≡ standingOf t
   pub table : Table st root u
+
+-- The first nodes of a row that stands.
+front : (img : List ℕ) (page pos : ℕ) (a b : Row) → Here img page pos (a ⊹ b) → Here img page pos a
+front img page pos a b h = record {
+  at = row-split img pos a b (h .at) .0;
+  on = h .on;
+  start = h .start;
+  room = omega (arith, h .room, size-⊹ a b);
+  fits = fits-parts a b (h .fits) .0;
+  stored = stored-parted (pageOf img) page .parts a b (h .stored) .0;
+  names = λ q k. h .names q (omega (arith, count-⊹ q a b));
+}
 
 module _ {img u : List ℕ} {s : Standing} (w : Going img u s) where
   abbrev pub c : Chain
@@ -79,7 +90,7 @@ module _ {img u : List ℕ} {s : Standing} (w : Going img u s) where
 
   -- The node, in front of what follows it.
   pub node-here : Here img (lastPage c) (pageSize * lastPage c + base old + before (w .t .position)) row
-  node-here = here-fill img (lastPage c) (pageSize * lastPage c + base old) (w .t .position) row (on-page .here)
+  node-here = chain-fill img (w .st) (w .root) (w .reads) c (w .t .position) row (w .leaves .held)
 
   -- It is one of the image's, and the node stands within it.
   pub room : (1 ≤ s .page) × (s .page < mostPages) × (pageSize * s .page + pageSize ≤ length img) × (s .at + s .gone ≤ capacity)
@@ -114,11 +125,7 @@ module _ {img u : List ℕ} {s : Standing} (w : Going img u s) where
 
   -- The record's own page is not one of the branch's.
   pub apart : (k : ℕ) → bit (eqb k (lastPage c)) + count k (w .t .node) ≤ 1
-  apart k = omega (
-    arith,
-    own-apart (w .st) (w .root) v (w .new) (w .t) (w .leaves) (pageOf img) (pageOf img)
-        (stands img (w .st) (w .root) (w .reads) (w .new) (w .t) (w .leaves)) c refl k,
-  )
+  apart k = omega (arith, own-apart (w .st) (w .root) v (w .new) (w .t) (w .leaves) c refl k)
 
   -- What the steps require.
   abbrev pub raising : Raising img u (s .page) (s .deep)
@@ -164,20 +171,9 @@ module _ {img u : List ℕ} {s : Standing} (w : Going img u s) where
     beside = has-sibling;
   }
 
-  pub front : (page pos : ℕ) (a b : Row) → Here img page pos (a ⊹ b) → Here img page pos a
-  front page pos a b h = record {
-    at = row-split img pos a b (h .at) .0;
-    on = h .on;
-    start = h .start;
-    room = omega (arith, h .room, size-⊹ a b);
-    fits = fits-parts a b (h .fits) .0;
-    stored = stored-parted (pageOf img) page .parts a b (h .stored) .0;
-    names = λ q k. h .names q (omega (arith, count-⊹ q a b));
-  }
-
   pub stands-here : Here img (s .page) (pageSize * s .page + s .at) (w .t .node)
   stands-here =
-      let h = front (lastPage c) (pageSize * lastPage c + base old + before (w .t .position)) (w .t .node) (w .t .rest) node-here in
+      let h = front img (lastPage c) (pageSize * lastPage c + base old + before (w .t .position)) (w .t .node) (w .t .rest) node-here in
       let e : pageSize * lastPage c + base old + before (w .t .position) ≡ pageSize * s .page + s .at = omega (arith, page-is, at-is) in
       subst (λ (n : ℕ). Here img n (pageSize * s .page + s .at) (w .t .node)) (sym page-is) (subst (λ (n : ℕ). Here img (lastPage c) n (w .t .node)) e h)
 
@@ -187,14 +183,11 @@ module _ {img u : List ℕ} {s : Standing} (w : Going img u s) where
   abbrev pub less : List ℕ
   less = lowered (s .deep) c u
 
-  pub named : (q : ℕ) → beside c q + along c q + count q old ≡ count q (w .root)
-  named q = sym (count-chain q c old) ∙ ap (count q) (w .leaves .held)
+  pub named : (q : ℕ) → beside c q + along c q + count q (fill (w .t .position) (w .t .rest)) + count q (w .t .node) ≡ count q (w .root)
+  named = stand-names (w .root) (w .new) (w .t) (w .leaves)
 
-  pub one-time : (q : ℕ) → beside c q + along c q + count q old ≤ 1
-  one-time q = omega (arith, named q, once (w .st) (w .root) v q)
-
-  pub parts : (q : ℕ) → count q (fill (w .t .position) (w .t .rest)) + count q (w .t .node) ≡ count q old
-  parts q = omega (arith, count-refill q (w .t .position) (w .t .rest) row, count-⊹ q (w .t .node) (w .t .rest))
+  pub one-time : (q : ℕ) → beside c q + along c q + count q (fill (w .t .position) (w .t .rest)) + count q (w .t .node) ≤ 1
+  one-time q = stand-once (w .root) (w .new) (w .t) (w .leaves) q (w .st) v
 
   -- Beside the chain it is as it was: each of the branch's records has an entry, and no free page.
   pub less-other : (q : ℕ) → along c q ≡ 0 → getD less q 0 ≡ getD u q 0
@@ -202,8 +195,8 @@ module _ {img u : List ℕ} {s : Standing} (w : Going img u s) where
 
   pub less-named : (q : ℕ) → 1 ≤ count q (w .t .node) → getD less q 0 ≡ 0 → ⊥
   less-named q h z =
-      let told = told-some u (w .root) (v .rows .1) (w .table .told) q (omega (arith, named q, parts q)) in
-      omega (arith, told, sym (less-other q (omega (arith, one-time q, parts q))) ∙ z)
+      let told = told-some u (w .root) (v .rows .1) (w .table .told) q (omega (arith, named q)) in
+      omega (arith, told, sym (less-other q (omega (arith, one-time q))) ∙ z)
 
   pub less-used : (q : ℕ) → 2 ≤ q → q < w .st .pages → (getD less q 0 ≡ 0 → ⊥) → 1 ≤ count q (w .root)
   less-used q a b k = go (leb 1 (count q (w .root))) refl

@@ -43,7 +43,7 @@ use Rattle.remove_lift.specs.Lifting.{Lifting, lifted, lifted-long, lifted-page
 use Rattle.remove_locate.specs.declared.Standing.{Standing}
 use Rattle.remove_record.specs.declared.Remnant.{Remnant}
 use Rattle.remove_record.specs.Reduced.{Reduced}
-use Rattle.remove_node.specs.Going.{Going, c, row, old, v, page-is, on-page, settled-is, holder-is, apart, removing, less, named, one-time, parts}
+use Rattle.remove_node.specs.Going.{Going, c, row, old, v, page-is, on-page, settled-is, holder-is, apart, removing, less, named, one-time}
 use Rattle.remove_node.specs.Going.{less-other, branch}
 
 pub record Gone {img u : List ℕ} {s : Standing} (w : Going img u s) (after entries : List ℕ) : Type 0 where
@@ -71,7 +71,7 @@ module _ {img u : List ℕ} {s : Standing} (w : Going img u s) where
       (told-along u (c w) (old w) (subst (Told u) (sym (w .leaves .held)) (w .table .told))))
 
   none-first : count 0 (t .node) ≡ 0
-  none-first = omega (arith, parts w 0, named w 0, v w .placed 0)
+  none-first = omega (arith, named w 0, v w .placed 0)
 
   own-low : 1 ≤ lastPage (c w)
   own-low = on-page w .here .on .low
@@ -129,7 +129,7 @@ module _ {img u : List ℕ} {s : Standing} (w : Going img u s) where
     fewer : Fewer t u entries
     fewer = record {
       long = free .table ∙ ap length is-less ∙ changed-long (entryAnew false) (s .deep) (c w) u;
-      shows = along-same (less w) entries (c w) left (λ q h. entry-other q (omega (arith, one-time w q, parts w q))) less-shows;
+      shows = along-same (less w) entries (c w) left (λ q h. entry-other q (omega (arith, one-time w q))) less-shows;
       branch = λ q h. free .gone q h .1;
       other = λ q h k. entry-other q h ∙ less-other w q k;
     }
@@ -205,8 +205,7 @@ module _ {img u : List ℕ} {s : Standing} (w : Going img u s) where
             arith,
             self (lastPage d),
             beyond-own (w .st) d (lastPage d),
-            own-apart (w .st) (w .root) (v w) (w .new) t (w .leaves) (pageOf img) (pageOf img)
-                (stands img (w .st) (w .root) (w .reads) (w .new) t (w .leaves)) (below d (y .position) q (y .settled) (y .rest)) (y .is) (lastPage d),
+            own-apart (w .st) (w .root) (v w) (w .new) t (w .leaves) (below d (y .position) q (y .settled) (y .rest)) (y .is) (lastPage d),
           ))
 
       own-kept : pageOf mid q ≡ recordPage (recordOn q (y .settled) (lastPage d) (old w))

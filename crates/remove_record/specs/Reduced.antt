@@ -11,7 +11,7 @@ use Rattle.model.specs.Row.{recordOn, count}
 use Rattle.model.specs.Reading.{pageOf, usedAt, kindAt, nameAt}
 use Rattle.model.specs.Spot.{Position, here, inside, fill}
 use Rattle.base_numbers.specs.Over.{over}
-use Rattle.theory_rows.specs.Laws.{size-⊹}
+use Rattle.theory_rows.specs.Laws.{size-⊹, nodes-nil, nodes-size}
 use Rattle.theory_rows.specs.Bound.{isNil-⊹}
 use Rattle.theory_rows.specs.Pages.{count-⊹}
 use Rattle.theory_rows.specs.Image.{length-record}
@@ -26,7 +26,7 @@ use Rattle.grow_locate.specs.Parent.{offsetIn, holderIn, at-before}
 use Rattle.grow_replace_proxy.specs.Lift.{page-used, page-part}
 use Rattle.remove_record.specs.declared.Remnant.{Remnant}
 use Rattle.remove_record.specs.declared.Sibling.{Sibling}
-use Rattle.remove_record.specs.Sibling.{Losing, SiblingIs, Alone, nodes-nil, nodes-size}
+use Rattle.remove_record.specs.Sibling.{Losing, SiblingIs, Alone}
 
 -- A record stands on `page`; `node`, one node of `gone` bytes, is to go from it: it stands at the byte pos of the record, in the node at par, and `rest` after
 -- it. At the top of the record's row it has another beside it.

@@ -12,7 +12,7 @@ use Rattle.model.specs.Limits.{capacity}
 use Rattle.model.specs.Row.{Row, nil, agg, lit, rec, _⊹_, size, nodeCount, base, recordSize, recordBytes}
 use Rattle.model.specs.Reading.{kindAt, sizeAt}
 use Rattle.model.specs.Spot.{Position, here, inside, fill}
-use Rattle.theory_rows.specs.Laws.{size-⊹, ⊹-nil}
+use Rattle.theory_rows.specs.Laws.{size-⊹, ⊹-nil, nodes-nil, nodes-size}
 use Rattle.theory_rows.specs.Image.{length-record}
 use Rattle.theory_rows.specs.Bound.{not-nil}
 use Rattle.theory_rows.specs.Shows.{nodeCount-some}
@@ -25,12 +25,6 @@ use Rattle.remove_record.specs.declared.Sibling.{Sibling}
 
 -- ── rows of few nodes ──
 
-pub nodes-nil : (r : Row) → nodeCount r ≡ 0 → r ≡ nil
-nodes-nil nil e = refl
-nodes-nil (agg h cs rest) e = absurd (omega arith)
-nodes-nil (lit h c rest) e = absurd (omega arith)
-nodes-nil (rec p s r rest) e = absurd (omega arith)
-
 size-nil : (r : Row) → size r ≡ 0 → r ≡ nil
 size-nil nil e = refl
 size-nil (agg h cs rest) e = absurd (omega arith)
@@ -42,12 +36,6 @@ nodes-first nil h = absurd (omega arith)
 nodes-first (agg l cs rest) h = omega arith
 nodes-first (lit l c rest) h = omega arith
 nodes-first (rec p s r rest) h = omega arith
-
-pub nodes-size : (r : Row) → 1 ≤ nodeCount r → 6 ≤ size r
-nodes-size nil h = absurd (omega arith)
-nodes-size (agg l cs rest) h = omega arith
-nodes-size (lit l c rest) h = omega arith
-nodes-size (rec p s r rest) h = omega arith
 
 -- One node, and what stands behind it.
 one-first : (a b : Row) → nodeCount a ≡ 1 → (sizeOf (a ⊹ b) ≡ size a) × (restOf (a ⊹ b) ≡ b)

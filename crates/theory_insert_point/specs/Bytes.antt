@@ -76,10 +76,12 @@ module _ (img : List ℕ) where
         rw e (m .0)
     chain-bytes (below c s q b rest) row e = chain-here c s q b rest row e .stored .0
 
-    -- Where the new node goes, the row that follows it stands now.
+    -- What fills a position in it stands there,
+    pub chain-fill : (c : Chain) (s : Position) (row : Row) → whole c (fill s row) ≡ root
+        → Here img (lastPage c) (pageSize * lastPage c + base (fill s row) + before s) row
+    chain-fill c s row e = here-fill (lastPage c) (pageSize * lastPage c + base (fill s row)) s row (chain-page c (fill s row) e .here)
+
+    -- and so, where the new node goes, the row that follows it now.
     pub spot-here : (path : List ℕ) (k : ℕ) (t : Spot) → spotOf root path k ≡ some t
         → Here img (lastPage (t .chain)) (pageSize * lastPage (t .chain) + base (fill (t .position) (t .rest)) + before (t .position)) (t .rest)
-    spot-here path k t e =
-        let row = fill (t .position) (t .rest) in
-        here-fill (lastPage (t .chain)) (pageSize * lastPage (t .chain) + base row) (t .position) (t .rest)
-        (chain-page (t .chain) row (spot-whole root path k t e) .here)
+    spot-here path k t e = chain-fill (t .chain) (t .position) (t .rest) (spot-whole root path k t e)

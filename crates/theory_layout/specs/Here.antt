@@ -13,10 +13,11 @@ use Rattle.theory_rows.specs.Fits.{Fits, HeadFits}
 use Rattle.theory_rows.specs.Image.{Stored}
 use Rattle.theory_decoding.specs.Valid.{names-own}
 use Rattle.theory_decoding.specs.Steps.{recordCount, few-records, named-inside, steps}
-use Rattle.theory_decoding.specs.Decode.{two-bytes, in-trailer, used-page, stored-image}
+use Rattle.theory_decoding.specs.Decode.{in-trailer, used-page, stored-image}
 use Rattle.theory_decoding.specs.Reading.{reads-valid, reads-length}
 use Rattle.theory_places.specs.Order.{lone-root}
-use Rattle.theory_row_bytes.specs.RowAt.{RowAt, first-node, kindOf, headOf, sizeOf, bodyOf, nameOf, kidsOf, restOf, record-row, record-first, page-record}
+use Rattle.theory_row_bytes.specs.RowAt.{RowAt, first-node, kindOf, headOf, sizeOf, bodyOf, nameOf, kidsOf, restOf, record-row, record-first}
+use Rattle.theory_row_bytes.specs.RowAt.{page-record, back-on}
 use Rattle.theory_row_bytes.specs.RowAt.{no-head, byte-on, number-on}
 
 -- How far records are nested below a row.
@@ -85,7 +86,7 @@ module _ (img : List ℕ) (h : Held) (p : PageIn img (h .page)) (e : pageOf img 
         first = record-first w;
         state = page-byte capacity (omega arith) ∙ in-trailer h f 0;
         used = page-number (capacity + 2) (omega arith) ∙ used-page h f;
-        back = page-number (capacity + 4) (omega arith) ∙ rw (in-trailer h f 4, in-trailer h f 5) (two-bytes (h .holder) (omega arith));
+        back = back-on img h e f (omega arith);
         fits = f;
       }
 

@@ -17,12 +17,12 @@ use Rattle.model.specs.Removal.{Stand, replaced, lost, without}
 use Rattle.theory_rows.specs.Fits.{Valid, Fits}
 use Rattle.theory_rows.specs.Bound.{fits-parts}
 use Rattle.theory_rows.specs.Image.{Stored}
-use Rattle.theory_rows.specs.Pages.{bit, count-⊹, tally-rest}
+use Rattle.theory_rows.specs.Pages.{bit, tally-rest}
 use Rattle.theory_decoding.specs.Decode.{stored-same, stored-image}
 use Rattle.theory_decoding.specs.Reading.{reads-valid, reads-length}
 use Rattle.theory_check.specs.Images.{image-is}
 use Rattle.theory_growth.specs.Chain.{lastSettled, fill-more, fill-less, fits-fill, fits-refill, chain-fits, count-refill, count-chain}
-use Rattle.theory_removal.specs.Stand.{Leaves}
+use Rattle.theory_removal.specs.Stand.{Leaves, stand-parts}
 use Rattle.theory_removal.specs.Keeps.{Proxy, helperFreed, without-names}
 use Rattle.theory_page_memory.specs.Memory.{Mem, blank, setMem, relink}
 use Rattle.theory_page_memory.specs.Links.{self, not-bit, stored-parted, set-same, set-other, relink-page}
@@ -54,6 +54,20 @@ module _ (t : Stand) (m m′ : Mem) where
     pub above : m′ (lastPage c) ≡ recordPage (recordOn (lastPage c) (lastSettled c) (lastHolder c) (fill s (rec (x .page) (x .settled) (x .inside) rest)))
     pub others : (p : ℕ) → count p (t .node) ≡ 0 → bit (eqb p q) ≡ 0 → bit (eqb p (x .page)) ≡ 0 → bit (eqb p (lastPage c)) ≡ 0 → m′ p ≡ m p
 
+module _ (st : Config) (root : Row) (v : Valid st root) (new : Tree) (t : Stand) (l : Leaves root new t) (c : Chain) (e : t .chain ≡ c) where
+  holds : whole c (fill (t .position) (t .node ⊹ t .rest)) ≡ root
+  holds = ap (λ (z : Chain). whole z (fill (t .position) (t .node ⊹ t .rest))) (sym e) ∙ l .held
+
+  -- Each page is named at most one time: around the record, in what is left of it, and in the branch.
+  pub around-once : (k : ℕ) → elsewhere st c k + count k (fill (t .position) (t .rest)) + count k (t .node) ≤ 1
+  around-once k =
+      let old = fill (t .position) (t .node ⊹ t .rest) in
+      omega (arith, tally-rest st root (v .placed) refl k, bit-le (atRest st root .used k), count-chain k c old, ap (count k) holds, stand-parts t k)
+
+  -- Its page is not among those that it names, and of those that it names none is named elsewhere.
+  pub own-apart : (k : ℕ) → bit (eqb k (lastPage c)) + beyond st c k + count k (fill (t .position) (t .rest)) + count k (t .node) ≤ 1
+  own-apart k = omega (arith, around-once k, beyond-own st c k)
+
 module _ (st : Config) (root : Row) (v : Valid st root) (new : Tree) (t : Stand) (l : Leaves root new t) (m m′ : Mem) (stored : Stored m 0 (store root)) where
   abbrev old : Row
   old = fill (t .position) (t .node ⊹ t .rest)
@@ -66,23 +80,9 @@ module _ (st : Config) (root : Row) (v : Valid st root) (new : Tree) (t : Stand)
       let g = chain-fits (t .chain) old (subst (λ (r : Row). Fits (store r)) (sym (l .held)) (v .rows)) .1 in
       fits-refill (t .position) (t .node ⊹ t .rest) (t .rest) g (fits-parts (t .node) (t .rest) (fits-fill (t .position) (t .node ⊹ t .rest) g) .1)
 
-  parts : (k : ℕ) → count k left + count k (t .node) ≡ count k old
-  parts k = omega (arith, count-refill k (t .position) (t .rest) (t .node ⊹ t .rest), count-⊹ k (t .node) (t .rest))
-
   module _ (c : Chain) (e : t .chain ≡ c) where
-    is-root : whole c old ≡ root
-    is-root = ap (λ (z : Chain). whole z old) (sym e) ∙ l .held
-
-    -- Each page is named at most one time, around the record and in it.
-    one : (k : ℕ) → elsewhere st c k + count k old ≤ 1
-    one k = omega (arith, tally-rest st root (v .placed) refl k, bit-le (atRest st root .used k), count-chain k c old, ap (count k) is-root)
-
-    -- Its page is not among those that it names, and of those that it names none is named elsewhere.
-    pub own-apart : (k : ℕ) → bit (eqb k (lastPage c)) + beyond st c k + count k left + count k (t .node) ≤ 1
-    own-apart k = omega (arith, one k, parts k, beyond-own st c k)
-
     apart : Around m c old × (m (lastPage c) ≡ recordPage (recordOn (lastPage c) (lastSettled c) (lastHolder c) old)) × Stored m (lastPage c) old
-    apart = disassemble m c old (subst (λ (r : Row). Stored m 0 (store r)) (sym is-root) stored)
+    apart = disassemble m c old (subst (λ (r : Row). Stored m 0 (store r)) (sym (holds st root v new t l c e)) stored)
 
     pub stored-left : Stored m (lastPage c) left
     stored-left = fill-less (stored-parted m (lastPage c)) (t .position) (t .node) (t .rest) (apart .2) .0
@@ -97,7 +97,7 @@ module _ (st : Config) (root : Row) (v : Valid st root) (new : Tree) (t : Stand)
   rewritten-by m₁ w =
       let q = lastPage (t .chain) in
       let page = recordPage (recordOn q (lastSettled (t .chain)) (lastHolder (t .chain)) left) in
-      let apart = own-apart (t .chain) refl in
+      let apart = own-apart st root v new t l (t .chain) refl in
       record {
         branch = λ p h. set-other q p page m₁ (omega (arith, apart p)) ∙ w .named p h;
         own = set-same q page m₁;
@@ -122,7 +122,7 @@ module _ (st : Config) (root : Row) (v : Valid st root) (new : Tree) (t : Stand)
         let m₂ : Mem = setMem h liftedPage m₁ in
         let page = relink h (m₂ p) in
         let m₃ : Mem = setMem p page m₂ in
-        let apart = own-apart (below c s q b rest) e in
+        let apart = own-apart st root v new t l (below c s q b rest) e in
         let named : (k : ℕ) → count k left ≡ bit (eqb k p) + count k (x .inside) + 0 = λ k. ap (count k) (x .is) in
         let up = beyond-own st c in
         let was = subst (Stored m q) (x .is) (stored-left (below c s q b rest) e) .0 in
@@ -145,25 +145,25 @@ module _ (st : Config) (root : Row) (v : Valid st root) (new : Tree) (t : Stand)
   pub rewritten-stored : Rewritten t m m′ → Stored m′ 0 (store (whole (t .chain) left))
   rewritten-stored w =
       let c = t .chain in
-      let n = one c refl in
+      let n = around-once st root v new t l c refl in
       assemble m′ c old left
-      (around-agree st m m′ c old (λ k h. w .others k (omega (arith, n k, parts k, beyond-own st c k)) (omega (arith, n k, beyond-own st c k)))
+      (around-agree st m m′ c old (λ k h. w .others k (omega (arith, n k, beyond-own st c k)) (omega (arith, n k, beyond-own st c k)))
       (apart c refl .0))
       (w .own)
-      (stored-same m m′ (lastPage c) left (λ k h. w .others k (omega (arith, n k, parts k)) (omega (arith, n k, parts k, beyond-own st c k)))
+      (stored-same m m′ (lastPage c) left (λ k h. w .others k (omega (arith, n k)) (omega (arith, n k, beyond-own st c k)))
       (stored-left c refl))
 
   -- Its one proxy takes its place.
   pub lifted-stored : (c : Chain) (s : Position) (q : ℕ) (b : Bool) (rest : Row) (x : Proxy left) → t .chain ≡ below c s q b rest → Lifted t m m′ c s q b rest x
       → Stored m′ 0 (store (whole c (fill s (rec (x .page) (x .settled) (x .inside) rest))))
   lifted-stored c s q b rest x e w =
-      let n = one (below c s q b rest) e in
+      let n = around-once st root v new t l (below c s q b rest) e in
       let z = apart (below c s q b rest) e .0 in
       let y = subst (Stored m q) (x .is) (stored-left (below c s q b rest) e) in
       let named : (k : ℕ) → count k left ≡ bit (eqb k (x .page)) + count k (x .inside) + 0 = λ k. ap (count k) (x .is) in
       let other : (k : ℕ) → 0 < beyond st c k + count k (fill s rest) + count k (x .inside) → m′ k ≡ m k =
-      λ k h. w .others k (omega (arith, n k, parts k, named k, beyond-own st c k)) (omega (arith, n k, parts k, named k, beyond-own st c k))
-      (omega (arith, n k, parts k, named k, beyond-own st c k)) (omega (arith, n k, parts k, named k, beyond-own st c k)) in
+      λ k h. w .others k (omega (arith, n k, named k, beyond-own st c k)) (omega (arith, n k, named k, beyond-own st c k))
+      (omega (arith, n k, named k, beyond-own st c k)) (omega (arith, n k, named k, beyond-own st c k)) in
       assemble m′ c (fill s (rec q b old rest)) (fill s (rec (x .page) (x .settled) (x .inside) rest))
       (around-agree st m m′ c (fill s (rec q b old rest)) (λ k h. other k (omega arith)) (z .2)) (w .above)
       (fill-more (stored-parted m′ (lastPage c)) s (rec (x .page) (x .settled) (x .inside) nil) rest

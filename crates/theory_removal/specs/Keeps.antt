@@ -21,7 +21,7 @@ use Rattle.theory_growth.specs.Chain.{count-chain}
 use Rattle.theory_growth.specs.Shown.{around, above, shown-fill, shown-whole}
 use Rattle.theory_growth.specs.Store.{settled-lone, isBranch, agg-branch}
 use Rattle.theory_removal.specs.Laws.{levels-removeAt}
-use Rattle.theory_removal.specs.Stand.{Onward, Leaves, stand-leaves}
+use Rattle.theory_removal.specs.Stand.{Onward, Leaves, stand-leaves, stand-names}
 
 -- ── one proxy ──
 
@@ -64,7 +64,7 @@ module _ (s : Position) (node rest : Row) (o : Onward s (node ⊹ rest)) (n : no
   left = fill s rest
 
   -- A record of one node loses it not: the node stands inside its root.
-  pub lone-left : lone old ≡ true → lone left ≡ true
+  lone-left : lone old ≡ true → lone left ≡ true
   lone-left e = go s o e
     where
       go : (s : Position) → Onward s (node ⊹ rest) → lone (fill s (node ⊹ rest)) ≡ true → lone (fill s rest) ≡ true
@@ -78,7 +78,7 @@ module _ (s : Position) (node rest : Row) (o : Onward s (node ⊹ rest)) (n : no
       go (here left) = omega (arith, nodeCount-⊹ left (node ⊹ rest), nodeCount-⊹ left rest, nodeCount-⊹ node rest)
       go (inside left h right s) = omega (arith, nodeCount-⊹ left (agg h (fill s rest) right), nodeCount-⊹ left (agg h (fill s (node ⊹ rest)) right))
 
-  pub size-left : size left + size node ≡ size old
+  size-left : size left + size node ≡ size old
   size-left = omega (arith, size-fill s rest (node ⊹ rest), size-⊹ node rest)
 
   -- What is left fits, but for a helper with one proxy.
@@ -180,7 +180,7 @@ abbrev pub helperFreed : Chain → (row : Row) → ℕ → Bool
 helperFreed top row q = false
 helperFreed (below c s p b rest) row q = loneRec row && eqb q p
 
-pub count-lost : (q : ℕ) (c : Chain) (row : Row) → count q (lost c row) + bit (helperFreed c row q) ≡ count q (whole c row)
+count-lost : (q : ℕ) (c : Chain) (row : Row) → count q (lost c row) + bit (helperFreed c row q) ≡ count q (whole c row)
 unfolding replaced
 count-lost q top row = omega arith
 count-lost q (below c s p b rest) row = go (loneRec row)
@@ -200,23 +200,16 @@ count-lost q (below c s p b rest) row = go (loneRec row)
 
 module _ (root : Row) (new : Tree) (t : Stand) (l : Leaves root new t) where
   -- The tree shown is the plain tree's.
-  pub without-shows : shown (without t) ≡ new
+  without-shows : shown (without t) ≡ new
   without-shows = shown-lost (t .chain) (fill (t .position) (t .rest)) ∙ ap (above (t .chain)) (shown-fill (t .position) (t .rest)) ∙ l .shows
 
   -- A page that was named is named still, or is one of the branch's, or a replaced helper's; none is named anew.
   pub without-names : (q : ℕ) → count q (without t) + bit (helperFreed (t .chain) (fill (t .position) (t .rest)) q) + count q (t .node) ≡ count q root
   without-names q =
-      omega (
-        arith,
-        count-lost q (t .chain) (fill (t .position) (t .rest)),
-        count-chain q (t .chain) (fill (t .position) (t .rest)),
-        count-chain q (t .chain) (fill (t .position) (t .node ⊹ t .rest)),
-        count-refill q (t .position) (t .rest) (t .node ⊹ t .rest),
-        count-⊹ q (t .node) (t .rest),
-        ap (count q) (l .held),
-      )
+      let left = fill (t .position) (t .rest) in
+      omega (arith, count-lost q (t .chain) left, count-chain q (t .chain) left, stand-names root new t l q)
 
-  pub without-fits : Fits (store root) → Fits (store (without t))
+  without-fits : Fits (store root) → Fits (store (without t))
   without-fits f = lost-fits (t .position) (t .node) (t .rest) (l .onward) (l .one) (t .chain) (subst (λ (r : Row). Fits (store r)) (sym (l .held)) f)
 
   -- The root record is no helper's.

@@ -3,16 +3,19 @@ use mathlib.Core.Path.{_≡_, refl, sym, ap, subst, _∙_}
 use mathlib.Core.Bool.{Bool, true, false, cond, _&&_, true≢false}
 use mathlib.Core.List.{List, [], _∷_}
 use mathlib.Core.Option.{Option, some, Option·some-injective, Option·none-ne-some}
-use Prim.Native.Nat.{ℕ, zero, suc, _-_}
+use Prim.Native.Nat.{ℕ, zero, suc, _+_, _-_, _≤_}
 use native.Mathlib.Omega.{arith}
 use borrow.Author.Tests.{ltb-true}
 use lib.Dec.{ltb}
-use Rattle.model.specs.Row.{Head, Row, nil, agg, lit, rec, _⊹_, nodeCount, lone}
+use Rattle.model.specs.Row.{Head, Row, nil, agg, lit, rec, _⊹_, nodeCount, lone, count, Config}
 use Rattle.model.specs.Tree.{Tree, branch, _⊞_, shown, width, removeAt}
 use Rattle.model.specs.Spot.{Position, here, inside, fill, past, into, Chain, top, below, whole}
 use Rattle.model.specs.Removal.{Stand, isEmpty, standAt, standIn, standOf}
 use Rattle.theory_rows.specs.Laws.{cond-case, ⊹-assoc, ⊞-end, breadth-shown, within, beyond, isNil-nil}
-use Rattle.theory_growth.specs.Chain.{fill-past, fill-into}
+use Rattle.theory_growth.specs.Chain.{fill-past, fill-into, beside, along, count-refill, count-chain}
+use Rattle.theory_rows.specs.Fits.{Valid}
+use Rattle.theory_rows.specs.Image.{once}
+use Rattle.theory_rows.specs.Pages.{count-⊹}
 use Rattle.theory_growth.specs.Shown.{around, above, around-past, around-into}
 use Rattle.theory_removal.specs.Laws.{removeAt-left, removeAt-right, removeAt-lone}
 
@@ -32,6 +35,23 @@ pub record Leaves (root : Row) (new : Tree) (t : Stand) : Type 0 where
   pub one : nodeCount (t .node) ≡ 1
   pub wide : width (t .node) ≡ 1
   pub onward : Onward (t .position) (t .node ⊹ t .rest)
+
+-- ── the pages that the root record names ──
+
+-- Of the record that holds the node: what is left of it, and the branch.
+pub stand-parts : (t : Stand) (q : ℕ) → count q (fill (t .position) (t .rest)) + count q (t .node) ≡ count q (fill (t .position) (t .node ⊹ t .rest))
+stand-parts t q = omega (arith, count-refill q (t .position) (t .rest) (t .node ⊹ t .rest), count-⊹ q (t .node) (t .rest))
+
+module _ (root : Row) (new : Tree) (t : Stand) (l : Leaves root new t) (q : ℕ) where
+  -- Of all of it: beside the chain, by the chain, in what is left, and in the branch.
+  pub stand-names : beside (t .chain) q + along (t .chain) q + count q (fill (t .position) (t .rest)) + count q (t .node) ≡ count q root
+  stand-names = omega (arith, count-chain q (t .chain) (fill (t .position) (t .node ⊹ t .rest)), stand-parts t q, ap (count q) (l .held))
+
+  pub stand-once : (st : Config) → Valid st root
+      → beside (t .chain) q + along (t .chain) q + count q (fill (t .position) (t .rest)) + count q (t .node) ≤ 1
+  stand-once st v = omega (arith, stand-names, once st root v q)
+
+-- ── the stand of a path ──
 
 -- Where the path ends at this row, the row is no record's only node.
 abbrev Ends : List ℕ → Position → Row → Type 0

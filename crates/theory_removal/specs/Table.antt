@@ -10,14 +10,13 @@ use lib.Dec.{leb, eqb}
 use Rattle.model.specs.Row.{Row, nil, rec, store, _⊹_, count, Config}
 use Rattle.model.specs.Tree.{Tree, width}
 use Rattle.model.specs.Spot.{Position, fill, Chain, below, whole}
-use Rattle.model.specs.Removal.{Stand, without, replaced}
+use Rattle.model.specs.Removal.{Stand, without}
 use Rattle.theory_rows.specs.Fits.{Valid}
-use Rattle.theory_rows.specs.Image.{once}
-use Rattle.theory_rows.specs.Pages.{bit, count-⊹}
+use Rattle.theory_rows.specs.Pages.{bit}
 use Rattle.theory_places.specs.Widths.{Told, Table, told-same}
 use Rattle.theory_growth.specs.Chain.{fill-more, fill-less, count-refill, count-chain, beside, along}
 use Rattle.theory_growth.specs.Told.{ToldAround, ToldAlong, told-parted, told-chain, told-whole, around-same, along-same, along-width, width-fill}
-use Rattle.theory_removal.specs.Stand.{Leaves}
+use Rattle.theory_removal.specs.Stand.{Leaves, stand-names, stand-once}
 use Rattle.theory_removal.specs.Keeps.{Proxy}
 
 module _ (t : Stand) (u v : List ℕ) where
@@ -33,19 +32,11 @@ module _ (st : Config) (root : Row) (w : Valid st root) (new : Tree) (t : Stand)
   abbrev left : Row
   left = fill (t .position) (t .rest)
 
-  -- Each page is named at most one time: beside the chain, by it, in what is left, or in the branch.
   named : (q : ℕ) → beside (t .chain) q + along (t .chain) q + count q left + count q (t .node) ≡ count q root
-  named q =
-      omega (
-        arith,
-        count-chain q (t .chain) (fill (t .position) (t .node ⊹ t .rest)),
-        count-refill q (t .position) (t .rest) (t .node ⊹ t .rest),
-        count-⊹ q (t .node) (t .rest),
-        ap (count q) (l .held),
-      )
+  named = stand-names root new t l
 
   one : (q : ℕ) → beside (t .chain) q + along (t .chain) q + count q left + count q (t .node) ≤ 1
-  one q = omega (arith, named q, once st root w q)
+  one q = stand-once root new t l q st w
 
   was : ToldAround u (t .chain) × Told u (fill (t .position) (t .node ⊹ t .rest))
   was = told-chain u (t .chain) (fill (t .position) (t .node ⊹ t .rest)) (subst (Told u) (sym (l .held)) (b .told))

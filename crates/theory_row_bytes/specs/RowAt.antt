@@ -11,12 +11,12 @@ use lib.Dec.{eqb}
 use Rattle.model.specs.Limits.{pageSize, capacity}
 use Rattle.model.specs.Row.{Head, Row, nil, agg, lit, rec, _⊹_, size, lone, base, two, header, bytes, recordBytes, recordSize, noHead, trailer, Held}
 use Rattle.model.specs.Row.{recordPage}
-use Rattle.model.specs.Reading.{twoAt, kindAt, headAt, sizeAt, nameAt, pageOf}
+use Rattle.model.specs.Reading.{twoAt, kindAt, headAt, sizeAt, nameAt, backAt, pageOf}
 use Rattle.base_numbers.specs.Over.{over, over-right}
 use Rattle.theory_rows.specs.Fits.{HeadFits}
 use Rattle.theory_rows.specs.Laws.{length-bytes, bytes-⊹}
 use Rattle.theory_rows.specs.Image.{length-record}
-use Rattle.theory_decoding.specs.Decode.{two-bytes}
+use Rattle.theory_decoding.specs.Decode.{two-bytes, in-trailer}
 
 -- The first bytes at pos are passed.
 past : (l : List ℕ) (pos n : ℕ) (first rest : List ℕ) → length first ≡ n → drop pos l ≡ first ++ rest → drop (pos + n) l ≡ rest
@@ -271,6 +271,13 @@ module _ (img : List ℕ) (p : ℕ) {s : List ℕ} (e : pageOf img p ≡ s) wher
   number-on i k =
       let z : pageSize * p + i + 1 ≡ pageSize * p + (i + 1) = omega arith in
       rw (z, byte-on i (omega arith), byte-on (i + 1) (omega arith))
+
+-- The back link on a record's page.
+pub back-on : (img : List ℕ) (h : Held) → pageOf img (h .page) ≡ recordPage h → recordSize (h .row) ≤ capacity → h .holder < 65536
+    → backAt img (pageSize * h .page) ≡ h .holder
+unfolding twoAt
+back-on img h e f small =
+    number-on img (h .page) e (capacity + 4) (omega arith) ∙ rw (in-trailer h f 4, in-trailer h f 5) (two-bytes (h .holder) small)
 
 -- The record of a page stands where its page starts.
 pub page-record : (img : List ℕ) (h : Held) → pageOf img (h .page) ≡ recordPage h → RecordAt img (pageSize * h .page) (h .row)

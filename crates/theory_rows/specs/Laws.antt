@@ -8,7 +8,7 @@ use native.Mathlib.Nat.{sub-zero, suc-sub-suc}
 use borrow.Author.Tests.{ltb-true, ltb-false}
 use lib.ListN.{length, length-append}
 use lib.Dec.{ltb, eqb}
-use Rattle.model.specs.Row.{Row, nil, agg, lit, rec, _⊹_, size, isNil, lone, bytes}
+use Rattle.model.specs.Row.{Row, nil, agg, lit, rec, _⊹_, size, nodeCount, isNil, lone, bytes}
 use Rattle.model.specs.Tree.{Tree, end, branch, leaf, _⊞_, shown, width, breadth, New, newNode, putAt, insertAt}
 
 -- ── bytes ──
@@ -144,3 +144,18 @@ putAt-lone x (suc i) (agg l cs rest) t e h = absurd (omega (arith, ap width (isN
 putAt-lone x zero (lit l c rest) t e h = rw (isNil-nil rest e)
 putAt-lone x (suc i) (lit l c rest) t e h = absurd (omega (arith, ap width (isNil-nil rest e)))
 putAt-lone x i (rec p s r rest) t e h = absurd (false≢true e)
+
+-- ── rows of few nodes ──
+
+pub nodes-nil : (r : Row) → nodeCount r ≡ 0 → r ≡ nil
+nodes-nil nil e = refl
+nodes-nil (agg h cs rest) e = absurd (omega arith)
+nodes-nil (lit h c rest) e = absurd (omega arith)
+nodes-nil (rec p s r rest) e = absurd (omega arith)
+
+-- A node has a header.
+pub nodes-size : (r : Row) → 1 ≤ nodeCount r → 6 ≤ size r
+nodes-size nil h = absurd (omega arith)
+nodes-size (agg l cs rest) h = omega arith
+nodes-size (lit l c rest) h = omega arith
+nodes-size (rec p s r rest) h = omega arith

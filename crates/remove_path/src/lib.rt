@@ -12,7 +12,7 @@ ghost use Rattle.model.specs.Row.{Row, Config};
 ghost use Rattle.model.specs.Reading.{Reads};
 ghost use Rattle.model.specs.Calls.Check.{checkOf};
 ghost use Rattle.theory_layout.specs.Widths.{Widths};
-ghost use Rattle.remove_refusals.specs.Locate.{nowhere, Locates};
+ghost use Rattle.remove_path.specs.Locate.{nowhere, Locates};
 
 fn nowhere() -> Standing
     ensures { λ r. ⌜ r ≡ nowhere ⌝ }

@@ -13,7 +13,7 @@ use Rattle.model.specs.Row.{Row, Config}
 use Rattle.model.specs.Tree.{Node, shown, named, placeOf}
 use Rattle.model.specs.Reading.{Reads, kindAt, sizeAt}
 use Rattle.model.specs.Removal.{Stand, standOf}
-use Rattle.model.specs.Common.{entries, namedIf, namedBy, orEmpty, pathOf, isNone}
+use Rattle.model.specs.Common.{namedIf, namedBy, orEmpty, pathOf, isNone}
 use Rattle.model.specs.Calls.Find.{findOf}
 use Rattle.model.specs.declared.Place.{Place}
 use Rattle.model.specs.declared.FindAnswer.{FindAnswer}
@@ -25,7 +25,7 @@ use Rattle.grow_locate.specs.Seek.{seekOf}
 use Rattle.grow_refusals.specs.Admit.{foundAt, FoundNode, find-number, found, not-literal, searched}
 use Rattle.remove_locate.specs.declared.Standing.{Standing}
 use Rattle.remove_locate.specs.Leave.{standingAt, standingOf, standing-found, standing-is}
-use Rattle.remove_refusals.specs.Child.{hasChild, child-named, no-child, LastEntry, last-entry}
+use Rattle.remove_path.specs.Child.{hasChild, child-named, no-child, LastEntry, last-entry}
 
 abbrev pub nowhere : Standing
 nowhere = record { found = false; page = 0; at = 0; gone = 0; par = 0; deep = 0 }
@@ -35,7 +35,7 @@ pub record Locates (root : Row) (path : List ℕ) (r : Standing) : Type 0 where
   pub found : r .found ≡ not (isNone (namedBy (shown root) path))
   pub stands : r .found ≡ true → (t : Stand) → standOf root (pathOf path) ≡ some t → r ≡ standingOf t
 
-pub none-located : (root : Row) (path : List ℕ) (r : Standing) → r ≡ nowhere → isNone (namedBy (shown root) path) ≡ true → Locates root path r
+none-located : (root : Row) (path : List ℕ) (r : Standing) → r ≡ nowhere → isNone (namedBy (shown root) path) ≡ true → Locates root path r
 none-located root path r e z =
     let f : r .found ≡ false = ap (λ (r : Standing). r .found) e in
     record { found = f ∙ ap not (sym z); stands = λ y. absurd (true≢false (sym y ∙ f)) }

@@ -1,4 +1,4 @@
--- `remove_refusals::locate`: whole entries, the parent, and the child among its children.
+-- `remove_path::locate`: whole entries, the parent, and the child among its children.
 use mathlib.Core.Path.{_≡_, refl, sym}
 use Prim.Native.Nat.{_+_, _*_, _≤_, _<_}
 use native.Mathlib.Omega.{arith}
@@ -9,9 +9,9 @@ use denote.Ref.{now}
 use Rattle.model.specs.Limits.{pageSize, mostBytes}
 use Rattle.theory_calls.specs.Open.{passing}
 use Rattle.grow_refusals.specs.Admit.{read-room}
-use Rattle.remove_refusals.specs.Locate.{broken-located, no-parent, node-read, literal-located, kids, child-located}
-use Rattle.remove_refusals.proofs.locate.Statement.{statement}
-use Rattle.remove_refusals.proofs.locate.Tie as tie
+use Rattle.remove_path.specs.Locate.{broken-located, no-parent, node-read, literal-located, kids, child-located}
+use Rattle.remove_path.proofs.locate.Statement.{statement}
+use Rattle.remove_path.proofs.locate.Tie as tie
 
 nowhere-requires : tie.Need-nowhere-requires
 nowhere-requires c κs = search needs
