@@ -247,4 +247,12 @@ static inline unsigned fill_short(uint8_t *at, unsigned left, unsigned page) {
     return n;
 }
 
+/* The fills by name. */
+static const struct {
+    const char *name;
+    unsigned (*fill)(uint8_t *, unsigned, unsigned);
+} fills[] = {{"full records", fill_literals}, {"6-byte nodes", fill_small}, {"nested nodes", fill_nested},
+             {"mixed nodes", fill_mixed},     {"combs", fill_combs},       {"pairs", fill_pairs},
+             {"short literals", fill_short}};
+
 #endif

@@ -47,13 +47,6 @@ static int row(const char *name, const char *where, const uint8_t *image, uint8_
     return 0;
 }
 
-static const struct {
-    const char *name;
-    unsigned (*fill)(uint8_t *, unsigned, unsigned);
-} fills[] = {{"full records", fill_literals}, {"6-byte nodes", fill_small}, {"nested nodes", fill_nested},
-             {"mixed nodes", fill_mixed},     {"combs", fill_combs},       {"pairs", fill_pairs},
-             {"short literals", fill_short}};
-
 int main(void) {
     static const unsigned records[] = {0, 10, 1000, PAGES - 2};
     uint8_t *image = malloc(LEN), *copy = malloc(LEN);
