@@ -47,6 +47,49 @@ def origin_bytes(rng, image):
     return [(at, rng.choice(values)) for at in made.origin_places(rng, image) for values in ((1, 2, 3), (4, 255))]
 
 
+def hurt_page_end(rng, image, out):
+    """A field of one trailer at the ends of its range, by itself or against the page it speaks of, or a byte past the length used."""
+    pages = len(image) // ref.PAGE
+    number = rng.randrange(pages)
+    end = number * ref.PAGE + ref.CAPACITY
+    used = min(ref.two(image, end + 2), ref.CAPACITY)
+    field = rng.randrange(6)
+    if field == 0:
+        made.put_byte(end, rng.randrange(3), image, out)
+    elif field == 1:
+        made.put_byte(end + 1, rng.randrange(3), image, out)
+    elif field == 2:
+        length = rng.choice((0, 5, 6, 7, used - 1, used + 1, 4079, 4080, 4081, 65535)) % 65536
+        for i, byte in enumerate(ref.two_bytes(length)):
+            made.put_byte(end + 2 + i, byte, image, out)
+    elif field == 3:
+        made.put_byte(end + 4, rng.choice((0, 1, number, rng.randrange(pages), pages - 1, pages, pages + 1)), image, out)
+    elif field == 4:
+        made.put_byte(end + rng.randrange(6, 16), rng.randrange(1, 256), image, out)
+    else:
+        made.put_byte(end - ref.CAPACITY + min(rng.choice((used, rng.randrange(used, 4081), 4079)), 4079), rng.randrange(1, 256), image, out)
+
+
+def any_records(rng, image):
+    """The image with any bytes in the place of its records: before_walk must not tell them apart."""
+    other = bytearray(image)
+    for at in range(ref.PAGE, len(image) - ref.PAGE + 1, ref.PAGE):
+        if image[at + ref.CAPACITY] != ref.FREE:
+            other[at:at + ref.CAPACITY] = rng.randbytes(ref.CAPACITY)
+    return other
+
+
+def stage(rng, image):
+    """Where the reference's check ends, for the count of what was reached; its part before the walk is tried by itself."""
+    if len(image) % ref.PAGE or len(image) < 2 * ref.PAGE:
+        return "length"
+    passed = ref.before_walk(image)
+    assert ref.before_walk(any_records(rng, image)) == passed
+    number = ref.check(image)[0]
+    assert passed or number == ref.BROKEN
+    return "before the walk" if not passed else "in the walk" if number else "passed"
+
+
 def some_number(rng):
     return rng.choice((0, 1, 2, 3, rng.randrange(30), rng.randrange(5000), 65535, 65536, 2**31, 2**32 - 1))
 
@@ -89,7 +132,7 @@ def some_call(rng, entries):
 def main(seed, calls):
     rng = random.Random(seed)
     made.SHAPES = SHAPES
-    numbers = collections.Counter()
+    numbers, stages = collections.Counter(), collections.Counter()
     out = ["V 1 %s %d" % (ref.RULES, LONGEST)]
     done, said = 0, 0
     while done < calls:
@@ -104,13 +147,16 @@ def main(seed, calls):
             hurt = bytearray(image)
             if origins:
                 made.put_byte(*origins.pop(), hurt, out)
-            elif rng.random() < 0.7:
+            elif rng.random() < 0.3:
+                hurt_page_end(rng, hurt, out)
+            elif rng.random() < 0.6:
                 made.damage(rng, hurt, out)
             if rng.random() < 0.05:
                 cut = rng.choice((0, 1, 4095, 4096, 8191, len(hurt) - 1))
                 hurt = bytearray(hurt[:cut])
                 out.append("I %d" % cut)
                 hurt = bytearray(cut)
+            stages[stage(rng, hurt)] += 1
             for _ in range(12):
                 try:
                     entries = ref.document_order(ref.read_store(hurt))
@@ -128,6 +174,7 @@ def main(seed, calls):
             said = done
             print("%d calls" % done, file=sys.stderr)
     print(", ".join("%s: %d" % item for item in sorted(numbers.items())), file=sys.stderr)
+    print("images by where the check ends: " + ", ".join("%s: %d" % item for item in sorted(stages.items())), file=sys.stderr)
 
 
 if __name__ == "__main__":

@@ -33,12 +33,15 @@ awk -v kind="$kind" '/ calls, / { calls += $2; differences += $4 }
     /^records freed: / { freed += $3 }
     /^helpers replaced: / { by_proxy += $3; by_other += $13 }
     /^stores full: / { full += $3; empty += $6; again += $11 }
+    match($0, /before the walk: [0-9]+/) { split(substr($0, RSTART), word, " "); before += word[4] }
+    match($0, /in the walk: [0-9]+/) { split(substr($0, RSTART), word, " "); walk += word[4] }
     END {
         reached["inserts"] = "; splits at an exact half: " down + 0 " go down, " up + 0 " up"
         helpers = ", helpers replaced by a proxy " by_proxy + 0 ", by another child " by_other + 0
         reached["removals"] = "; removed " removed + 0 ", records freed " freed + 0 helpers
+        reached["hostile"] = "; images refused before the walk " before + 0 ", in the walk " walk + 0
         stores = "; stores full " full + 0 " times, empty " empty + 0 ", full again " again + 0
         print kind ": " calls " calls compared, " differences " differences" reached[kind] (kind == "removals" ? stores : "")
-        # a run of removals that meets no such case shows less than it says
-        exit kind == "removals" && !(freed && by_proxy && by_other && full && empty && again)
+        # a run that meets no such case shows less than it says
+        exit kind == "removals" && !(freed && by_proxy && by_other && full && empty && again) || kind == "hostile" && !(before && walk)
     }' "target/$kind.log"

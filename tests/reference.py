@@ -1,4 +1,4 @@
-"""A second implementation of the rules, for the tests: small, made from their text alone (the base with changes E1 to E3).
+"""A second implementation of the rules, for the tests: small, made from their text alone (the base with changes E1 to E4).
 
 As a module it offers the calls over an image held in a bytearray: format_image, check, insert, remove, find, climb,
 read, next_node, records and listing. Each answer is a tuple that begins with the number. To make many inserts and
@@ -162,27 +162,50 @@ def headers(image, page):
         at += HEADER if image[at] in (AGGREGATE, HELPER) else max(HEADER, two(image, at + 4))
 
 
-def trailer(page):
-    """Kind, settled byte, length used and back link; what must be zero is."""
-    kind, settled, used, back = page[CAPACITY], page[CAPACITY + 1], two(page, CAPACITY + 2), two(page, CAPACITY + 4)
-    require(used <= CAPACITY and is_zero(page[used:CAPACITY]) and is_zero(page[CAPACITY + 6:]), BROKEN)
-    return kind, settled, used, back
+def settings_on(page):
+    return Settings(two(page, 0), page[2], two(page, 4), two(page, 6), page[16:SETTINGS_LENGTH])
 
 
-def read_settings(image):
-    page = page_of(image, 0)
-    require(trailer(page) == (SETTINGS, 0, SETTINGS_LENGTH, 0), BROKEN)
-    settings = Settings(two(page, 0), page[2], two(page, 4), two(page, 6), page[16:SETTINGS_LENGTH])
-    require(page[3] == 0 and is_zero(page[8:16]), BROKEN)
-    require(settings_in_range(settings, len(image) // PAGE), BROKEN)
-    return settings
+def settings_kept(page, pages):
+    """Page 0, whole, of an image of so many pages."""
+    return (settings_in_range(settings_on(page), pages) and page[3] == 0 and is_zero(page[8:16])
+            and is_zero(page[SETTINGS_LENGTH:CAPACITY]) and page[CAPACITY] == SETTINGS and page[CAPACITY + 1] == 0
+            and two(page, CAPACITY + 2) == SETTINGS_LENGTH and is_zero(page[CAPACITY + 4:]))
+
+
+def trailer_kept(trailer, number, pages):
+    """One trailer taken by itself, that of page `number`, from 1 on, of an image of so many pages."""
+    kind, settled, used, back = trailer[0], trailer[1], two(trailer, 2), two(trailer, 4)
+    if kind == FREE:
+        return number != 1 and is_zero(trailer)
+    if number == 1:
+        link_kept, settled_kept = back == 0, settled == 1
+    else:
+        link_kept, settled_kept = 0 < back < pages and back != number, settled <= 1
+    return kind == RECORD and settled_kept and HEADER <= used <= CAPACITY and link_kept and is_zero(trailer[6:])
+
+
+def before_walk(image):
+    """Page 0, then in page order each trailer and each free page, taken by themselves, keep the rules. No byte of a
+    record is looked at."""
+    pages = len(image) // PAGE
+    if not settings_kept(page_of(image, 0), pages):
+        return False
+    for number in range(1, pages):
+        trailer = image[number * PAGE + CAPACITY:(number + 1) * PAGE]
+        if not trailer_kept(trailer, number, pages):
+            return False
+        if trailer[0] == FREE and not is_zero(page_of(image, number)):
+            return False
+    return True
 
 
 def read_record(image, number, holder, level, records):
-    """The record on a page, its proxies followed; `level` is that of the nodes it shows."""
+    """The record on a page, its proxies followed; `level` is that of the nodes it shows. This is the walk: it relies on
+    what before_walk has found of the trailers."""
     page = page_of(image, number)
-    kind, settled, used, link = trailer(page)
-    require(kind == RECORD and settled <= 1 and link == page_number(holder), BROKEN)
+    settled, used, link = page[CAPACITY + 1], two(page, CAPACITY + 2), two(page, CAPACITY + 4)
+    require(page[CAPACITY] == RECORD and link == page_number(holder) and is_zero(page[used:CAPACITY]), BROKEN)
     record = records[number] = Record(number, settled == 1, None, holder)
     roots = read_list(image, page[:used], record, 0, level, records)
     require(len(roots) == 1, BROKEN)
@@ -222,16 +245,16 @@ def read_node(image, part, record, holder, level, records):
 
 
 def read_store(image):
-    """The store in an image; refused with 1 or 3."""
+    """The store in an image; refused with 1 or 3. The walk is made only where the part before it passes."""
     pages, rest = divmod(len(image), PAGE)
     require(rest == 0 and 2 <= pages <= PAGES, MISFIT)
-    settings = read_settings(image)
+    require(before_walk(image), BROKEN)
     records = {}
     root = read_record(image, 1, None, 1, records)
-    require(root.settled and root.root.kind == AGGREGATE, BROKEN)
+    require(root.root.kind == AGGREGATE, BROKEN)
     for number in range(2, pages):
-        require(number in records or is_zero(page_of(image, number)), BROKEN)
-    return Store(settings, records)
+        require(number in records or image[number * PAGE + CAPACITY] == FREE, BROKEN)
+    return Store(settings_on(page_of(image, 0)), records)
 
 
 # ---- From the store to the image

@@ -15,6 +15,7 @@ use Rattle.model.specs.Spot.{fill, lastPage, lastHolder}
 use Rattle.model.specs.Removal.{Stand, standOf, removed}
 use Rattle.model.specs.Growth.{Work, splitPoint, startOfD, rootRow, separator}
 use Rattle.model.specs.Reading.{Reads, lengthOk, reading, pageOf}
+use Rattle.model.specs.BeforeWalk.{allZero, settingsOk, trailerOf, isFree, trailerFits, pageCount, beforeWalk}
 use Rattle.model.specs.Answers.{notPassed, wrongLength, noFreePage}
 use Rattle.model.specs.Common.{four, pathOf, namedBy, opened, onStore, treeOn}
 use Rattle.model.specs.Effect.{Effect, roomy, feedOf, handedOf}
@@ -34,6 +35,27 @@ pub record CheckExact (img : List ℕ) : Type 0 where
   pub passes : (checkOf img ≡ 0) ↔ ((s : Config × Row) × Reads img (s .0) (s .1))
   pub misfit : (checkOf img ≡ wrongLength) ↔ (lengthOk (length img) ≡ false)
   pub broken : (checkOf img ≡ notPassed) ↔ ((lengthOk (length img) ≡ true) × (reading img ≡ none))
+
+-- ── before the walk ──
+
+-- Page 0, each trailer and each free page, taken by themselves, keep the rules.
+pub record PagesKeep (img : List ℕ) : Type 0 where
+  pub settings : settingsOk (pageOf img 0) (pageCount img) ≡ true
+  pub trailers : (p : ℕ) → 1 ≤ p → p < pageCount img → trailerFits (pageCount img) p (trailerOf (pageOf img p)) ≡ true
+  pub free : (p : ℕ) → 1 ≤ p → p < pageCount img → isFree (trailerOf (pageOf img p)) ≡ true → allZero (pageOf img p) ≡ true
+
+-- Two images agree on page 0, on all trailers and on all free pages; of a record's page they may have any bytes before its trailer.
+pub record AlikeBefore (a b : List ℕ) : Type 0 where
+  pub long : length a ≡ length b
+  pub settings : pageOf a 0 ≡ pageOf b 0
+  pub trailers : (p : ℕ) → 1 ≤ p → p < pageCount a → trailerOf (pageOf a p) ≡ trailerOf (pageOf b p)
+  pub free : (p : ℕ) → 1 ≤ p → p < pageCount a → isFree (trailerOf (pageOf a p)) ≡ true → pageOf a p ≡ pageOf b p
+
+-- It passes exactly when they keep the rules, it is the same for such images, and every image that passes the check has passed it.
+pub record BeforeWalk (img : List ℕ) : Type 0 where
+  pub exactly : (beforeWalk img ≡ true) ↔ PagesKeep img
+  pub alone : (other : List ℕ) → AlikeBefore img other → beforeWalk img ≡ beforeWalk other
+  pub needed : checkOf img ≡ 0 → beforeWalk img ≡ true
 
 -- ── growth ──
 

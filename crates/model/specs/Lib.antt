@@ -5,6 +5,7 @@ pub mod Spot
 pub mod Growth
 pub mod Removal
 pub mod Reading
+pub mod BeforeWalk
 pub mod Answers
 pub mod Common
 pub mod Effect

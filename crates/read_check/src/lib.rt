@@ -1,10 +1,11 @@
-// The check of an image: its length, its pages by themselves, then the walk from page 1 through the proxies.
+// The check of an image: its length, the part before the walk, then the walk from page 1 through the proxies.
 use base_layout::name_at;
 use base_layout::used_at;
 use base_ranges::length_ok;
 use model::Settings;
 use read_marks::enters;
 use read_marks::set_mark;
+use read_marks::tail_zero;
 use read_nodes::aggregate;
 use read_nodes::head;
 use read_nodes::literal;
@@ -17,6 +18,7 @@ ghost use Prim.Native.Nat.{_+_, _≤_, _<_};
 ghost use lib.ListN.{length};
 ghost use Rattle.model.specs.Limits.{mostPages, mostLevels};
 ghost use Rattle.model.specs.Reading.{lengthOk};
+ghost use Rattle.model.specs.BeforeWalk.{beforeWalk};
 ghost use Rattle.theory_check.specs.Walk.{state, nodeOf, listOf, proxyOf};
 ghost use Rattle.theory_check.specs.Check.{trailersOf, walkOf, walkOk, checkBy};
 ghost use Rattle.theory_check.specs.Widths.{widthsAfter};
@@ -191,13 +193,16 @@ fn helper_check<'a>(
 
 // ── the whole image ──
 
-// Whether the walk from page 1, whose root is an aggregate, reaches every record page one time.
+// Whether the walk from page 1, whose root is an aggregate, reaches every record page one time. It is made only where the part before it passes.
 pub fn walk_ok(image: &[u8], left: usize, widths: &mut [u32; Settings::PAGES]) -> bool
-    requires { ⌜ (lengthOk (length (now image)) ≡ true) × (trailersOf (now image) ≡ 0 → ⊥) × (left ≤ mostPages) ⌝ }
+    requires { ⌜ (lengthOk (length (now image)) ≡ true) × (beforeWalk (now image) ≡ true) × (left ≤ mostPages) ⌝ }
     ensures { λ r. ⌜ (r ≡ walkOk (now (image .entry)) left)
         × (r ≡ true → now (widths .exit) ≡ widthsAfter (walkOf (now (image .entry)) left .row) (now (widths .entry))) ⌝ }
 {
     if image[Settings::PAGE] != 1 {
+        return false;
+    }
+    if !tail_zero(image, 1) {
         return false;
     }
     let used = used_at(image, Settings::PAGE);

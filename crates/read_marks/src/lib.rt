@@ -3,11 +3,13 @@ use base_layout::back_at;
 use base_layout::settled_at;
 use base_layout::used_at;
 use model::Settings;
+use read_pages::zeros;
 ghost use mathlib.Core.Path.{_≡_};
 ghost use Prim.Native.Nat.{_+_, _*_, _≤_, _<_};
 ghost use lib.ListN.{length};
-ghost use Rattle.model.specs.Limits.{mostPages, pageSize};
-ghost use Rattle.theory_check.specs.Tests.{isMarked, marked, namesOf, rootFits};
+ghost use Rattle.model.specs.Limits.{mostPages, pageSize, capacity};
+ghost use Rattle.model.specs.Reading.{usedAt};
+ghost use Rattle.theory_check.specs.Tests.{isMarked, marked, namesOf, rootFits, tailZero};
 ghost use Rattle.theory_check.specs.Walk.{state, entersOf};
 
 // ── marks: a bit for each page ──
@@ -68,6 +70,17 @@ pub fn root_fits(image: &[u8], p: usize) -> bool
     image[Settings::PAGE * p] != 4
 }
 
+// Whether the bytes past the length used, up to the trailer, are zero.
+pub fn tail_zero(image: &[u8], p: usize) -> bool
+    requires { ⌜ (p < mostPages) × (pageSize * p + pageSize ≤ length (now image)) × (usedAt (now image) (pageSize * p) ≤ capacity) ⌝ }
+    ensures { λ r. ⌜ r ≡ tailZero (now (image .entry)) p ⌝ }
+{
+    let a = Settings::PAGE * p;
+    let from = a + used_at(image, a);
+    let to = a + Settings::CAPACITY;
+    zeros(&image[from..to])
+}
+
 // Whether the walk can go on in page p. `left` is one more than the record pages still to be reached.
 pub fn enters(
     image: &[u8],
@@ -87,5 +100,8 @@ pub fn enters(
     if left < 2 {
         return false;
     }
-    !is_marked(marks, p)
+    if is_marked(marks, p) {
+        return false;
+    }
+    tail_zero(image, p)
 }

@@ -1,4 +1,4 @@
-// The check's tests of pages by themselves: page 0, page 1, every trailer and every free page.
+// The check's part before the walk: page 0, every trailer and every free page, each by itself. No byte of a record is looked at.
 use base_layout::back_at;
 use base_layout::settled_at;
 use base_layout::used_at;
@@ -12,18 +12,17 @@ ghost use Prim.Native.Nat.{_-_, _*_, _≤_};
 ghost use lib.ListN.{length};
 ghost use Rattle.model.specs.Limits.{mostPages, pageSize};
 ghost use Rattle.model.specs.Reading.{lengthOk};
-ghost use Rattle.theory_check.specs.Tests.{allZero, stateOf, settingsOk, firstOk};
+ghost use Rattle.model.specs.BeforeWalk.{allZero, settingsOk, trailerOf, settledFits, backFits, recordTrailer};
+ghost use Rattle.theory_check.specs.Tests.{stateOf};
 ghost use Rattle.theory_check.specs.Check.{scanFrom, trailersOf};
 ghost use Rattle.read_pages.specs.Numbers.{settingsOn};
 
-// The bytes used of page 0, to the matrix's end; where a page has its back link, and the zeros after that; where page 1 ends.
+// The bytes used of page 0, to the matrix's end; where a page has its back link, and the zeros after that.
 const USED: usize = 16 + Settings::ENTRIES;
 
 const BACK: usize = Settings::CAPACITY + 4;
 
 const REST: usize = Settings::CAPACITY + 6;
-
-const TWO_PAGES: usize = 2 * Settings::PAGE;
 
 // Whether every byte is zero. With no early exit the loop is done many bytes at a time.
 pub fn zeros(s: &[u8]) -> bool
@@ -40,34 +39,74 @@ pub fn zeros(s: &[u8]) -> bool
     ok
 }
 
-// What a page by its trailer and its tail is: 0 against the rules, 1 free, 2 a record's.
-pub fn page_state(page: &[u8]) -> usize
-    requires { ⌜ length (now page) ≡ pageSize ⌝ }
-    ensures { λ r. ⌜ r ≡ stateOf (now (page .entry)) ⌝ }
+// Whether a settled byte may stand on page p.
+fn settled_fits(p: usize, n: usize) -> bool
+    ensures { λ r. ⌜ r ≡ settledFits p n ⌝ }
 {
-    if page[Settings::CAPACITY] == 0 {
-        if zeros(page) {
-            return 1;
+    if p == 1 {
+        return n == 1;
+    }
+    n <= 1
+}
+
+// Whether a back link may stand on page p of an image of so many pages.
+fn back_fits(pages: usize, p: usize, n: usize) -> bool
+    ensures { λ r. ⌜ r ≡ backFits pages p n ⌝ }
+{
+    if p == 1 {
+        return n == 0;
+    }
+    if n < 1 {
+        return false;
+    }
+    if pages <= n {
+        return false;
+    }
+    n != p
+}
+
+// Whether the trailer of page p is a record's. It reads no byte before the trailer.
+fn record_trailer(page: &[u8], pages: usize, p: usize) -> bool
+    requires { ⌜ length (now page) ≡ pageSize ⌝ }
+    ensures { λ r. ⌜ r ≡ recordTrailer pages p (trailerOf (now (page .entry))) ⌝ }
+{
+    if page[Settings::CAPACITY] != 1 {
+        return false;
+    }
+    if !settled_fits(p, settled_at(page, 0)) {
+        return false;
+    }
+    let used = used_at(page, 0);
+    if used < 6 {
+        return false;
+    }
+    if Settings::CAPACITY < used {
+        return false;
+    }
+    if !back_fits(pages, p, back_at(page, 0)) {
+        return false;
+    }
+    zeros(&page[REST..Settings::PAGE])
+}
+
+// What page p is by its trailer and, where that says free, by its bytes: 0 against the rules, 1 free, 2 a record's.
+pub fn page_state(page: &[u8], pages: usize, p: usize) -> usize
+    requires { ⌜ length (now page) ≡ pageSize ⌝ }
+    ensures { λ r. ⌜ r ≡ stateOf pages p (now (page .entry)) ⌝ }
+{
+    if page[Settings::CAPACITY] != 0 {
+        if record_trailer(page, pages, p) {
+            return 2;
         }
         return 0;
     }
-    if page[Settings::CAPACITY] != 1 {
+    if p == 1 {
         return 0;
     }
-    if 1 < settled_at(page, 0) {
-        return 0;
+    if zeros(page) {
+        return 1;
     }
-    let used = used_at(page, 0);
-    if Settings::CAPACITY < used {
-        return 0;
-    }
-    if !zeros(&page[used..Settings::CAPACITY]) {
-        return 0;
-    }
-    if !zeros(&page[REST..Settings::PAGE]) {
-        return 0;
-    }
-    2
+    0
 }
 
 // The settings' numbers, as page 0 has them.
@@ -113,31 +152,17 @@ pub fn settings_ok(page: &[u8], pages: usize) -> bool
     zeros(&page[BACK..Settings::PAGE])
 }
 
-// Whether page 1 holds a settled record with no holder.
-pub fn first_ok(page: &[u8]) -> bool
-    requires { ⌜ length (now page) ≡ pageSize ⌝ }
-    ensures { λ r. ⌜ r ≡ firstOk (now (page .entry)) ⌝ }
-{
-    if page_state(page) != 2 {
-        return false;
-    }
-    if settled_at(page, 0) != 1 {
-        return false;
-    }
-    back_at(page, 0) == 0
-}
-
-// One more than the record pages from 2 on, 0 where one of the pages is against the rules.
+// The record pages from 1 on, 0 where one of the pages is against the rules by itself.
 pub fn scan_pages(image: &[u8], pages: usize) -> usize
-    requires { ⌜ (pageSize * pages ≤ length (now image)) × (2 ≤ pages) × (pages ≤ mostPages) ⌝ }
-    ensures { λ r. ⌜ r ≡ scanFrom (now (image .entry)) (pages - 2) 2 0 ⌝ }
+    requires { ⌜ (pageSize * pages ≤ length (now image)) × (1 ≤ pages) × (pages ≤ mostPages) ⌝ }
+    ensures { λ r. ⌜ r ≡ scanFrom (now (image .entry)) pages (pages - 1) 1 0 ⌝ }
 {
     let mut n = 0;
-    let mut p = 2;
+    let mut p = 1;
     while p < pages {
         let a = Settings::PAGE * p;
         let e = a + Settings::PAGE;
-        let k = page_state(&image[a..e]);
+        let k = page_state(&image[a..e], pages, p);
         if k == 0 {
             return 0;
         }
@@ -146,19 +171,16 @@ pub fn scan_pages(image: &[u8], pages: usize) -> usize
         }
         p = p + 1;
     }
-    n + 1
+    n
 }
 
-// Before the walk: as scan_pages, and 0 too where page 0 or page 1 is against the rules.
+// The part before the walk: how many record pages there are, 0 where page 0, a trailer or a free page is against the rules by itself.
 pub fn trailers(image: &[u8]) -> usize
     requires { ⌜ lengthOk (length (now image)) ≡ true ⌝ }
     ensures { λ r. ⌜ r ≡ trailersOf (now (image .entry)) ⌝ }
 {
     let pages = image.len() / Settings::PAGE;
     if !settings_ok(&image[0..Settings::PAGE], pages) {
-        return 0;
-    }
-    if !first_ok(&image[Settings::PAGE..TWO_PAGES]) {
         return 0;
     }
     scan_pages(image, pages)

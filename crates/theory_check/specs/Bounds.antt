@@ -14,12 +14,11 @@ use Rattle.model.specs.Reading.{lengthOk, pageOf, usedAt, nameAt}
 use Rattle.theory_rows.specs.Laws.{width-⊹, cond-case}
 use Rattle.theory_decoding.specs.Valid as valid
 use Rattle.theory_check.specs.Rec.{keeps}
-use Rattle.theory_check.specs.Tests.{wholeSize, passingKind, stateOf, settingsOk, firstOk}
+use Rattle.theory_check.specs.Tests.{wholeSize, passingKind}
 use Rattle.theory_check.specs.Walk.{State, withMark, entersOf, Decoded, Job, node, list, measure, stop, none, recordOf, step, proxyStep, nodeStep}
 use Rattle.theory_check.specs.Walk.{moreStep, listStep, decode}
 use Rattle.theory_check.specs.Facts.{both}
 use Rattle.theory_check.specs.Steps.{from, head-long, size-long, entered, length-part}
-use Rattle.theory_check.specs.Check.{scanFrom, trailersOf}
 
 -- ── the nodes that a walk shows ──
 
@@ -95,21 +94,3 @@ module _ (img : List ℕ) (f : Job → Decoded) (h : Wide f) where
 pub decoded-wide : (img : List ℕ) (j : Job) → Within (bytesIn j) (from j) (decode img j)
 unfolding decode
 decoded-wide img = keeps measure none (step img) (λ (j : Job). Within (bytesIn j) (from j)) wide-none (wide-step img)
-
--- ── the pages that it is to reach ──
-
-scan-most : (img : List ℕ) (k p n : ℕ) → scanFrom img k p n ≤ n + k + 1
-unfolding scanFrom
-scan-most img zero p n = omega arith
-scan-most img (suc k) p n =
-    let P : ℕ → Type 0 = λ x. x ≤ n + suc k + 1 in
-    both P (eqb (stateOf (pageOf img p)) 0) (omega arith)
-    (both P (eqb (stateOf (pageOf img p)) 2) (omega (arith, scan-most img k (suc p) (n + 1))) (omega (arith, scan-most img k (suc p) n)))
-
-pub trailers-most : (img : List ℕ) → lengthOk (length img) ≡ true → trailersOf img ≤ mostPages
-unfolding trailersOf lengthOk
-trailers-most img e =
-    let n = length img / pageSize in
-    let sizes = valid.both (eqb (length img % pageSize) 0 && leb 2 n) _ e in
-    let P : ℕ → Type 0 = λ x. x ≤ mostPages in
-    both P (settingsOk (pageOf img 0) n && firstOk (pageOf img 1)) (omega (arith, scan-most img (n - 2) 2 0, leb-true n mostPages (sizes .1))) (omega arith)

@@ -1,38 +1,42 @@
 -- The check in the order of the code: the length, page 0, all trailers and free pages, then the walk.
 use mathlib.Core.Bool.{Bool, cond, _&&_}
 use mathlib.Core.List.{List}
-use Prim.Native.Nat.{ℕ, zero, suc, _+_, _-_, _/_}
+use Prim.Native.Nat.{ℕ, zero, suc, _+_, _-_}
 use lib.ListN.{length, replicate}
 use lib.Dec.{eqb}
 use Rattle.model.specs.Limits.{pageSize, markBytes}
 use Rattle.model.specs.Reading.{lengthOk, pageOf, kindAt}
-use Rattle.theory_check.specs.Tests.{stateOf, settingsOk, firstOk}
+use Rattle.model.specs.BeforeWalk.{trailerOf, isFree, pageCount, beforeWalk}
+use Rattle.theory_check.specs.Sums.{sum}
+use Rattle.theory_check.specs.Tests.{tailZero, stateOf}
 use Rattle.theory_check.specs.Walk.{state, Decoded, recordOf, nodeOf}
 
--- k pages from p on keep the rules by themselves, and the number of record pages is n with those among them: 0 where one does not, else one more.
-unfoldable pub scanFrom : (img : List ℕ) → (k p n : ℕ) → ℕ
-scanFrom img zero p n = suc n
-scanFrom img (suc k) p n =
-    let on = scanFrom img k (suc p) (n + 1) in
-    let past = scanFrom img k (suc p) n in
-    cond (eqb (stateOf (pageOf img p)) 0) 0 (cond (eqb (stateOf (pageOf img p)) 2) on past)
+-- 1 for a page in use.
+abbrev pub inUse : (img : List ℕ) → (q : ℕ) → ℕ
+inUse img q = cond (isFree (trailerOf (pageOf img q))) 0 1
 
--- Before the walk: 0 where page 0, a trailer or a free page does not keep the rules by itself, else one more than the record pages from 2 on.
+-- What the part before the walk hands on: the number of record pages, 0 where it does not pass.
 unfoldable pub trailersOf : (img : List ℕ) → ℕ
-trailersOf img =
-    let found = scanFrom img (length img / pageSize - 2) 2 0 in
-    cond (settingsOk (pageOf img 0) (length img / pageSize) && firstOk (pageOf img 1)) found 0
+trailersOf img = cond (beforeWalk img) (sum (inUse img) (pageCount img - 1) 1) 0
+
+-- As the loop over the pages finds it: of k pages from p on, with n record pages before them.
+unfoldable pub scanFrom : (img : List ℕ) → (pages k p n : ℕ) → ℕ
+scanFrom img pages zero p n = n
+scanFrom img pages (suc k) p n =
+    let on = scanFrom img pages k (suc p) (n + 1) in
+    let past = scanFrom img pages k (suc p) n in
+    let found = stateOf pages p (pageOf img p) in
+    cond (eqb found 0) 0 (cond (eqb found 2) on past)
 
 -- The walk from page 1, whose record's root is an aggregate.
 unfoldable pub walkOf : (img : List ℕ) → (left : ℕ) → Decoded
 walkOf img n = nodeOf img (recordOf img 1) 1 0 1 (state n (replicate markBytes 0))
 
 unfoldable pub walkOk : (img : List ℕ) → (left : ℕ) → Bool
-walkOk img n = eqb (kindAt img pageSize) 1 && eqb (walkOf img n .walk .left) 1
+walkOk img n = eqb (kindAt img pageSize) 1 && tailZero img 1 && eqb (walkOf img n .walk .left) 1
 
 unfoldable pub checkBy : (img : List ℕ) → ℕ
 checkBy img =
-    let n = trailersOf img in
-    let walked : ℕ = cond (walkOk img n) 0 3 in
-    let after = cond (eqb n 0) 3 walked in
+    let walked : ℕ = cond (walkOk img (trailersOf img)) 0 3 in
+    let after = cond (beforeWalk img) walked 3 in
     cond (lengthOk (length img)) after 1

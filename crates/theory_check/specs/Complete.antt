@@ -2,14 +2,14 @@
 use mathlib.Core.Path.{_≡_, refl, ap, _∙_}
 use mathlib.Core.Bool.{true, cond, _&&_}
 use mathlib.Core.List.{List}
-use Prim.Native.Nat.{ℕ, suc, _-_, _/_}
+use Prim.Native.Nat.{ℕ, suc, _-_}
 use native.Mathlib.Omega.{arith}
 use lib.ListN.{length, getD, replicate}
 use lib.Seq.{take-at}
-use borrow.Author.Tests.{ne-eqb}
 use Rattle.model.specs.Limits.{pageSize, markBytes}
 use Rattle.model.specs.Row.{Row, store, Held, records, settingsPage, pagesFrom, image, lone, byTable, mayStand, standing, Config, recordOn, inRange, valid}
 use Rattle.model.specs.Reading.{Reads, pageOf}
+use Rattle.model.specs.BeforeWalk.{pageCount, beforeWalk}
 use Rattle.theory_rows.specs.Fits.{Valid}
 use Rattle.theory_growth.specs.Store.{settled-lone}
 use Rattle.theory_rows.specs.Image.{length-settings, once}
@@ -20,10 +20,11 @@ use Rattle.theory_decoding.specs.Decode.{stored-image}
 use Rattle.theory_decoding.specs.Reading.{reads-valid}
 use Rattle.theory_check.specs.Walk.{state, Decoded, recordOf, nodeOf}
 use Rattle.theory_check.specs.Check.{trailersOf, walkOf, walkOk, checkBy}
+use Rattle.theory_check.specs.Before.{before-each}
 use Rattle.theory_check.specs.Marks.{marks-none, none-marked}
 use Rattle.theory_check.specs.Nodes.{record-node}
-use Rattle.theory_check.specs.Pages.{settings-ok, first-ok, root-kind, record-of, on-page}
-use Rattle.theory_check.specs.Scan.{named-range, scan-image}
+use Rattle.theory_check.specs.Pages.{settings-ok, tail-of, root-kind, record-of, on-page}
+use Rattle.theory_check.specs.Scan.{named-range, image-fits, image-used}
 use Rattle.theory_check.specs.Fresh.{Unreached}
 use Rattle.theory_check.specs.Walked.{done, walked}
 
@@ -46,11 +47,16 @@ module _ (st : Config) (root : Row) (v : Valid st root) where
       let top = both _ _ (levels .0) in
       both _ _ (top .0) .0
 
+  before-image : beforeWalk img ≡ true
+  before-image =
+      let n : pageCount img ≡ st .pages = omega (arith, length-image st root v) in
+      before-each img (rw (n, zero-page) (settings-ok st in-range)) (λ p a b. rw n (image-fits st root v p a (omega arith)))
+
   trailers-image : trailersOf img ≡ suc (recordCount root)
   unfolding trailersOf
   trailers-image =
-      let n : length img / pageSize ≡ st .pages = omega (arith, length-image st root v) in
-      rw (n, zero-page, settings-ok st in-range, stored-image st root v .0, first-ok first (v .rows .0 .fits) refl refl) (scan-image st root v)
+      let n : pageCount img ≡ st .pages = omega (arith, length-image st root v) in
+      rw (before-image, n) (image-used st root v)
 
   fresh-image : Unreached (st .pages) (replicate markBytes 0) root
   fresh-image = record { marks = marks-none; range = named-range st root v; once = λ q. omega (arith, once st root v q); new = λ q h. none-marked q }
@@ -80,8 +86,13 @@ module _ (st : Config) (root : Row) (v : Valid st root) where
   check-image =
       let n = suc (recordCount root) in
       let left : walkOf img n .walk .left ≡ 1 = ap (λ (d : Decoded). d .walk .left) (walk-image (replicate markBytes 0) fresh-image) in
-      rw (image-length-ok st root v, trailers-image, ne-eqb n 0 (λ z. omega arith), root-first, left)
+      let tail = tail-of img 1 first (v .rows .0) (stored-image st root v .0) in
+      rw (image-length-ok st root v, before-image, trailers-image, root-first, tail, left)
 
 -- What reads passes the check.
 pub complete : (img : List ℕ) (st : Config) (root : Row) → Reads img st root → checkBy img ≡ 0
 complete img st root r = ap checkBy (r .same) ∙ check-image st root (reads-valid img st root r)
+
+-- It passes the part before the walk.
+pub before-reads : (img : List ℕ) (st : Config) (root : Row) → Reads img st root → beforeWalk img ≡ true
+before-reads img st root r = ap beforeWalk (r .same) ∙ before-image st root (reads-valid img st root r)

@@ -7,22 +7,25 @@ use borrow.Author.Tests.{eqb-true, eqb-false}
 use lib.ListN.{length, getD}
 use lib.Dec.{eqb}
 use Rattle.model.specs.Reading.{lengthOk}
+use Rattle.model.specs.BeforeWalk.{beforeWalk}
 use Rattle.model.specs.Calls.Check.{checkOf}
+use Rattle.model.specs.Claims.{BeforeWalk}
 use Rattle.theory_calls.specs.Open.{passing, passes, not-passing}
 use Rattle.theory_check.specs.Check.{trailersOf, walkOk, checkBy}
-use Rattle.theory_check.specs.Complete.{complete}
+use Rattle.theory_check.specs.Before.{before-exact, before-alone}
+use Rattle.theory_check.specs.Complete.{complete, before-reads}
 use Rattle.theory_check.specs.Sound.{sound}
 
 -- 0, 1 or 3, and 1 exactly for a wrong length.
-numbers : (a b c : Bool) (n : ℕ) → cond {A = ℕ} a (cond {A = ℕ} b 3 (cond {A = ℕ} c 0 3)) 1 ≡ n → (n ≡ 0 → ⊥) → n ≡ cond {A = ℕ} a 3 1
-numbers true true c n e z = sym e
-numbers true false true n e z = absurd (z (sym e))
-numbers true false false n e z = sym e
+numbers : (a b c : Bool) (n : ℕ) → cond {A = ℕ} a (cond {A = ℕ} b (cond {A = ℕ} c 0 3) 3) 1 ≡ n → (n ≡ 0 → ⊥) → n ≡ cond {A = ℕ} a 3 1
+numbers true false c n e z = sym e
+numbers true true true n e z = absurd (z (sym e))
+numbers true true false n e z = sym e
 numbers false b c n e z = sym e
 
 wrong-by : (img : List ℕ) → (checkBy img ≡ 0 → ⊥) → checkBy img ≡ cond {A = ℕ} (lengthOk (length img)) 3 1
 unfolding checkBy
-wrong-by img z = numbers (lengthOk (length img)) (eqb (trailersOf img) 0) (walkOk img (trailersOf img)) (checkBy img) refl z
+wrong-by img z = numbers (lengthOk (length img)) (beforeWalk img) (walkOk img (trailersOf img)) (checkBy img) refl z
 
 pub exact : (img : List ℕ) → ((i : ℕ) → getD img i 0 < 256) → checkBy img ≡ checkOf img
 exact img all = go (eqb (checkBy img) 0) refl
@@ -38,3 +41,11 @@ exact img all = go (eqb (checkBy img) 0) refl
     go false e =
         let z = eqb-false (checkBy img) 0 e in
         wrong-by img z ∙ sym (not-passing img (broken z))
+
+-- What is claimed of the part before the walk.
+pub before-walk : (img : List ℕ) → BeforeWalk img
+before-walk img = record {
+  exactly = before-exact img;
+  alone = before-alone img;
+  needed = λ e. let p = passing img e in before-reads img (p .0 .0) (p .0 .1) (p .1);
+}

@@ -15,22 +15,26 @@ use Rattle.model.specs.Calls.Records.{times}
 use Rattle.theory_rows.specs.Image.{Stored}
 use Rattle.theory_places.specs.Pages.{pages-count}
 
--- Each record of a list stands on its page of a memory.
-abbrev OnPages : (ℕ → List ℕ) → List Held → Type 0
-OnPages mem [] = Unit {0}
-OnPages mem (h ∷ hs) = (mem (h .page) ≡ recordPage h) × OnPages mem hs
+-- What holds of each record of a list.
+abbrev pub Each : (Held → Type 0) → List Held → Type 0
+Each P [] = Unit {0}
+Each P (h ∷ hs) = P h × Each P hs
 
-on-++ : (mem : ℕ → List ℕ) (a b : List Held) → OnPages mem a → OnPages mem b → OnPages mem (a ++ b)
-on-++ mem [] b m n = n
-on-++ mem (h ∷ a) b m n = (m .0, on-++ mem a b (m .1) n)
+pub each-++ : (P : Held → Type 0) (a b : List Held) → Each P a → Each P b → Each P (a ++ b)
+each-++ P [] b m n = n
+each-++ P (h ∷ a) b m n = (m .0, each-++ P a b (m .1) n)
 
-on-records : (mem : ℕ → List ℕ) (h : ℕ) (r : Row) → Stored mem h r → OnPages mem (records h r)
+-- It stands on its page of a memory.
+abbrev OnPage : (ℕ → List ℕ) → Held → Type 0
+OnPage mem h = mem (h .page) ≡ recordPage h
+
+on-records : (mem : ℕ → List ℕ) (h : ℕ) (r : Row) → Stored mem h r → Each (OnPage mem) (records h r)
 on-records mem h nil m = tt
-on-records mem h (agg l cs rest) m = on-++ mem (records h cs) (records h rest) (on-records mem h cs (m .0)) (on-records mem h rest (m .1))
+on-records mem h (agg l cs rest) m = each-++ (OnPage mem) (records h cs) (records h rest) (on-records mem h cs (m .0)) (on-records mem h rest (m .1))
 on-records mem h (lit l c rest) m = on-records mem h rest m
-on-records mem h (rec p s r rest) m = (m .0, on-++ mem (records p r) (records h rest) (on-records mem p r (m .1)) (on-records mem h rest (m .2)))
+on-records mem h (rec p s r rest) m = (m .0, each-++ (OnPage mem) (records p r) (records h rest) (on-records mem p r (m .1)) (on-records mem h rest (m .2)))
 
-page-found : (mem : ℕ → List ℕ) (hs : List Held) → OnPages mem hs → (q : ℕ) → (times q (map (λ (h : Held). h .page) hs) ≡ 0 → mem q ≡ replicate pageSize 0)
+page-found : (mem : ℕ → List ℕ) (hs : List Held) → Each (OnPage mem) hs → (q : ℕ) → (times q (map (λ (h : Held). h .page) hs) ≡ 0 → mem q ≡ replicate pageSize 0)
     → mem q ≡ pageAt hs q
 page-found mem [] m q z = z refl
 page-found mem (h ∷ hs) m q z = go (eqb q (h .page)) refl z (page-found mem hs (m .1) q)

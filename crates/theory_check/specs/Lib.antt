@@ -4,6 +4,7 @@ pub mod Tests
 pub mod Marks
 pub mod Walk
 pub mod Check
+pub mod Before
 pub mod Steps
 pub mod Sums
 pub mod Nodes
@@ -17,7 +18,6 @@ pub mod Passes
 pub mod Rows
 pub mod Trailers
 pub mod Parts
-pub mod Scanned
 pub mod Reached
 pub mod Images
 pub mod Sound

@@ -7,17 +7,19 @@ use native.Mathlib.Omega.{arith}
 use lib.ListN.{length, take, drop, getD, replicate, length-append, length-replicate}
 use lib.Seq.{take-at, drop-at, take-take, drop-append-add, getD-take, getD-drop}
 use lib.Dec.{eqb, leb}
-use borrow.Author.Tests.{eq-eqb, le-leb, lt-ltb}
+use borrow.Author.Tests.{eq-eqb, ne-eqb, le-leb, lt-ltb}
 use Rattle.model.specs.Limits.{mostPages, pageSize, capacity, settingsSize, matrixEntries}
 use Rattle.model.specs.Row.{Row, nil, agg, lit, rec, lone, recordSize, recordBytes, two, trailer, Held, recordPage, Config, settingsPage, isAgg, inRange}
 use Rattle.model.specs.Reading.{twoAt, pageOf, backAt, settledAt, configOn}
+use Rattle.model.specs.BeforeWalk.{allZero, settingsOk, trailerOf, isFree, settledFits, backFits, recordTrailer, trailerFits, freeFits, pageFits}
 use Rattle.theory_rows.specs.Fits.{Shape, RecordFits, Ranges}
 use Rattle.theory_growth.specs.Store.{settled-lone}
 use Rattle.theory_rows.specs.Image.{length-record}
 use Rattle.theory_decoding.specs.Valid.{ranges-say}
 use Rattle.theory_decoding.specs.Decode.{two-bytes, getD-past, in-trailer, settled-page, used-page, take-page}
-use Rattle.theory_check.specs.Tests.{isMarked, namesOf, rootFits, allZero, stateOf, settingsOk, firstOk}
+use Rattle.theory_check.specs.Tests.{isMarked, namesOf, rootFits, tailZero}
 use Rattle.theory_check.specs.Walk.{State, withMark, asRec, recordOf, entersOf, proxyStep, proxyOf, nodeOf}
+use Rattle.theory_check.specs.Parts.{tail-part}
 
 zeros : (n : ℕ) → allZero (replicate n 0) ≡ true
 unfolding allZero
@@ -72,19 +74,25 @@ settings-ok st ok =
 
 -- ── a free page ──
 
-pub free-state : stateOf (replicate pageSize 0) ≡ 1
-unfolding stateOf
-free-state = rw (zeros pageSize)
+pub free-fits : (pages p : ℕ) → (p ≡ 1 → ⊥) → pageFits pages p (replicate pageSize 0) ≡ true
+unfolding trailerFits freeFits
+free-fits pages p h = rw (zeros pageSize, ne-eqb p 1 h, zeros 16)
+
+pub free-unused : isFree (trailerOf (replicate pageSize 0)) ≡ true
+free-unused = refl
 
 -- ── a record's page ──
-
-not-two : (b : Bool) → leb (cond b 1 0) 1 ≡ true
-not-two true = refl
-not-two false = refl
 
 not-four : (b : Bool) → eqb (cond b 1 2) 4 ≡ false
 not-four true = refl
 not-four false = refl
+
+-- A record has at least a header.
+least : (r : Row) → 6 ≤ recordSize r
+least nil = omega arith
+least (agg h cs rest) = omega arith
+least (lit h c rest) = omega arith
+least (rec p s r rest) = omega arith
 
 -- A record without a helper starts with its root's kind.
 pub root-kind : (r : Row) (s t : List ℕ) → lone r ≡ true → getD (recordBytes r ++ s ++ t) 0 0 ≡ cond (isAgg r) 1 2
@@ -94,32 +102,37 @@ root-kind (lit h c rest) s t e = rw e
 root-kind (rec p b r rest) s t e = absurd (false≢true e)
 
 module _ (h : Held) (f : recordSize (h .row) ≤ capacity) where
-  pub record-state : stateOf (recordPage h) ≡ 2
-  unfolding stateOf allZero
-  record-state =
+  abbrev ending : List ℕ
+  ending = trailer 1 (cond (h .settled) 1 0) (recordSize (h .row)) (h .holder)
+
+  trailer-page : trailerOf (recordPage h) ≡ ending
+  trailer-page =
+      let free : List ℕ = replicate (capacity - recordSize (h .row)) 0 in
+      let long : length (recordBytes (h .row) ++ free) ≡ capacity = simp (length-append, length-replicate, length-record) (omega arith) in
+      drop-past (recordBytes (h .row) ++ free) ending capacity 0 long
+
+  pub record-used : isFree (trailerOf (recordPage h)) ≡ false
+  record-used = ap isFree trailer-page
+
+  module _ (l : h .holder < 65536) where
+    holder-page : backAt (recordPage h) 0 ≡ h .holder
+    unfolding twoAt
+    holder-page = rw (in-trailer h f 4, in-trailer h f 5) (two-bytes (h .holder) l)
+
+    -- it keeps the rules by itself
+    pub record-fits : (pages : ℕ) → settledFits (h .page) (cond (h .settled) 1 0) ≡ true → backFits pages (h .page) (h .holder) ≡ true
+        → pageFits pages (h .page) (recordPage h) ≡ true
+    unfolding trailerFits recordTrailer freeFits twoAt
+    record-fits pages s b =
+        let n = recordSize (h .row) in
+        rw (trailer-page, s, two-bytes n (omega arith), le-leb 6 n (least (h .row)), le-leb n capacity f, two-bytes (h .holder) l, b, zeros 10)
+
+  -- the bytes past the length used
+  tail-page : allZero (take (capacity - recordSize (h .row)) (drop (recordSize (h .row)) (recordPage h))) ≡ true
+  tail-page =
       let n = recordSize (h .row) in
       let free : List ℕ = replicate (capacity - n) 0 in
-      let last = trailer 1 (cond (h .settled) 1 0) n (h .holder) in
-      let long : length (recordBytes (h .row) ++ free) ≡ capacity = simp (length-append, length-replicate, length-record) (omega arith) in
-      rw (
-        in-trailer h f 0,
-        in-trailer h f 1,
-        not-two (h .settled),
-        used-page h f,
-        le-leb n capacity f,
-        part (recordBytes (h .row)) free last n (capacity - n) (length-record (h .row)) (length-replicate (capacity - n) 0),
-        zeros (capacity - n),
-        drop-past (recordBytes (h .row) ++ free) last capacity 6 long,
-      )
-
-  holder-page : h .holder < 65536 → backAt (recordPage h) 0 ≡ h .holder
-  unfolding twoAt
-  holder-page l = rw (in-trailer h f 4, in-trailer h f 5) (two-bytes (h .holder) l)
-
-  -- page 1
-  pub first-ok : h .settled ≡ true → h .holder ≡ 0 → firstOk (recordPage h) ≡ true
-  unfolding firstOk
-  first-ok s o = rw (record-state, in-trailer h f 1, holder-page (omega arith), s, o)
+      rw (part (recordBytes (h .row)) free ending n (capacity - n) (length-record (h .row)) (length-replicate (capacity - n) 0)) (zeros (capacity - n))
 
 -- ── the page in the image ──
 
@@ -142,6 +155,17 @@ module _ (img : List ℕ) (p : ℕ) (h : Held) (f : RecordFits (h .settled) (h .
 
   settled-of : eqb (settledAt img (pageSize * p)) 1 ≡ h .settled
   settled-of = rw (on-page (capacity + 1) (pageSize * p + (capacity + 1)) refl (omega arith)) (settled-page h (f .fits))
+
+  -- the zeros past the length used
+  pub tail-of : tailZero img p ≡ true
+  unfolding tailZero
+  tail-of =
+      rw (
+        two-on-page (capacity + 2) (pageSize * p + (capacity + 2)) refl (omega arith),
+        used-page h (f .fits),
+        tail-part img p (recordSize (h .row)) (f .fits),
+        e,
+      ) (tail-page h (f .fits))
 
   root-fits : rootFits img p ≡ true
   unfolding rootFits
@@ -173,4 +197,4 @@ module _ (img : List ℕ) (p : ℕ) (h : Held) (f : RecordFits (h .settled) (h .
     pub proxy-of : (level : ℕ) (w : State) → 2 ≤ w .left → isMarked (w .marks) p ≡ false
         → proxyOf img p (h .holder) level w ≡ asRec p (h .settled) (nodeOf img (recordBytes (h .row)) p 0 level (withMark w p))
     unfolding proxyStep entersOf
-    proxy-of level w a m = rw (names-of, root-fits, le-leb 2 (w .left) a, m, settled-of, record-of)
+    proxy-of level w a m = rw (names-of, root-fits, le-leb 2 (w .left) a, m, tail-of, settled-of, record-of)

@@ -1,19 +1,28 @@
 -- The pages as parts of an image: their bytes, and a record on its page.
-use mathlib.Core.Path.{_≡_, ap, ap₂, _∙_}
-use mathlib.Core.List.{List}
-use Prim.Native.Nat.{ℕ, _+_, _*_, _≤_, _<_}
+use mathlib.Core.Path.{_≡_, refl, sym, ap, ap₂, _∙_}
+use mathlib.Core.Bool.{true}
+use mathlib.Core.List.{List, [], _∷_}
+use Prim.Native.Nat.{ℕ, zero, suc, _+_, _-_, _*_, _≤_, _<_}
 use native.Mathlib.Omega.{arith}
 use native.Mathlib.Nat.{add-assoc}
 use lib.ListN.{length, take, drop, getD, length-drop}
-use lib.Seq.{length-take-le, take-take, getD-take, getD-drop}
+use lib.Seq.{length-take-le, take-take, drop-drop, getD-take, getD-drop}
 use lib.Dec.{eqb}
 use Rattle.model.specs.Limits.{pageSize, capacity}
 use Rattle.model.specs.Row.{Row, recordBytes, recordPage, recordOn}
 use Rattle.model.specs.Reading.{twoAt, pageOf, usedAt, backAt, settledAt}
-use Rattle.theory_check.specs.Tests.{stateOf}
+use Rattle.model.specs.BeforeWalk.{allZero}
+use Rattle.theory_check.specs.Tests.{tailZero}
 use Rattle.theory_check.specs.Walk.{recordOf}
 use Rattle.theory_check.specs.Heads.{AllBytes, all-take, all-drop}
-use Rattle.theory_check.specs.Trailers.{record-says, record-page}
+use Rattle.theory_check.specs.Trailers.{TrailerIs, record-page}
+
+-- bytes of a part's front are bytes of the part
+part-take : (u m n : ℕ) (l : List ℕ) → u + m ≤ n → take m (drop u (take n l)) ≡ take m (drop u l)
+part-take zero m n l h = take-take m n l (omega arith)
+part-take (suc u) m zero l h = absurd (omega arith)
+part-take (suc u) m (suc n) [] h = refl
+part-take (suc u) m (suc n) (x ∷ l) h = part-take u m n l (omega arith)
 
 module _ (img : List ℕ) (p : ℕ) where
   pub page-bytes : AllBytes img → AllBytes (pageOf img p)
@@ -29,17 +38,25 @@ module _ (img : List ℕ) (p : ℕ) where
   unfolding twoAt
   page-two i h = rw (page-byte i (omega arith), page-byte (i + 1) (omega arith), add-assoc)
 
-  -- the record found on a page in a record's state stands there as `recordPage` says
-  pub page-record : AllBytes img → pageSize * p + pageSize ≤ length img → stateOf (pageOf img p) ≡ 2 → (holder : ℕ) → backAt img (pageSize * p) ≡ holder
-      → (r : Row) → recordOf img p ≡ recordBytes r
-      → pageOf img p ≡ recordPage ((recordOn p (eqb (settledAt img (pageSize * p)) 1) holder r))
-  page-record whole inside two holder h r e =
+  -- the bytes between the length used and the trailer
+  pub tail-part : (u : ℕ) → u ≤ capacity → take (capacity - u) (drop (pageSize * p + u) img) ≡ take (capacity - u) (drop u (pageOf img p))
+  tail-part u h =
+      ap (take (capacity - u)) (sym (drop-drop u (pageSize * p) img))
+      ∙ sym (part-take u (capacity - u) pageSize (drop (pageSize * p) img) (omega arith))
+
+  -- the record found on a page that keeps the rules by itself, with zeros after it, stands there as `recordPage` says
+  pub page-record : AllBytes img → pageSize * p + pageSize ≤ length img → (pages : ℕ) → TrailerIs pages p (pageOf img p) → tailZero img p ≡ true
+      → (holder : ℕ) → backAt img (pageSize * p) ≡ holder → (r : Row) → recordOf img p ≡ recordBytes r
+      → pageOf img p ≡ recordPage (recordOn p (eqb (settledAt img (pageSize * p)) 1) holder r)
+  unfolding tailZero
+  page-record whole inside pages k tail holder h r e =
       let s = pageOf img p in
       let long = page-long inside in
-      let k = record-says s (page-bytes whole) long two in
-      let used = page-two (capacity + 2) (omega arith) in
+      let used : usedAt s 0 ≡ usedAt img (pageSize * p) = page-two (capacity + 2) (omega arith) in
       let front : take (usedAt s 0) s ≡ recordBytes r =
       take-take (usedAt s 0) pageSize (drop (pageSize * p) img) (omega (arith, k .used)) ∙ ap (λ (n : ℕ). take n (drop (pageSize * p) img)) used ∙ e in
-      record-page s long k r front p
+      let zeros : allZero (take (capacity - usedAt s 0) (drop (usedAt s 0) s)) ≡ true =
+      ap allZero (sym (tail-part (usedAt s 0) (k .used))) ∙ ap (λ (n : ℕ). allZero (take (capacity - n) (drop (pageSize * p + n) img))) used ∙ tail in
+      record-page pages p s (page-bytes whole) long k zeros r front
       ∙ ap₂ (λ (b h : ℕ). recordPage (recordOn p (eqb b 1) h r))
       (page-byte (capacity + 1) (omega arith)) (page-two (capacity + 4) (omega arith) ∙ h)

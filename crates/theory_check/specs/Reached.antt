@@ -4,21 +4,23 @@ use mathlib.Core.List.{List}
 use mathlib.Core.Bool.{Bool, true, false, cond, not, _&&_, true≢false}
 use Prim.Native.Nat.{ℕ, _+_, _-_, _/_, _≤_, _<_}
 use native.Mathlib.Omega.{arith}
-use lib.ListN.{length}
+use lib.ListN.{length, getD}
+use lib.Seq.{getD-drop}
 use lib.Dec.{eqb, leb}
-use borrow.Author.Tests.{eqb-true, ne-eqb, eq-eqb, lt-leb}
+use borrow.Author.Tests.{eqb-true, ne-eqb, lt-leb}
 use Rattle.model.specs.Limits.{mostPages, pageSize, capacity}
 use Rattle.model.specs.Row.{Row, nil, agg, lit, rec, _⊹_, count, outside, standing, mayStand}
 use Rattle.model.specs.Reading.{pageOf, nameAt}
+use Rattle.model.specs.BeforeWalk.{trailerOf, isFree, trailerFits, pageCount}
 use Rattle.theory_rows.specs.Image.{Stored}
 use Rattle.theory_rows.specs.Pages.{count-⊹}
-use Rattle.theory_check.specs.Tests.{isMarked, marked, stateOf}
+use Rattle.theory_check.specs.Tests.{isMarked, marked}
 use Rattle.theory_check.specs.Marks.{IsMarks, marks-kept, is-marked}
 use Rattle.theory_check.specs.Walk.{State, Job, node, list}
 use Rattle.theory_check.specs.Steps.{from, Entered}
 use Rattle.theory_check.specs.Heads.{AllBytes}
-use Rattle.theory_check.specs.Trailers.{state-two}
-use Rattle.theory_check.specs.Parts.{page-long, page-byte, page-record}
+use Rattle.theory_check.specs.Trailers.{trailer-says}
+use Rattle.theory_check.specs.Parts.{page-byte, page-record}
 use Rattle.theory_check.specs.Sums.{sum, sum-add, only, sum-only}
 use Rattle.theory_check.specs.Passes.{Passes, proxy, helper, literal, aggregate, empty, next}
 use Rattle.theory_check.specs.Rows.{node-is}
@@ -60,13 +62,13 @@ module _ {img : List ℕ} where
 
 -- ── records ──
 
--- A page past page 1 that is in the state of a record's.
+-- A page past page 1 that is in use.
 abbrev pub hasRecord : List ℕ → ℕ → Bool
-hasRecord img q = not (outside (length img / pageSize) q) && eqb (stateOf (pageOf img q)) 2
+hasRecord img q = not (outside (pageCount img) q) && not (isFree (trailerOf (pageOf img q)))
 
--- How often a row names the pages of an image from 2 on.
+-- How often a row names the pages of an image from 1 on.
 abbrev pub names : List ℕ → Row → ℕ
-names img r = sum (λ q. count q r) (length img / pageSize - 2) 2
+names img r = sum (λ q. count q r) (pageCount img - 1) 1
 
 stored-⊹ : (mem : ℕ → List ℕ) (h : ℕ) (a b : Row) → Stored mem h a → Stored mem h b → Stored mem h (a ⊹ b)
 stored-⊹ mem h nil b m n = n
@@ -79,18 +81,18 @@ abbrev pub pageIn : Job → ℕ
 pageIn (node s page holder level w) = page
 pageIn (list s page holder level w) = page
 
-module _ (img : List ℕ) (whole : AllBytes img) (kept : (q : ℕ) → 2 ≤ q → q < length img / pageSize → stateOf (pageOf img q) ≡ 0 → ⊥) where
-  -- a page that the walk enters has a record
-  state-entered : {p page : ℕ} {w : State} → Entered img p page w → stateOf (pageOf img p) ≡ 2
-  state-entered {p} g =
-      state-two (pageOf img p) (page-long img p (g .inside)) (page-byte img p capacity (omega arith) ∙ g .kind)
-      (kept p (g .past) (omega (arith, g .inside)))
+-- a page that the walk enters is in use
+used-entered : {img : List ℕ} {p page : ℕ} {w : State} → Entered img p page w → isFree (trailerOf (pageOf img p)) ≡ false
+used-entered {img} {p} g =
+    ne-eqb (getD (trailerOf (pageOf img p)) 0 0) 0
+    (λ z. omega (arith, z, getD-drop capacity (pageOf img p) 0 0, page-byte img p capacity (omega arith), g .kind))
 
+module _ (img : List ℕ) where
   has-entered : {p page : ℕ} {w : State} → Entered img p page w → hasRecord img p ≡ true
   has-entered {p} g =
       let low : leb p 1 ≡ false = lt-leb p 1 (g .past) in
-      let high : leb (length img / pageSize) p ≡ false = lt-leb (length img / pageSize) p (omega (arith, g .inside)) in
-      rw (low, high) (eq-eqb (stateOf (pageOf img p)) 2 (state-entered g))
+      let high : leb (pageCount img) p ≡ false = lt-leb (pageCount img) p (omega (arith, g .inside)) in
+      rw (low, high, used-entered g)
 
   -- other pages are not named
   pub others : {j : Job} {r : Row} {v : State} → Passes img j r v → (q : ℕ) → hasRecord img q ≡ false → count q r ≡ 0
@@ -110,22 +112,26 @@ module _ (img : List ℕ) (whole : AllBytes img) (kept : (q : ℕ) → 2 ≤ q �
       omega (
         arith,
         left p,
-        sum-add (λ q. only new q + count q r) (λ q. 0) (length img / pageSize - 2) 2,
-        sum-add (only new) (λ q. count q r) (length img / pageSize - 2) 2,
-        sum-only new (length img / pageSize - 2) 2 (g .past) (omega (arith, g .inside)),
+        sum-add (λ q. only new q + count q r) (λ q. 0) (pageCount img - 1) 1,
+        sum-add (only new) (λ q. count q r) (pageCount img - 1) 1,
+        sum-only new (pageCount img - 1) 1 (omega (arith, g .past)) (omega (arith, g .inside)),
       )
   left (helper h p) = left p
   left (literal h l) = omega arith
-  left (aggregate {r = r} h l p) = omega (arith, left p, sum-add (λ q. count q r) (λ q. 0) (length img / pageSize - 2) 2)
+  left (aggregate {r = r} h l p) = omega (arith, left p, sum-add (λ q. count q r) (λ q. 0) (pageCount img - 1) 1)
   left (empty e) = omega arith
   left (next {a = a} {r = r} l h p t) =
-      simp count-⊹ (omega (arith, left p, left t, sum-add (λ q. count q a) (λ q. count q r) (length img / pageSize - 2) 2))
+      simp count-⊹ (omega (arith, left p, left t, sum-add (λ q. count q a) (λ q. count q r) (pageCount img - 1) 1))
 
+module _ (img : List ℕ) (whole : AllBytes img)
+    (kept : (q : ℕ) → 1 ≤ q → q < pageCount img → trailerFits (pageCount img) q (trailerOf (pageOf img q)) ≡ true) where
   -- each record stands on its page
   pub stored : {j : Job} {r : Row} {v : State} → Passes img j r v → Stored (pageOf img) (pageIn j) r
   unfolding mayStand standing
   stored (proxy {s = s} {page = page} {r = r} h n g p) =
-      (page-record img (nameAt s 0) whole (g .inside) (state-entered g) page (g .holder) r (node-is p .root refl), stored p, tt)
+      let q = nameAt s 0 in
+      let says = trailer-says (pageCount img) q (pageOf img q) (kept q (omega (arith, g .past)) (omega (arith, g .inside))) (used-entered g) in
+      (page-record img q whole (g .inside) (pageCount img) says (g .tail) page (g .holder) r (node-is p .root refl), stored p, tt)
   stored (helper h p) = stored p
   stored (literal h l) = tt
   stored (aggregate h l p) = (stored p, tt)

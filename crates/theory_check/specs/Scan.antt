@@ -1,23 +1,25 @@
--- The scan over the trailers of a valid store's image counts its records.
-use mathlib.Core.Path.{_≡_, refl}
+-- The image of a valid store passes the part before the walk, which finds as many pages in use as there are records.
+use mathlib.Core.Path.{_≡_, refl, ap, _∙_}
 use mathlib.Core.Bool.{Bool, true, false, cond, _||_}
-use mathlib.Core.List.{List, [], _∷_, map}
+use mathlib.Core.List.{List, [], _∷_, _++_, map}
 use Prim.Native.Nat.{ℕ, zero, suc, _+_, _-_, _≤_, _<_}
 use native.Mathlib.Omega.{arith}
 use lib.Dec.{leb, eqb}
-use borrow.Author.Tests.{ne-eqb, leb-false}
-use Rattle.model.specs.Row.{Row, nil, agg, lit, rec, store, Held, records, recordPage, pageAt, image, count, Config}
+use borrow.Author.Tests.{eqb-true, eqb-false, eq-eqb, ne-eqb, le-leb, leb-false, lt-ltb}
+use Rattle.model.specs.Limits.{mostPages}
+use Rattle.model.specs.Row.{Row, nil, agg, lit, rec, store, Held, records, recordPage, pageAt, image, count, Config, recordOn}
 use Rattle.model.specs.Reading.{pageOf}
+use Rattle.model.specs.BeforeWalk.{trailerOf, isFree, pageFits}
 use Rattle.model.specs.Calls.Records.{times}
-use Rattle.theory_rows.specs.Fits.{Valid}
-use Rattle.theory_rows.specs.Image.{AllFit, all-fit, image-page}
+use Rattle.theory_rows.specs.Fits.{Fits, Valid}
+use Rattle.theory_rows.specs.Image.{AllFit, all-fit, image-page, once}
 use Rattle.theory_decoding.specs.Valid.{names-own}
-use Rattle.theory_decoding.specs.Steps.{recordCount}
+use Rattle.theory_decoding.specs.Steps.{recordCount, named-inside}
 use Rattle.theory_places.specs.Pages.{pages-count, pages-once}
-use Rattle.theory_check.specs.Tests.{stateOf}
-use Rattle.theory_check.specs.Check.{scanFrom}
-use Rattle.theory_check.specs.Pages.{free-state, record-state}
-use Rattle.theory_check.specs.Sums.{sum, sum-add, only, sum-only}
+use Rattle.theory_check.specs.Check.{inUse}
+use Rattle.theory_check.specs.Pages.{free-fits, record-fits, record-used}
+use Rattle.theory_check.specs.Sums.{sum, sum-add, sum-same, only, sum-only}
+use Rattle.theory_check.specs.Images.{Each, each-++}
 
 -- ── sums ──
 
@@ -48,39 +50,65 @@ sum-count k p (rec x s r rest) h =
       sum-count k p rest (λ q g. h q (omega arith)),
     )
 
--- ── the scan ──
-
-scanned : (img : List ℕ) (f : ℕ → ℕ) (k p n : ℕ) → ((q : ℕ) → p ≤ q → q < p + k → (stateOf (pageOf img q) ≡ suc (f q)) × (f q ≤ 1))
-    → scanFrom img k p n ≡ suc (n + sum f k p)
-unfolding scanFrom
-scanned img f zero p n h = omega arith
-scanned img f (suc k) p n h =
-    let t = h p (omega arith) (omega arith) in
-    let later : (n : ℕ) → scanFrom img k (suc p) n ≡ suc (n + sum f k (suc p)) = λ n. scanned img f k (suc p) n (λ q a b. h q (omega arith) (omega arith)) in
-    rw (t .0) (go (f p) (t .1) later)
-  where
-    go : (x : ℕ) → x ≤ 1 → ((n : ℕ) → scanFrom img k (suc p) n ≡ suc (n + sum f k (suc p)))
-        → cond (eqb (suc x) 0) 0 (cond (eqb (suc x) 2) (scanFrom img k (suc p) (n + 1)) (scanFrom img k (suc p) n)) ≡ suc (n + (x + sum f k (suc p)))
-    go zero l i = omega (arith, i n)
-    go (suc zero) l i = omega (arith, i (n + 1))
-    go (suc (suc x)) l i = absurd (omega arith)
-
--- ── the pages of the image ──
+-- ── the pages in use ──
 
 abbrev pageTimes : ℕ → List Held → ℕ
 pageTimes q hs = times q (map (λ (h : Held). h .page) hs)
 
-state-at : (hs : List Held) → AllFit hs → (q : ℕ) → pageTimes q hs ≤ 1 → stateOf (pageAt hs q) ≡ suc (pageTimes q hs)
-state-at [] f q l = free-state
-state-at (h ∷ hs) f q l = go (eqb q (h .page)) l (state-at hs (f .1) q)
+used-at : (hs : List Held) → AllFit hs → (q : ℕ) → pageTimes q hs ≤ 1 → cond (isFree (trailerOf (pageAt hs q))) 0 1 ≡ pageTimes q hs
+used-at [] f q l = refl
+used-at (h ∷ hs) f q l = go (eqb q (h .page)) l (used-at hs (f .1) q)
   where
-    go : (b : Bool) → cond b 1 0 + pageTimes q hs ≤ 1 → (pageTimes q hs ≤ 1 → stateOf (pageAt hs q) ≡ suc (pageTimes q hs))
-        → stateOf (cond b (recordPage h) (pageAt hs q)) ≡ suc (cond b 1 0 + pageTimes q hs)
-    go true l i = omega (arith, record-state h (f .0))
+    go : (b : Bool) → cond b 1 0 + pageTimes q hs ≤ 1 → (pageTimes q hs ≤ 1 → cond (isFree (trailerOf (pageAt hs q))) 0 1 ≡ pageTimes q hs)
+        → cond (isFree (trailerOf (cond b (recordPage h) (pageAt hs q)))) 0 1 ≡ cond b 1 0 + pageTimes q hs
+    go true l i = rw (record-used h (f .0)) (omega arith)
     go false l i = omega (arith, i (omega arith))
 
+-- ── each page keeps the rules ──
+
+not-two : (b : Bool) → leb (cond b 1 0) 1 ≡ true
+not-two true = refl
+not-two false = refl
+
+not-one : (b : Bool) → _≡_ {A = ℕ} (cond b 1 0) 0 → b ≡ false
+not-one true e = absurd (omega arith)
+not-one false e = refl
+
+module _ (pages : ℕ) (many : pages ≤ mostPages) where
+  abbrev Keeps : Held → Type 0
+  Keeps h = pageFits pages (h .page) (recordPage h) ≡ true
+
+  -- The records of a row, whose own record on page h is not among them: each is on a page of its own, so it does not hold itself.
+  keeps-records : (h : ℕ) (row : Row) → Fits row → 1 ≤ h → h < pages → count h row ≡ 0 → ((q : ℕ) → count q row ≤ 1)
+      → ((q : ℕ) → 1 ≤ count q row → (2 ≤ q) × (q < pages)) → Each Keeps (records h row)
+  keeps-records h nil f a b o c r = tt
+  keeps-records h (agg l cs rest) f a b o c r =
+      each-++ Keeps (records h cs) (records h rest)
+      (keeps-records h cs (f .1) a b (omega arith) (λ q. omega (arith, c q)) (λ q g. r q (omega arith)))
+      (keeps-records h rest (f .2) a b (omega arith) (λ q. omega (arith, c q)) (λ q g. r q (omega arith)))
+  keeps-records h (lit l x rest) f a b o c r = keeps-records h rest (f .3) a b o c r
+  keeps-records h (rec p s x rest) f a b o c r =
+      let low = r p (names-own p s x rest) in
+      let alone : cond true 1 0 + count p x + count p rest ≤ 1 = rw (eq-eqb p p refl) at (c p) in
+      let later : eqb p 1 ≡ false = ne-eqb p 1 (λ e. omega arith) in
+      let other : eqb h p ≡ false = not-one (eqb h p) (omega arith) in (
+        record-fits (recordOn p s h x) (f .0 .fits) (omega arith) pages (rw later (not-two s))
+            (rw (later, le-leb 1 h a, lt-ltb h pages b, other)),
+        each-++ Keeps (records p x) (records h rest)
+            (keeps-records p x (f .1) (omega arith) (low .1) (omega arith) (λ q. omega (arith, c q)) (λ q g. r q (omega arith)))
+            (keeps-records h rest (f .2) a b (omega arith) (λ q. omega (arith, c q)) (λ q g. r q (omega arith))),
+      )
+
+  keeps-at : (hs : List Held) → Each Keeps hs → (q : ℕ) → (q ≡ 1 → ⊥) → pageFits pages q (pageAt hs q) ≡ true
+  keeps-at [] k q n = free-fits pages q n
+  keeps-at (h ∷ hs) k q n = go (eqb q (h .page)) refl (keeps-at hs (k .1) q n)
+    where
+      go : (b : Bool) → eqb q (h .page) ≡ b → pageFits pages q (pageAt hs q) ≡ true → pageFits pages q (cond b (recordPage h) (pageAt hs q)) ≡ true
+      go true e ih = rw (eqb-true q (h .page) e) (k .0)
+      go false e ih = ih
+
 module _ (st : Config) (root : Row) (v : Valid st root) where
-  -- A page that a proxy names is one of those scanned.
+  -- A page that a proxy names is a page of the image past page 1.
   pub named-range : (q : ℕ) → 1 ≤ count q root → (2 ≤ q) × (q < st .pages)
   named-range q h = go (leb q 1) (leb (st .pages) q) refl refl (v .placed q)
     where
@@ -89,16 +117,28 @@ module _ (st : Config) (root : Row) (v : Valid st root) where
       go false true d e l = absurd (omega arith)
       go false false d e l = omega (arith, leb-false q 1 d, leb-false (st .pages) q e)
 
-  image-state : (q : ℕ) → 2 ≤ q → q < st .pages → (stateOf (pageOf (image st root) q) ≡ suc (count q root)) × (count q root ≤ 1)
-  image-state q a b =
-      let c = pages-count root q in
-      let o : _≡_ {A = ℕ} (cond (eqb q 1) 1 0) 0 = rw (ne-eqb q 1 (λ e. omega arith)) in
-      let s = state-at (records 0 (store root)) (all-fit st root v) q (pages-once st root v q) in
-      (rw (image-page st root v q (omega arith) b) (omega arith), omega (arith, pages-once st root v q))
+  others : Each (Keeps (st .pages) (v .ranges .many)) (records 1 root ++ [])
+  others =
+      each-++ (Keeps (st .pages) (v .ranges .many)) (records 1 root) []
+      (keeps-records (st .pages) (v .ranges .many) 1 root (v .rows .1) (omega arith) (omega (arith, v .ranges .few))
+      (omega (arith, pages-once st root v 1, pages-count root 1)) (λ q. omega (arith, once st root v q)) named-range)
+      tt
 
-  pub scan-image : scanFrom (image st root) (st .pages - 2) 2 0 ≡ suc (recordCount root)
-  scan-image =
-      let f : ℕ → ℕ = λ q. count q root in
-      let k = st .pages - 2 in
+  -- Each page from 1 on keeps the rules by itself.
+  pub image-fits : (q : ℕ) → 1 ≤ q → q < st .pages → pageFits (st .pages) q (pageOf (image st root) q) ≡ true
+  image-fits q a b = rw (image-page st root v q a b) (go (eqb q 1) refl)
+    where
+      go : (t : Bool) → eqb q 1 ≡ t → pageFits (st .pages) q (cond t (recordPage (recordOn 1 true 0 root)) (pageAt (records 1 root ++ []) q)) ≡ true
+      go true e = rw (eqb-true q 1 e) (record-fits (recordOn 1 true 0 root) (v .rows .0 .fits) (omega arith) (st .pages) refl refl)
+      go false e = keeps-at (st .pages) (v .ranges .many) (records 1 root ++ []) others q (eqb-false q 1 e)
+
+  -- The pages in use are those of the records.
+  pub image-used : sum (inUse (image st root)) (st .pages - 1) 1 ≡ suc (recordCount root)
+  image-used =
+      let k = st .pages - 1 in
       let n = v .ranges .few in
-      omega (arith, scanned (image st root) f k 2 0 (λ q a b. image-state q a (omega arith)), sum-count k 2 root (λ q h. omega (arith, named-range q h)))
+      let used : (q : ℕ) → 1 ≤ q → q < 1 + k → inUse (image st root) q ≡ count q (store root) =
+      λ q a b. rw (image-page st root v q a (omega arith))
+      (used-at (records 0 (store root)) (all-fit st root v) q (pages-once st root v q) ∙ pages-count root q) in
+      sum-same (inUse (image st root)) (λ q. count q (store root)) k 1 used
+      ∙ omega (arith, sum-count k 1 (store root) (λ q h. omega (arith, named-inside st root v q h)))

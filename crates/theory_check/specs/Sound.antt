@@ -1,30 +1,32 @@
 -- The check is sound: an image that passes reads as a store.
-use mathlib.Core.Path.{_≡_, refl, sym, subst, _∙_}
+use mathlib.Core.Path.{_≡_, refl, sym, ap, _∙_}
 use mathlib.Core.List.{List}
-use mathlib.Core.Bool.{Bool, true, false, cond, not, _||_, and-false}
+use mathlib.Core.Bool.{Bool, true, false, cond, not, _||_, and-false, true≢false}
 use Prim.Native.Nat.{ℕ, _+_, _-_, _*_, _/_, _%_, _≤_, _<_}
 use native.Mathlib.Omega.{arith}
 use lib.ListN.{length, getD, replicate}
 use lib.Dec.{eqb, leb}
-use borrow.Author.Tests.{eqb-true, eqb-false, eq-eqb, leb-true, leb-false}
+use borrow.Author.Tests.{eqb-true, ne-eqb, leb-true, leb-false}
 use Rattle.model.specs.Limits.{mostPages, pageSize, capacity, markBytes}
 use Rattle.model.specs.Row.{Row, store, Config, count, outside, recordPage, standing, mayStand, recordOn}
 use Rattle.model.specs.Reading.{Reads, lengthOk, configOn, pageOf, backAt, settledAt}
+use Rattle.model.specs.BeforeWalk.{trailerOf, isFree, pageCount, beforeWalk}
+use Rattle.model.specs.Claims.{PagesKeep}
 use Rattle.theory_rows.specs.Fits.{Fits, Placed, Valid}
 use Rattle.theory_decoding.specs.Valid as valid
 use Rattle.theory_decoding.specs.Valid.{valid-holds}
-use Rattle.theory_check.specs.Facts.{both, not-then, not-else}
-use Rattle.theory_check.specs.Tests.{isMarked, stateOf, settingsOk, firstOk}
+use Rattle.theory_check.specs.Facts.{both, not-else}
+use Rattle.theory_check.specs.Tests.{isMarked, tailZero}
 use Rattle.theory_check.specs.Walk.{State, state, recordOf, node}
-use Rattle.theory_check.specs.Check.{trailersOf, walkOf, walkOk, checkBy}
+use Rattle.theory_check.specs.Check.{inUse, trailersOf, walkOf, walkOk, checkBy}
+use Rattle.theory_check.specs.Before.{before-says, not-free, trailers-are}
 use Rattle.theory_check.specs.Marks.{marks-none}
 use Rattle.theory_check.specs.Heads.{AllBytes}
-use Rattle.theory_check.specs.Trailers.{record-says, free-says, SettingsIs, settings-say}
+use Rattle.theory_check.specs.Trailers.{TrailerIs, trailer-says, zero-page, SettingsIs, settings-say}
 use Rattle.theory_check.specs.Passes.{Passes, passes, record-bytes}
 use Rattle.theory_check.specs.Rows.{node-is, first-byte, record-fits, fits, levels}
 use Rattle.theory_check.specs.Parts.{page-bytes, page-long, page-byte, page-two, page-record}
-use Rattle.theory_check.specs.Sums.{sum-tight}
-use Rattle.theory_check.specs.Scanned.{standsOn, Scanned, scan-says}
+use Rattle.theory_check.specs.Sums.{sum, sum-add, only, sum-only, sum-tight}
 use Rattle.theory_check.specs.Reached.{marks, hasRecord, others, left, stored}
 use Rattle.theory_check.specs.Images.{image-is}
 
@@ -34,51 +36,32 @@ record Checked (img : List ℕ) : Type 0 where
   whole : length img % pageSize ≡ 0
   few : 2 ≤ length img / pageSize
   many : length img / pageSize ≤ mostPages
-  settings : settingsOk (pageOf img 0) (length img / pageSize) ≡ true
-  first : firstOk (pageOf img 1) ≡ true
-  scanned : Scanned img (length img / pageSize - 2) 2 0 (trailersOf img)
+  passed : beforeWalk img ≡ true
+  before : PagesKeep img
+  tail : tailZero img 1 ≡ true
   top : getD img pageSize 0 ≡ 1
   ended : walkOf img (trailersOf img) .walk .left ≡ 1
 
 check-says : (img : List ℕ) → checkBy img ≡ 0 → Checked img
-unfolding checkBy lengthOk walkOk trailersOf
+unfolding checkBy lengthOk walkOk
 check-says img e =
     let n = length img in
     let k = trailersOf img in
     let length-ok = not-else (lengthOk n) (λ z. omega arith) e in
-    let trailers-ok = not-then (eqb k 0) (λ z. omega arith) (length-ok .1) in
-    let walk-ok = valid.both _ _ (not-else (walkOk img k) (λ z. omega arith) (trailers-ok .1) .0) in
+    let before-ok = not-else (beforeWalk img) (λ z. omega arith) (length-ok .1) in
+    let walk-ok = valid.both _ _ (not-else (walkOk img k) (λ z. omega arith) (before-ok .1) .0) in
+    let front = valid.both _ _ (walk-ok .0) in
     let sizes = valid.both _ _ (length-ok .0) in
     let least = valid.both _ _ (sizes .0) in
-    let some : 0 ≡ k → ⊥ = λ z. eqb-false k 0 (trailers-ok .0) (sym z) in
-    let pages-ok = not-else _ {n = k} some refl in
-    let first-ok = valid.both _ _ (pages-ok .0) in
     record {
       whole = eqb-true (n % pageSize) 0 (least .0);
       few = leb-true 2 (n / pageSize) (least .1);
       many = leb-true (n / pageSize) mostPages (sizes .1);
-      settings = first-ok .0;
-      first = first-ok .1;
-      scanned = subst (Scanned img (n / pageSize - 2) 2 0) (pages-ok .1) (scan-says img (n / pageSize - 2) 2 0 (λ z. some (sym z ∙ pages-ok .1)));
-      top = eqb-true (getD img pageSize 0) 1 (walk-ok .0);
+      passed = before-ok .0;
+      before = before-says img (before-ok .0);
+      tail = front .1;
+      top = eqb-true (getD img pageSize 0) 1 (front .0);
       ended = eqb-true (walkOf img k .walk .left) 1 (walk-ok .1);
-    }
-
--- What page 1 is: a settled record with no holder.
-record FirstIs (img : List ℕ) : Type 0 where
-  stands : stateOf (pageOf img 1) ≡ 2
-  settled : settledAt img (pageSize * 1) ≡ 1
-  holder : backAt img (pageSize * 1) ≡ 0
-
-first-says : (img : List ℕ) → firstOk (pageOf img 1) ≡ true → FirstIs img
-unfolding firstOk
-first-says img e =
-    let holder = valid.both _ _ e in
-    let settled = valid.both _ _ (holder .0) in
-    record {
-      stands = eqb-true _ _ (settled .0);
-      settled = sym (page-byte img 1 (capacity + 1) (omega arith)) ∙ eqb-true _ _ (settled .1);
-      holder = sym (page-two img 1 (capacity + 4) (omega arith)) ∙ eqb-true _ _ (holder .1);
     }
 
 -- ── the store ──
@@ -90,27 +73,28 @@ st img = configOn (pageOf img 0)
 module _ (img : List ℕ) (bytes : AllBytes img) (c : Checked img) (root : Row) (v : State)
     (p : Passes img (node (recordOf img 1) 1 0 1 (state (trailersOf img) (replicate markBytes 0))) root v) (ended : v .left ≡ 1) where
   abbrev pages : ℕ
-  pages = length img / pageSize
-
-  kept : (q : ℕ) → 2 ≤ q → q < pages → stateOf (pageOf img q) ≡ 0 → ⊥
-  kept q a b = c .scanned .kept q a (omega arith)
+  pages = pageCount img
 
   inside : (q : ℕ) → q < pages → pageSize * q + pageSize ≤ length img
   inside q h = omega arith
 
   settings : SettingsIs (pageOf img 0) pages
   settings =
-      settings-say (pageOf img 0) pages (page-bytes img 0 bytes) (page-long img 0 (inside 0 (omega (arith, c .few)))) (c .settings)
+      settings-say (pageOf img 0) pages (page-bytes img 0 bytes) (page-long img 0 (inside 0 (omega (arith, c .few)))) (c .before .settings)
 
-  first : FirstIs img
-  first = first-says img (c .first)
+  -- page 1 is in use
+  one-used : isFree (trailerOf (pageOf img 1)) ≡ false
+  one-used = not-free pages (trailerOf (pageOf img 1)) (c .before .trailers 1 (omega arith) (omega (arith, c .few)))
+
+  first : TrailerIs pages 1 (pageOf img 1)
+  first = trailer-says pages 1 (pageOf img 1) (c .before .trailers 1 (omega arith) (omega (arith, c .few))) one-used
 
   bit-low : (b : Bool) → cond b 1 0 ≤ 1
   bit-low b = both (λ n. n ≤ 1) b {x = 1} {y = 0} (omega arith) (omega arith)
 
-  -- a page with no record is not named
+  -- a page that is free is not named
   unnamed : (q : ℕ) → hasRecord img q ≡ false → count q root ≡ 0
-  unnamed = others img bytes kept p
+  unnamed = others img p
 
   -- no page is named twice, and none outside
   placed : Placed pages root
@@ -122,43 +106,59 @@ module _ (img : List ℕ) (bytes : AllBytes img) (c : Checked img) (root : Row) 
       go false false d e =
           omega (arith, marks p marks-none .once q (omega (arith, leb-false pages q e, c .many)), bit-low (isMarked (v .marks) q))
 
-  -- so each is named no more often than a record stands there,
-  named-low : (q : ℕ) → count q root ≤ standsOn img q
-  named-low q = go (eqb (stateOf (pageOf img q)) 2) refl
+  once : (q : ℕ) → count q (store root) ≤ 1
+  once q = go (eqb q 1) refl
     where
-      go : (b : Bool) → eqb (stateOf (pageOf img q)) 2 ≡ b → count q root ≤ cond b 1 0
-      go true e = omega (arith, placed q, both (λ n. n ≤ 1) (outside pages q) {x = 0} {y = 1} (omega arith) (omega arith))
-      go false e = omega (arith, unnamed q (rw e (and-false (not (outside pages q)))))
+      go : (b : Bool) → eqb q 1 ≡ b → cond b 1 0 + count q root + 0 ≤ 1
+      go true e = rw (eqb-true q 1 e) (omega (arith, placed 1))
+      go false e = omega (arith, placed q, both (λ n. n ≤ 1) (outside pages q) {x = 0} {y = 1} (omega arith) (omega arith))
 
-  -- and as there are as many names as records, every record is named.
-  reached : (q : ℕ) → 2 ≤ q → q < pages → stateOf (pageOf img q) ≡ 2 → 1 ≤ count q root
-  reached q a b e =
-      let all = left img bytes kept p in
-      let same = c .scanned .count in
-      let t = sum-tight (λ q. count q root) (standsOn img) named-low (pages - 2) 2 (omega arith) q a (omega arith) in
-      rw (eq-eqb (stateOf (pageOf img q)) 2 e) at t
+  -- so each is named no more often than it is in use,
+  named-low : (q : ℕ) → count q (store root) ≤ inUse img q
+  named-low q = go (isFree (trailerOf (pageOf img q))) refl
+    where
+      go : (b : Bool) → isFree (trailerOf (pageOf img q)) ≡ b → count q (store root) ≤ cond b 0 1
+      go true e =
+          let other : eqb q 1 ≡ false =
+          ne-eqb q 1 (λ d. true≢false (sym e ∙ ap (λ (n : ℕ). isFree (trailerOf (pageOf img n))) d ∙ one-used)) in
+          rw other (omega (arith, unnamed q (rw e (and-false (not (outside pages q))))))
+      go false e = once q
+
+  -- and as there are as many names as pages in use, every page in use is named.
+  reached : (q : ℕ) → 1 ≤ q → q < pages → inUse img q ≤ count q (store root)
+  reached q a b =
+      let k = pages - 1 in
+      let found : trailersOf img ≡ sum (inUse img) k 1 = trailers-are img (c .passed) in
+      let all : sum (inUse img) k 1 ≤ sum (λ q. count q (store root)) k 1 =
+      omega (
+        arith,
+        found,
+        left img p,
+        sum-add (λ q. only 1 q + count q root) (λ q. 0) k 1,
+        sum-add (only 1) (λ q. count q root) k 1,
+        sum-only 1 k 1 (omega arith) (omega (arith, c .few)),
+      ) in
+      sum-tight (λ q. count q (store root)) (inUse img) named-low k 1 all q a (omega arith)
 
   -- A page that is not named is zero.
   free : (q : ℕ) → 1 ≤ q → q < pages → count q (store root) ≡ 0 → pageOf img q ≡ replicate pageSize 0
-  free q a b = go (eqb q 1) refl
+  free q a b z = go (isFree (trailerOf (pageOf img q))) refl (reached q a b)
     where
-      go : (t : Bool) → eqb q 1 ≡ t → cond t 1 0 + count q root + 0 ≡ 0 → pageOf img q ≡ replicate pageSize 0
-      go true e z = absurd (omega arith)
-      go false e z =
-          let n = eqb-false q 1 e in
-          free-says (pageOf img q) (page-long img q (inside q b)) (kept q (omega arith) b) (λ t. omega (arith, reached q (omega arith) b t))
+      go : (t : Bool) → isFree (trailerOf (pageOf img q)) ≡ t → cond t 0 1 ≤ count q (store root) → pageOf img q ≡ replicate pageSize 0
+      go true e l = zero-page (pageOf img q) (page-long img q (inside q b)) (c .before .free q a b e)
+      go false e l = absurd (omega arith)
 
   on-one : pageOf img 1 ≡ recordPage (recordOn 1 true 0 root)
   unfolding mayStand standing
   on-one =
-      let e = page-record img 1 bytes (inside 1 (omega (arith, c .few))) (first .stands) 0 (first .holder) root (node-is p .root refl) in
-      rw (first .settled) at e
+      let settled : settledAt img (pageSize * 1) ≡ 1 = sym (page-byte img 1 (capacity + 1) (omega arith)) ∙ eqb-true _ _ (first .settled) in
+      let holder : backAt img (pageSize * 1) ≡ 0 = sym (page-two img 1 (capacity + 4) (omega arith)) ∙ eqb-true _ _ (first .back) in
+      let e = page-record img 1 bytes (inside 1 (omega (arith, c .few))) pages first (c .tail) 0 holder root (node-is p .root refl) in
+      rw settled at e
 
   rows : Fits (store root)
   rows =
-      let s = pageOf img 1 in
-      let used = record-says s (page-bytes img 1 bytes) (page-long img 1 (inside 1 (omega (arith, c .few)))) (first .stands) .used in
-      (record-fits img 1 root (node-is p) (omega (arith, page-two img 1 (capacity + 2) (omega arith))) true (λ _ e. omega (arith, c .top)), fits p, tt)
+      (record-fits img 1 root (node-is p) (omega (arith, first .used, page-two img 1 (capacity + 2) (omega arith))) true (λ _ e. omega (arith, c .top)), fits p, tt)
 
   is-valid : Valid (st img) root
   is-valid = record {
@@ -175,7 +175,7 @@ module _ (img : List ℕ) (bytes : AllBytes img) (c : Checked img) (root : Row) 
     same =
         let n = settings .pages in
         image-is img (st img) root (omega (arith, c .few)) (omega (arith, c .whole)) (settings .same)
-        (on-one, stored img bytes kept p, tt) (λ q a b. free q a (omega arith));
+        (on-one, stored img bytes (c .before .trailers) p, tt) (λ q a b. free q a (omega arith));
   }
 
 -- What it reads as: the walk's row, with the settings of page 0.

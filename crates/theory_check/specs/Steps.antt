@@ -14,7 +14,7 @@ use Rattle.model.specs.Limits.{mostPages, pageSize, capacity, mostLevels, mostO
 use Rattle.model.specs.Reading.{sizeAt, usedAt, stateAt, settledAt, headAt, nameAt, backAt, kindAt}
 use Rattle.theory_decoding.specs.Valid.{both as and-both}
 use Rattle.theory_check.specs.Rec.{under, unfold', keeps}
-use Rattle.theory_check.specs.Tests.{wholeSize, passingKind, namesOf, rootFits, isMarked, shapeOf}
+use Rattle.theory_check.specs.Tests.{wholeSize, passingKind, namesOf, rootFits, tailZero, isMarked, shapeOf}
 use Rattle.theory_check.specs.Walk.{State, withMark, entersOf, Decoded, Job, node, list, measure, stop, none, recordOf, asAgg, asRec, step, proxyStep}
 use Rattle.theory_check.specs.Walk.{nodeStep, moreStep, listStep, decode, nodeOf, listOf, proxyOf, before}
 use Rattle.theory_check.specs.Facts.{both, arms, not-else}
@@ -30,11 +30,13 @@ pub record Entered (img : List ℕ) (p page : ℕ) (w : State) : Type 0 where
   pub root : rootFits img p ≡ true
   pub room : 2 ≤ w .left
   pub fresh : isMarked (w .marks) p ≡ false
+  pub tail : tailZero img p ≡ true
 
 pub entered : (img : List ℕ) (p page : ℕ) (w : State) → entersOf img p page w ≡ true → Entered img p page w
 unfolding entersOf namesOf
 entered img p page w e =
-    let fresh = and-both _ _ e in
+    let tail = and-both _ _ e in
+    let fresh = and-both _ _ (tail .0) in
     let room = and-both _ _ (fresh .0) in
     let root = and-both _ _ (room .0) in
     let holder = and-both _ _ (root .0) in
@@ -52,6 +54,7 @@ entered img p page w e =
       root = root .1;
       room = leb-true _ _ (room .1);
       fresh = not-true _ (fresh .1);
+      tail = tail .1;
     }
 
 -- A node of this kind that passes every test of `passingKind`.

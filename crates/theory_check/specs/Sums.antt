@@ -1,5 +1,5 @@
 -- Sums over k pages from p on.
-use mathlib.Core.Path.{_≡_, refl}
+use mathlib.Core.Path.{_≡_, refl, ap₂}
 use mathlib.Core.Bool.{Bool, true, false, cond}
 use Prim.Native.Nat.{ℕ, zero, suc, _+_, _≤_, _<_}
 use native.Mathlib.Omega.{arith}
@@ -13,6 +13,10 @@ sum f (suc k) p = f p + sum f k (suc p)
 pub sum-add : (f g : ℕ → ℕ) (k p : ℕ) → sum (λ q. f q + g q) k p ≡ sum f k p + sum g k p
 sum-add f g zero p = refl
 sum-add f g (suc k) p = omega (arith, sum-add f g k (suc p))
+
+pub sum-same : (f g : ℕ → ℕ) (k p : ℕ) → ((q : ℕ) → p ≤ q → q < p + k → f q ≡ g q) → sum f k p ≡ sum g k p
+sum-same f g zero p h = refl
+sum-same f g (suc k) p h = ap₂ _+_ (h p (omega arith) (omega arith)) (sum-same f g k (suc p) (λ q l u. h q (omega arith) (omega arith)))
 
 -- 1 for one page
 abbrev pub only : ℕ → ℕ → ℕ

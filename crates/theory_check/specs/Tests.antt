@@ -5,9 +5,10 @@ use Prim.Native.Nat.{ℕ, _+_, _-_, _*_, _/_, _%_, _^_}
 use lib.ListN.{length, take, drop, getD, set}
 use lib.Bits.{bitOr}
 use lib.Dec.{ltb, leb, eqb}
-use Rattle.model.specs.Limits.{mostPages, pageSize, capacity, mostNode, mostOrigin, settingsSize}
-use Rattle.model.specs.Row.{mayStand, every, inRange}
-use Rattle.model.specs.Reading.{twoAt, kindAt, headAt, sizeAt, stateAt, settledAt, usedAt, backAt, configOn}
+use Rattle.model.specs.Limits.{mostPages, pageSize, capacity, mostNode, mostOrigin}
+use Rattle.model.specs.Row.{mayStand}
+use Rattle.model.specs.Reading.{kindAt, headAt, sizeAt, stateAt, settledAt, usedAt, backAt}
+use Rattle.model.specs.BeforeWalk.{allZero, trailerOf, isFree, pageFits}
 
 -- ── nodes ──
 
@@ -58,27 +59,12 @@ namesOf img p page =
 unfoldable pub rootFits : List ℕ → (p : ℕ) → Bool
 rootFits img p = cond (eqb (settledAt img (pageSize * p)) 1) (not (eqb (kindAt img (pageSize * p)) 4)) true
 
-unfoldable pub allZero : List ℕ → Bool
-allZero s = every (λ x. eqb x 0) s
+-- The bytes past the length used, up to the trailer, are zero.
+unfoldable pub tailZero : List ℕ → (p : ℕ) → Bool
+tailZero img p =
+    let used = usedAt img (pageSize * p) in
+    allZero (take (capacity - used) (drop (pageSize * p + used) img))
 
--- A record's page by its trailer and its tail.
-abbrev pub recordState : (page : List ℕ) → Bool
-recordState s =
-    let n = usedAt s 0 in
-    let trailer = eqb (stateAt s 0) 1 && leb (settledAt s 0) 1 && leb n capacity in
-    trailer && allZero (take (capacity - n) (drop n s)) && allZero (take 10 (drop (capacity + 6) s))
-
--- What a page is: 0 against the rules, 1 free, 2 a record's.
-unfoldable pub stateOf : (page : List ℕ) → ℕ
-stateOf s = cond (eqb (stateAt s 0) 0) (cond (allZero s) 1 0) (cond (recordState s) 2 0)
-
--- Page 0, for an image of so many pages.
-unfoldable pub settingsOk : (page : List ℕ) → (pages : ℕ) → Bool
-settingsOk s pages =
-    let numbers = eqb (twoAt s 0) pages && inRange (configOn s) && eqb (getD s 3 0) 0 && allZero (take 8 (drop 8 s)) in
-    let trailer = eqb (twoAt s capacity) 2 && eqb (usedAt s 0) settingsSize && allZero (take 12 (drop (capacity + 4) s)) in
-    numbers && allZero (take (capacity - settingsSize) (drop settingsSize s)) && trailer
-
--- Page 1: a settled record with no holder.
-unfoldable pub firstOk : (page : List ℕ) → Bool
-firstOk s = eqb (stateOf s) 2 && eqb (settledAt s 0) 1 && eqb (backAt s 0) 0
+-- What page p is by itself, in an image of so many pages: 0 against the rules, 1 free, 2 a record's.
+unfoldable pub stateOf : (pages p : ℕ) → (page : List ℕ) → ℕ
+stateOf pages p s = cond (pageFits pages p s) (cond (isFree (trailerOf s)) 1 2) 0

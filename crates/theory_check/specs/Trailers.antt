@@ -4,19 +4,18 @@ use mathlib.Core.List.{List, [], _∷_, _++_, append-assoc}
 use mathlib.Core.Bool.{Bool, true, false, cond}
 use Prim.Native.Nat.{ℕ, zero, suc, _+_, _-_, _≤_}
 use native.Mathlib.Omega.{arith}
-use lib.ListN.{length, take, drop, getD, replicate, length-drop, take-append-drop, drop-of-length-le, getD-replicate}
-use lib.Seq.{length-take-le, take-add, drop-drop, drop-cons}
-use lib.Dec.{eqb}
+use lib.ListN.{length, take, drop, getD, replicate, length-drop, take-append-drop, drop-of-length-le}
+use lib.Seq.{length-take-le, take-add, drop-drop, drop-cons, getD-drop}
+use lib.Dec.{eqb, leb}
 use borrow.Author.Tests.{eqb-true, eqb-false, leb-true}
 use Rattle.model.specs.Limits.{pageSize, capacity, settingsSize, matrixEntries}
 use Rattle.model.specs.Row.{Row, two, trailer, recordBytes, recordSize, recordPage, settingsPage, recordOn}
 use Rattle.model.specs.Reading.{twoAt, configOn, usedAt, backAt, stateAt, settledAt}
+use Rattle.model.specs.BeforeWalk.{allZero, settingsOk, trailerOf, isFree, settledFits, backFits, recordTrailer, trailerFits}
 use Rattle.theory_rows.specs.Fits.{Ranges}
-use Rattle.theory_rows.specs.Laws.{cond-case}
 use Rattle.theory_rows.specs.Image.{length-record}
 use Rattle.theory_decoding.specs.Valid.{both as and-both, ranges-say}
-use Rattle.theory_check.specs.Facts.{both, not-then, not-else}
-use Rattle.theory_check.specs.Tests.{allZero, stateOf, settingsOk, recordState}
+use Rattle.theory_check.specs.Facts.{both}
 use Rattle.theory_check.specs.Heads.{AllBytes, two-at}
 
 -- ── parts of a page ──
@@ -46,99 +45,85 @@ module _ (s : List ℕ) where
       ∙ ap₂ _++_ (zeros (take n (drop i s)) z n (length-take-le n (drop i s) (omega (arith, length-drop i s)))) (drop-drop n i s)
 
   module _ (bytes : AllBytes s) (long : length s ≡ pageSize) where
-    trailer-is : allZero (take 10 (drop (capacity + 6) s)) ≡ true → drop capacity s ≡ trailer (stateAt s 0) (settledAt s 0) (usedAt s 0) (backAt s 0)
+    trailer-is : allZero (drop (capacity + 6) s) ≡ true → drop capacity s ≡ trailer (stateAt s 0) (settledAt s 0) (usedAt s 0) (backAt s 0)
     trailer-is z =
-        let last = next-zeros (capacity + 6) 10 (omega arith) z
-        ∙ ap (λ (x : List ℕ). replicate 10 0 ++ x) (drop-of-length-le s {i = pageSize} (omega arith)) in
+        let last = zeros (drop (capacity + 6) s) z 10 (omega (arith, length-drop (capacity + 6) s)) in
         let used = next-two (capacity + 2) bytes (omega arith) in
         let back = next-two (capacity + 4) bytes (omega arith) ∙ ap (λ (x : List ℕ). two (backAt s 0) ++ x) last in
         drop-cons s capacity 0 (omega arith) ∙ ap (λ (x : List ℕ). stateAt s 0 ∷ x)
         (drop-cons s (capacity + 1) 0 (omega arith) ∙ ap (λ (x : List ℕ). settledAt s 0 ∷ x) (used ∙ ap (λ (x : List ℕ). two (usedAt s 0) ++ x) back))
 
+-- ── trailers ──
+
+-- the trailer's bytes in the page
+pub trailer-two : (s : List ℕ) (i : ℕ) → twoAt (trailerOf s) i ≡ twoAt s (capacity + i)
+unfolding twoAt
+trailer-two s i =
+    let next : capacity + (i + 1) ≡ capacity + i + 1 = omega arith in
+    rw (getD-drop capacity s i 0, getD-drop capacity s (i + 1) 0, next)
+
+-- What the trailer of a page in use says: page p of an image of so many pages.
+pub record TrailerIs (pages p : ℕ) (s : List ℕ) : Type 0 where
+  pub kind : stateAt s 0 ≡ 1
+  pub settled : settledFits p (settledAt s 0) ≡ true
+  pub used : usedAt s 0 ≤ capacity
+  pub back : backFits pages p (backAt s 0) ≡ true
+  pub last : allZero (drop (capacity + 6) s) ≡ true
+
+pub trailer-says : (pages p : ℕ) (s : List ℕ) → trailerFits pages p (trailerOf s) ≡ true → isFree (trailerOf s) ≡ false → TrailerIs pages p s
+unfolding trailerFits recordTrailer
+trailer-says pages p s e f =
+    let t : recordTrailer pages p (trailerOf s) ≡ true = rw f at e in
+    let last = and-both _ _ t in
+    let back = and-both _ _ (last .0) in
+    let used = and-both _ _ (back .0) in
+    let settled = and-both _ _ (used .0) in
+    record {
+      kind = sym (getD-drop capacity s 0 0) ∙ eqb-true _ _ (settled .0);
+      settled = ap (settledFits p) (sym (getD-drop capacity s 1 0)) ∙ settled .1;
+      used = rw (← trailer-two s 2) (leb-true _ _ (and-both (leb 6 (twoAt (trailerOf s) 2)) _ (used .1) .1));
+      back = ap (backFits pages p) (sym (trailer-two s 4)) ∙ back .1;
+      last = ap allZero (sym (drop-drop 6 capacity s)) ∙ last .1;
+    }
+
 -- ── record pages ──
 
--- What the tests of a record's page say.
-pub record Recorded (s : List ℕ) : Type 0 where
-  pub kind : stateAt s 0 ≡ 1
-  pub settled : settledAt s 0 ≤ 1
-  pub used : usedAt s 0 ≤ capacity
-  pub tail : allZero (take (capacity - usedAt s 0) (drop (usedAt s 0) s)) ≡ true
-  pub last : allZero (take 10 (drop (capacity + 6) s)) ≡ true
-
-pub recorded : (s : List ℕ) → stateOf s ≡ 2 → Recorded s
-unfolding stateOf
-recorded s e =
-    let free = both (λ (n : ℕ). n ≡ 2 → ⊥) (allZero s) {x = 1} {y = 0} (λ z. omega arith) (λ z. omega arith) in
-    let some = not-then (eqb (stateAt s 0) 0) free e in
-    let never : _≡_ {A = ℕ} 0 2 → ⊥ = omega arith in
-    let last = and-both _ _ (not-else (recordState s) never (some .1) .0) in
-    let tail = and-both _ _ (last .0) in
-    let used = and-both _ _ (tail .0) in
-    let settled = and-both _ _ (used .0) in
-    record { kind = eqb-true _ _ (settled .0); settled = leb-true _ _ (settled .1); used = leb-true _ _ (used .1); tail = tail .1; last = last .1 }
-
 -- A page with a record: the bytes used, zeros, the trailer.
-pub record PageIs (s : List ℕ) : Type 0 where
-  pub settled : settledAt s 0 ≤ 1
-  pub used : usedAt s 0 ≤ capacity
-  pub same : s ≡ take (usedAt s 0) s ++ replicate (capacity - usedAt s 0) 0 ++ trailer 1 (settledAt s 0) (usedAt s 0) (backAt s 0)
-
-pub record-says : (s : List ℕ) → AllBytes s → length s ≡ pageSize → stateOf s ≡ 2 → PageIs s
-record-says s bytes long e =
+pub page-is : (pages p : ℕ) (s : List ℕ) → AllBytes s → length s ≡ pageSize → TrailerIs pages p s
+    → allZero (take (capacity - usedAt s 0) (drop (usedAt s 0) s)) ≡ true
+    → s ≡ take (usedAt s 0) s ++ replicate (capacity - usedAt s 0) 0 ++ trailer 1 (settledAt s 0) (usedAt s 0) (backAt s 0)
+page-is pages p s bytes long r tail =
     let u = usedAt s 0 in
-    let r = recorded s e in
     let few = r .used in
     let whole : capacity ≡ u + (capacity - u) = omega arith in
     let front : take capacity s ≡ take u s ++ replicate (capacity - u) 0 =
     ap (λ (n : ℕ). take n s) whole ∙ take-add u (capacity - u) s
     ∙ ap (λ (x : List ℕ). take u s ++ x)
-    (zeros (take (capacity - u) (drop u s)) (r .tail) (capacity - u) (length-take-le (capacity - u) (drop u s) (omega (arith, length-drop u s)))) in
-    record {
-      settled = r .settled;
-      used = few;
-      same = sym (take-append-drop capacity s)
-          ∙ ap₂ _++_ front (trailer-is s bytes long (r .last) ∙ ap (λ (k : ℕ). trailer k (settledAt s 0) u (backAt s 0)) (r .kind));
-    }
+    (zeros (take (capacity - u) (drop u s)) tail (capacity - u) (length-take-le (capacity - u) (drop u s) (omega (arith, length-drop u s)))) in
+    sym (take-append-drop capacity s)
+    ∙ ap₂ _++_ front (trailer-is s bytes long (r .last) ∙ ap (λ (k : ℕ). trailer k (settledAt s 0) u (backAt s 0)) (r .kind))
 
 one-or-none : (n : ℕ) → n ≤ 1 → n ≡ cond (eqb n 1) 1 0
 one-or-none zero h = refl
 one-or-none (suc zero) h = refl
 one-or-none (suc (suc n)) h = absurd (omega arith)
 
+settled-low : (p n : ℕ) → settledFits p n ≡ true → n ≤ 1
+settled-low p n =
+    both (λ (b : Bool). b ≡ true → n ≤ 1) (eqb p 1) (λ e. omega (arith, eqb-true n 1 e)) (leb-true n 1)
+
 -- So it is the page of the record whose bytes stand there.
-pub record-page : (s : List ℕ) → length s ≡ pageSize → PageIs s → (r : Row) → take (usedAt s 0) s ≡ recordBytes r
-    → (p : ℕ) → s ≡ recordPage (recordOn p (eqb (settledAt s 0) 1) (backAt s 0) r)
-record-page s long k r e p =
+pub record-page : (pages p : ℕ) (s : List ℕ) → AllBytes s → length s ≡ pageSize → TrailerIs pages p s
+    → allZero (take (capacity - usedAt s 0) (drop (usedAt s 0) s)) ≡ true → (r : Row) → take (usedAt s 0) s ≡ recordBytes r
+    → s ≡ recordPage (recordOn p (eqb (settledAt s 0) 1) (backAt s 0) r)
+record-page pages p s bytes long k tail r e =
     let n : usedAt s 0 ≡ recordSize r = sym (length-take-le (usedAt s 0) s (omega (arith, k .used))) ∙ ap length e ∙ length-record r in
-    let b = one-or-none (settledAt s 0) (k .settled) in
-    k .same ∙ λ i. e i ++ replicate (capacity - n i) 0 ++ trailer 1 (b i) (n i) (backAt s 0)
+    let b = one-or-none (settledAt s 0) (settled-low p (settledAt s 0) (k .settled)) in
+    page-is pages p s bytes long k tail ∙ λ i. e i ++ replicate (capacity - n i) 0 ++ trailer 1 (b i) (n i) (backAt s 0)
 
--- A page that keeps the rules and has no record is free: all zero.
-pub free-says : (s : List ℕ) → length s ≡ pageSize → (stateOf s ≡ 0 → ⊥) → (stateOf s ≡ 2 → ⊥) → s ≡ replicate pageSize 0
-unfolding stateOf
-free-says s long z t = zeros s (found z t) pageSize long
-  where
-    Free : ℕ → Type 0
-    Free n = (n ≡ 0 → ⊥) → (n ≡ 2 → ⊥) → allZero s ≡ true
-
-    bad : Free 0
-    bad z t = absurd (z refl)
-
-    found : Free (stateOf s)
-    found =
-        both Free (eqb (stateAt s 0) 0) (cond-case Free (allZero s) (λ e _ _. e) (λ _. bad))
-        (both Free (recordState s) (λ _ t. absurd (t refl)) bad)
-
--- A page that keeps the rules and whose trailer says so has a record.
-pub state-two : (s : List ℕ) → length s ≡ pageSize → stateAt s 0 ≡ 1 → (stateOf s ≡ 0 → ⊥) → stateOf s ≡ 2
-state-two s long k z = go (eqb (stateOf s) 2) refl
-  where
-    go : (b : Bool) → eqb (stateOf s) 2 ≡ b → stateOf s ≡ 2
-    go true e = eqb-true (stateOf s) 2 e
-    go false e =
-        let same = free-says s long z (eqb-false (stateOf s) 2 e) in
-        let none : stateAt s 0 ≡ 0 = ap (λ (s : List ℕ). stateAt s 0) same ∙ getD-replicate {A = ℕ} pageSize capacity 0 0 (omega arith) in
-        absurd (omega arith)
+-- A page that is all zero is blank.
+pub zero-page : (s : List ℕ) → length s ≡ pageSize → allZero s ≡ true → s ≡ replicate pageSize 0
+zero-page s long z = zeros s z pageSize long
 
 -- ── the settings page ──
 

@@ -8,7 +8,7 @@ use Rattle.model.specs.Limits.{pageSize, mostLevels}
 use Rattle.model.specs.Row.{Head, Row, nil, agg, lit, rec, _⊹_}
 use Rattle.model.specs.Reading.{headAt, nameAt, usedAt, settledAt}
 use Rattle.theory_check.specs.Rec.{run}
-use Rattle.theory_check.specs.Tests.{wholeSize, passingKind, isMarked, marked, namesOf, rootFits}
+use Rattle.theory_check.specs.Tests.{wholeSize, passingKind, isMarked, marked, namesOf, rootFits, tailZero}
 
 -- The state of the walk: 0 where it is refused, else one more than the record pages still to be reached; and a mark for each page.
 pub record State : Type 0 where
@@ -26,7 +26,7 @@ withMark w p = state (w .left - 1) (marked (w .marks) p)
 
 -- The walk can go on in page p, whose proxy stands in the record of `page`.
 unfoldable pub entersOf : List ℕ → (p page : ℕ) → State → Bool
-entersOf img p page w = namesOf img p page && rootFits img p && leb 2 (w .left) && not (isMarked (w .marks) p)
+entersOf img p page w = namesOf img p page && rootFits img p && leb 2 (w .left) && not (isMarked (w .marks) p) && tailZero img p
 
 pub record Decoded : Type 0 where
   pub row : Row

@@ -1,11 +1,12 @@
 use mathlib.Core.Path.{sym, _∙_}
 use native.Mathlib.Omega.{arith}
+use lib.ListN.{length}
 use denote.Ref.{now}
 use borrow.Author.Needs.{needs}
-use borrow.Author.Tests.{eq-eqb, ne-eqb}
 use Rattle.theory_check.specs.Check.{checkBy}
-use Rattle.theory_check.specs.Bounds.{trailers-most}
+use Rattle.theory_check.specs.Before.{trailers-most, trailers-none, trailers-pass}
 use Rattle.theory_check.specs.Facts.{passes, fails}
+use Rattle.base_ranges.specs.Long.{length-says}
 use Rattle.read_check.proofs.check_widths.Statement.{statement}
 use Rattle.read_check.proofs.check_widths.Tie as tie
 
@@ -23,23 +24,28 @@ returns-2 : tie.Need-returns-2
 unfolding checkBy
 returns-2 c =
     let k = c .before .before in
-    (simp (passes (k .before .length-ok .ensures) (k .if1 .left), ← c .before .trailers .ensures, eq-eqb _ _ (c .if2 .taken)), λ e. absurd (omega arith))
+    let img = now (k .before .before .before .args .image) in
+    let long = passes (k .before .length-ok .ensures) (k .if1 .left) in
+    let none = trailers-none img (length-says (length img) long .few) (sym (c .before .trailers .ensures) ∙ c .if2 .taken) in
+    (simp (long, none), λ e. absurd (omega arith))
 
 walk-ok-requires : tie.Need-walk-ok-requires
 walk-ok-requires c κs =
     let j = c .before in
     let k = j .before .before in
+    let img = now (k .before .before .before .args .image) in
     let long = passes (k .before .length-ok .ensures) (k .if1 .left) in
     let n = j .before .trailers .ensures in
-    (long, λ q. j .if2 .left (n ∙ q), omega (arith, n, trailers-most (now (k .before .before .before .args .image)) long))
+    (long, trailers-pass img (λ q. j .if2 .left (n ∙ q)), omega (arith, n, trailers-most img, length-says (length img) long))
 
 returns-3 : tie.Need-returns-3
 unfolding checkBy
 returns-3 c =
     let j = c .before .before .before in
     let k = j .before .before in
-    let n = j .before .trailers .ensures in (
-      simp (passes (k .before .length-ok .ensures) (k .if1 .left), ← n, ne-eqb _ _ (j .if2 .left), ← c .before .walk-ok .ensures .0, c .if3 .taken),
+    let n = j .before .trailers .ensures in
+    let pass = trailers-pass (now (k .before .before .before .args .image)) (λ q. j .if2 .left (n ∙ q)) in (
+      simp (passes (k .before .length-ok .ensures) (k .if1 .left), pass, ← n, ← c .before .walk-ok .ensures .0, c .if3 .taken),
       λ e. rw (sym n) (c .before .walk-ok .ensures .1 (c .if3 .taken)),
     )
 
@@ -48,8 +54,9 @@ unfolding checkBy
 returns-4 c =
     let j = c .before .before .before in
     let k = j .before .before in
-    let n = j .before .trailers .ensures in (
-      simp (passes (k .before .length-ok .ensures) (k .if1 .left), ← n, ne-eqb _ _ (j .if2 .left), ← c .before .walk-ok .ensures .0, c .if3 .left),
+    let n = j .before .trailers .ensures in
+    let pass = trailers-pass (now (k .before .before .before .args .image)) (λ q. j .if2 .left (n ∙ q)) in (
+      simp (passes (k .before .length-ok .ensures) (k .if1 .left), pass, ← n, ← c .before .walk-ok .ensures .0, c .if3 .left),
       λ e. absurd (omega arith),
     )
 

@@ -1,4 +1,4 @@
-use mathlib.Core.Bool.{false≢true}
+use mathlib.Core.Bool.{and-false, false≢true}
 use Prim.Native.Nat.{_+_, _-_}
 use native.Mathlib.Omega.{arith}
 use lib.ListN.{length}
@@ -7,6 +7,7 @@ use borrow.Author.Needs.{needs}
 use borrow.Author.Tests.{ne-eqb}
 use Rattle.model.specs.Limits.{pageSize}
 use Rattle.theory_check.specs.Check.{walkOk}
+use Rattle.theory_check.specs.Facts.{passes, fails}
 use Rattle.theory_check.specs.Steps.{length-part}
 use Rattle.base_ranges.specs.Long.{length-says}
 use Rattle.read_check.proofs.Checks.{first-used, walked, walked-table}
@@ -20,8 +21,19 @@ returns : tie.Need-returns
 unfolding walkOk
 returns c = (simp (ne-eqb _ _ (c .if1 .taken)), λ e. absurd (false≢true e))
 
+tail-zero-requires : tie.Need-tail-zero-requires
+tail-zero-requires c κs =
+    let s = c .before .before .before in
+    let img = now (s .args .image) in
+    let l = length-says (length img) (s .pre .0) in
+    (omega arith, omega (arith, l .few, l .whole), first-used img (l .few) (s .pre .1))
+
+returns-2 : tie.Need-returns-2
+unfolding walkOk
+returns-2 c = (simp (fails (c .before .tail-zero .ensures) (c .if2 .taken), and-false), λ e. absurd (false≢true e))
+
 used-at-requires : tie.Need-used-at-requires
-used-at-requires c κs = let s = c .before .before .before in omega (arith, length-says (length (now (s .args .image))) (s .pre .0))
+used-at-requires c κs = let s = c .before .before .before .before .before in omega (arith, length-says (length (now (s .args .image))) (s .pre .0))
 
 add-e : tie.Need-add-e
 add-e c = search needs
@@ -34,23 +46,27 @@ part-node-check-start c = search needs
 
 part-node-check-end : tie.Need-part-node-check-end
 part-node-check-end c =
-    let s = c .before .before .before .before in
+    let s = c .before .before .before .before .before .before in
     let img = now (s .args .image) in
-    omega (arith, length-says (length img) (s .pre .0), first-used img (s .pre .1), c .used-at .ensures .0)
+    let l = length-says (length img) (s .pre .0) in
+    omega (arith, l, first-used img (l .few) (s .pre .1), c .used-at .ensures .0)
 
 node-check-requires : tie.Need-node-check-requires
 node-check-requires c κs =
-    let s = c .before .before .before .before .before .before .before in
+    let s = c .before .before .before .before .before .before .before .before .before in
     let n = c .before .before .before .used-at in
     (omega arith, omega arith, s .pre .2, omega (arith, n .ensures .1, length-part (now (s .args .image)) pageSize (pageSize + n .result - pageSize)))
 
-returns-2 : tie.Need-returns-2
-returns-2 c =
+returns-3 : tie.Need-returns-3
+returns-3 c =
     let h = c .before .node-check .ensures .0 in
-    let u = c .before .before .before .before .before .used-at .ensures .0 in
-    (walked _ _ _ u _ _ _ _ h (c .before .before .before .before .before .before .if1 .left), λ e. walked-table _ _ _ u _ _ _ _ h)
+    let p3 = c .before .before .before .before .before in
+    let p2 = p3 .before in
+    let u = p3 .used-at .ensures .0 in
+    (walked _ _ _ u _ _ _ _ h (p2 .before .before .if1 .left) (passes (p2 .before .tail-zero .ensures) (p2 .if2 .left)), λ e. walked-table _ _ _ u _ _ _ _ h)
 
 pub walk-ok-spec : {M : Type 1} → statement M
 walk-ok-spec =
     tie.close
-    (tie.spec shared-slice-read-if1 returns used-at-requires add-e sub-node-check part-node-check-start part-node-check-end node-check-requires returns-2)
+    (tie.spec shared-slice-read-if1 returns tail-zero-requires returns-2 used-at-requires add-e sub-node-check part-node-check-start part-node-check-end
+    node-check-requires returns-3)

@@ -6,7 +6,8 @@ use borrow.Author.Tests.{le-leb, lt-leb, leb-true, ltb-true}
 use borrow.Author.Needs.{needs}
 use lib.ListN.{length}
 use lib.Dec.{leb}
-use Rattle.model.specs.Limits.{mostPages, pageSize}
+use Rattle.model.specs.Limits.{mostPages, pageSize, capacity}
+use Rattle.model.specs.Reading.{usedAt}
 use Rattle.theory_decoding.specs.Valid.{both as and-both}
 use Rattle.theory_check.specs.Tests.{namesOf}
 use Rattle.theory_check.specs.Walk.{entersOf}
@@ -15,7 +16,8 @@ use Rattle.read_marks.proofs.enters.Statement.{statement}
 use Rattle.read_marks.proofs.enters.Tie as tie
 
 -- what a page that is named shows of itself
-named : (img : List ℕ) (p page : ℕ) → namesOf img p page ≡ true → (p < mostPages) × (pageSize * p + pageSize ≤ length img)
+named : (img : List ℕ) (p page : ℕ) → namesOf img p page ≡ true
+    → (p < mostPages) × (pageSize * p + pageSize ≤ length img) × (usedAt img (pageSize * p) ≤ capacity)
 unfolding namesOf
 named img p page e =
     let holder = and-both _ _ e in
@@ -23,7 +25,7 @@ named img p page e =
     let kind = and-both _ _ (used .0) in
     let inside = and-both _ _ (kind .0) in
     let low = and-both (leb 2 p) _ (inside .0) in
-    (ltb-true _ _ (low .1), leb-true _ _ (inside .1))
+    (ltb-true _ _ (low .1), leb-true _ _ (inside .1), leb-true _ _ (used .1))
 
 names-requires : tie.Need-names-requires
 names-requires c κs = search needs
@@ -33,7 +35,7 @@ unfolding entersOf
 returns c = simp (fails (c .before .names .ensures) (c .if1 .taken))
 
 root-fits-requires : tie.Need-root-fits-requires
-root-fits-requires c κs = named _ _ _ (passes (c .before .names .ensures) (c .if1 .left))
+root-fits-requires c κs = let n = named _ _ _ (passes (c .before .names .ensures) (c .if1 .left)) in (n .0, n .1)
 
 returns-2 : tie.Need-returns-2
 unfolding entersOf
@@ -48,14 +50,29 @@ is-marked-requires c κs = named _ _ _ (passes (c .before .before .before .befor
 
 returns-4 : tie.Need-returns-4
 unfolding entersOf
-returns-4 c =
-    let p3 = c .before in
+returns-4 c = simp (← c .before .is-marked .ensures, c .if4 .taken, and-false)
+
+tail-zero-requires : tie.Need-tail-zero-requires
+tail-zero-requires c κs =
+    let p1 = c .before .before .before .before .before in
+    named _ _ _ (passes (p1 .before .names .ensures) (p1 .if1 .left))
+
+returns-5 : tie.Need-returns-5
+unfolding entersOf
+returns-5 c =
+    let p4 = c .before in
+    let p3 = p4 .before .before in
     let p2 = p3 .before in
     let p1 = p2 .before .before in
-    let named = passes (p1 .before .names .ensures) (p1 .if1 .left) in
-    simp (← c .is-marked .ensures, named, passes (p2 .before .root-fits .ensures) (p2 .if2 .left), le-leb _ _ (p3 .if3 .left))
+    rw (
+      passes (p1 .before .names .ensures) (p1 .if1 .left),
+      passes (p2 .before .root-fits .ensures) (p2 .if2 .left),
+      le-leb _ _ (p3 .if3 .left),
+      ← p4 .before .is-marked .ensures,
+      p4 .if4 .left,
+    ) (c .tail-zero .ensures)
 
 pub enters-spec : {M : Type 1} → statement M
 enters-spec =
     tie.close
-    (tie.spec names-requires returns root-fits-requires returns-2 returns-3 is-marked-requires returns-4)
+    (tie.spec names-requires returns root-fits-requires returns-2 returns-3 is-marked-requires returns-4 tail-zero-requires returns-5)

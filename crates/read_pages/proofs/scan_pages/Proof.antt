@@ -13,7 +13,7 @@ use Rattle.read_pages.proofs.scan_pages.Tie as tie
 
 abbrev Inv-loop : tie.InvT-loop
 Inv-loop image pages n₀ p₀ n p =
-    (p ≤ pages) × (n ≤ p) × (scanFrom image (pages - 2) 2 0 ≡ scanFrom image (pages - p) p n)
+    (p ≤ pages) × (n ≤ p) × (scanFrom image pages (pages - 1) 1 0 ≡ scanFrom image pages (pages - p) p n)
 
 abbrev μ-loop : tie.MeasureT-loop
 μ-loop image pages n₀ p₀ n p = pages - p
@@ -66,15 +66,12 @@ loop-again c =
     let l = c .before .before .before .before .before .loop in
     let k = c .before .before .page-state in
     let h = c .before .before .before .before .loop-test .taken in
-    let on = scanFrom (now (a .image)) (a .pages - (l .p + 1)) (l .p + 1) in
+    let on = scanFrom (now (a .image)) (a .pages) (a .pages - (l .p + 1)) (l .p + 1) in
     let z = c .before .if1 .left in
     ⊎-elim
     (λ w. (omega arith, omega arith, l .inv .2 ∙ scan-record (now (a .image)) (a .pages) (l .p) (l .n) _ (k .ensures) h z (w .0 .taken) ∙ ap on (sym (w .1))))
     (λ w. (omega arith, omega arith, l .inv .2 ∙ scan-free (now (a .image)) (a .pages) (l .p) (l .n) _ (k .ensures) h z (w .0 .left) ∙ ap on (sym (w .1))))
     (c .if2 .came)
-
-add-result : tie.Need-add-result Inv-loop μ-loop
-add-result c = search needs
 
 returns-2 : tie.Need-returns-2 Inv-loop μ-loop
 returns-2 c =
@@ -86,4 +83,4 @@ pub scan-pages-spec : {M : Type 1} → statement M
 scan-pages-spec =
     tie.close
     (tie.spec Inv-loop μ-loop loop-holds mul-a add-e sub-page-state part-page-state-start part-page-state-end page-state-requires returns add-n add-p
-    loop-less loop-again add-result returns-2)
+    loop-less loop-again returns-2)

@@ -4,7 +4,7 @@ use borrow.Author.Needs.{needs}
 use borrow.Author.Tests.{eq-eqb, ne-eqb}
 use Rattle.model.specs.declared.Settings.{Settings}
 use Rattle.theory_check.specs.Facts.{passes, fails}
-use Rattle.theory_check.specs.Tests.{settingsOk}
+use Rattle.model.specs.BeforeWalk.{settingsOk}
 use Rattle.read_pages.proofs.settings_ok.Statement.{statement}
 use Rattle.read_pages.proofs.settings_ok.Tie as tie
 

@@ -1,9 +1,8 @@
-use mathlib.Core.Bool.{and-false}
 use native.Mathlib.Omega.{arith}
 use lib.ListN.{length}
 use denote.Ref.{now}
 use borrow.Author.Needs.{needs}
-use Rattle.theory_check.specs.Check.{trailersOf}
+use Rattle.theory_check.specs.Before.{trailers-scan}
 use Rattle.theory_check.specs.Facts.{passes, fails}
 use Rattle.base_ranges.specs.Long.{length-says}
 use Rattle.read_pages.proofs.trailers.Statement.{statement}
@@ -22,41 +21,20 @@ settings-ok-requires : tie.Need-settings-ok-requires
 settings-ok-requires c κs = search needs
 
 returns : tie.Need-returns
-unfolding trailersOf
-returns c = simp (fails (c .before .settings-ok .ensures) (c .if1 .taken))
-
-sub-first-ok : tie.Need-sub-first-ok
-sub-first-ok c = search needs
-
-part-first-ok-start : tie.Need-part-first-ok-start
-part-first-ok-start c = search needs
-
-part-first-ok-end : tie.Need-part-first-ok-end
-part-first-ok-end c = let s = c .before .before .before .before in omega (arith, length-says (length (now (s .args .image))) (s .pre))
-
-first-ok-requires : tie.Need-first-ok-requires
-first-ok-requires c κs = search needs
-
-returns-2 : tie.Need-returns-2
-unfolding trailersOf
-returns-2 c =
-    simp (fails (c .before .first-ok .ensures) (c .if2 .taken), and-false)
+returns c = rw (trailers-scan (now (c .before .before .before .before .args .image))) (simp (fails (c .before .settings-ok .ensures) (c .if1 .taken)))
 
 scan-pages-requires : tie.Need-scan-pages-requires
 scan-pages-requires c κs =
-    let s = c .before .before .before .before .before .before .before in
+    let s = c .before .before .before .before in
     let l = length-says (length (now (s .args .image))) (s .pre) in
-    (omega (arith, l .whole), l .few, l .many)
+    (omega (arith, l .whole), omega (arith, l .few), l .many)
 
-returns-3 : tie.Need-returns-3
-unfolding trailersOf
-returns-3 c =
-    let j = c .before in
-    let k = j .before .before .before in
-    rw (passes (k .before .settings-ok .ensures) (k .if1 .left), passes (j .before .first-ok .ensures) (j .if2 .left)) (c .scan-pages .ensures)
+returns-2 : tie.Need-returns-2
+returns-2 c =
+    let k = c .before in
+    rw (trailers-scan (now (k .before .before .before .before .args .image)), passes (k .before .settings-ok .ensures) (k .if1 .left)) (c .scan-pages .ensures)
 
 pub trailers-spec : {M : Type 1} → statement M
 trailers-spec =
     tie.close
-    (tie.spec sub-settings-ok part-settings-ok-start part-settings-ok-end settings-ok-requires returns sub-first-ok part-first-ok-start part-first-ok-end
-    first-ok-requires returns-2 scan-pages-requires returns-3)
+    (tie.spec sub-settings-ok part-settings-ok-start part-settings-ok-end settings-ok-requires returns scan-pages-requires returns-2)

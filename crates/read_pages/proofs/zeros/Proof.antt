@@ -8,7 +8,7 @@ use lib.ListN.{length}
 use denote.Ref.{now}
 use borrow.Author.Tests.{eq-eqb, ne-eqb}
 use borrow.Author.Needs.{needs}
-use Rattle.theory_check.specs.Tests.{allZero}
+use Rattle.model.specs.BeforeWalk.{allZero}
 use Rattle.base_ranges.specs.Every.{Rest, keeps, fails, done}
 use Rattle.read_pages.proofs.zeros.Statement.{statement}
 use Rattle.read_pages.proofs.zeros.Tie as tie
