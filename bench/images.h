@@ -171,6 +171,13 @@ static inline uint32_t make_nested(uint8_t *image, unsigned pages, unsigned free
     return last ? before + 1 : 1;
 }
 
+/* Two empty literals: nearly all of the page is zeros past the length used. */
+static inline unsigned fill_few(uint8_t *at, unsigned left, unsigned page) {
+    (void)left, (void)page;
+    put_node(put_node(at, 2, 9, 6), 2, 9, 6);
+    return 12;
+}
+
 /* 677 aggregates of 6 bytes: the most nodes that have room beside a proxy. */
 static inline unsigned fill_small(uint8_t *at, unsigned left, unsigned page) {
     unsigned n = 0;

@@ -9,11 +9,9 @@ use lib.ListN.{take, drop, getD, replicate}
 use lib.Dec.{eqb}
 use borrow.Author.Tests.{eq-eqb}
 use Rattle.model.specs.Limits.{pageSize, capacity, markBytes}
-use Rattle.model.specs.Reading.{pageOf, usedAt}
-use Rattle.model.specs.BeforeWalk.{trailerOf, pageCount, beforeWalk}
-use Rattle.theory_check.specs.Before.{before-says, not-free}
-use Rattle.theory_check.specs.Trailers.{trailer-says}
-use Rattle.theory_check.specs.Parts.{page-two}
+use Rattle.model.specs.Reading.{usedAt}
+use Rattle.model.specs.BeforeWalk.{pageCount, beforeWalk}
+use Rattle.theory_check.specs.Before.{first-used, used-fits}
 use Rattle.theory_check.specs.Tests.{tailZero}
 use Rattle.theory_check.specs.Walk.{State, state, nodeOf}
 use Rattle.theory_check.specs.Check.{walkOf, walkOk}
@@ -22,12 +20,8 @@ use Rattle.read_check.specs.Came.{Came}
 use Rattle.read_check.proofs.Walks.{came-at}
 
 -- page 1's record ends before its trailer
-pub first-used : (img : List ℕ) → 2 ≤ pageCount img → beforeWalk img ≡ true → usedAt img pageSize ≤ capacity
-first-used img few e =
-    let n = pageCount img in
-    let t = before-says img e .trailers 1 (omega arith) (omega arith) in
-    let says = trailer-says n 1 (pageOf img 1) t (not-free n (trailerOf (pageOf img 1)) t) in
-    omega (arith, says .used, page-two img 1 (capacity + 2) (omega arith))
+pub first-fits : (img : List ℕ) → 2 ≤ pageCount img → beforeWalk img ≡ true → usedAt img pageSize ≤ capacity
+first-fits img few e = used-fits img 1 e (omega arith) (omega arith) (first-used img few e)
 
 module _ (img : List ℕ) (n used : ℕ) (p : used ≡ usedAt img pageSize) (r : ℕ) (m old new : List ℕ)
     (c : Came (nodeOf img (take (pageSize + used - pageSize) (drop pageSize img)) 1 0 1 (state n (replicate markBytes 0))) r m old new) where

@@ -11,6 +11,7 @@ ghost use Rattle.model.specs.Limits.{mostPages, pageSize, capacity};
 ghost use Rattle.model.specs.Reading.{usedAt};
 ghost use Rattle.theory_check.specs.Tests.{isMarked, marked, namesOf, rootFits, tailZero};
 ghost use Rattle.theory_check.specs.Walk.{state, entersOf};
+ghost use Rattle.theory_check.specs.Check.{Passed};
 
 // ── marks: a bit for each page ──
 
@@ -35,24 +36,19 @@ pub fn set_mark(marks: &mut [u8; Settings::MARKS], p: usize)
 
 // ── pages ──
 
-// Whether page p by its trailer holds a record whose proxy stands in the record of a page.
+// Whether page p by its trailer holds a record whose proxy stands in the record of a page. What the trailer says by itself is known before the walk.
 pub fn names(image: &[u8], p: usize, page: usize) -> bool
+    requires { ⌜ Passed (now image) ⌝ }
     ensures { λ r. ⌜ r ≡ namesOf (now (image .entry)) p page ⌝ }
 {
     if p < 2 {
         return false;
     }
-    if Settings::PAGES <= p {
+    if image.len() / Settings::PAGE <= p {
         return false;
     }
     let a = Settings::PAGE * p;
-    if image.len() < a + Settings::PAGE {
-        return false;
-    }
     if image[a + Settings::CAPACITY] != 1 {
-        return false;
-    }
-    if Settings::CAPACITY < used_at(image, a) {
         return false;
     }
     let back = back_at(image, a);
@@ -89,6 +85,7 @@ pub fn enters(
     left: usize,
     marks: &[u8; Settings::MARKS],
 ) -> bool
+    requires { ⌜ Passed (now image) ⌝ }
     ensures { λ r. ⌜ r ≡ entersOf (now (image .entry)) p page (state left (now (marks .entry))) ⌝ }
 {
     if !names(image, p, page) {

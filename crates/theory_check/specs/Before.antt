@@ -3,17 +3,19 @@ use mathlib.Core.Path.{_≡_, refl, sym, ap, ap₂, _∙_}
 use mathlib.Core.Logic.{_↔_}
 use mathlib.Core.List.{List}
 use mathlib.Core.Bool.{Bool, true, false, cond, _&&_, false≢true}
-use Prim.Native.Nat.{ℕ, zero, suc, _+_, _-_, _/_, _%_, _≤_, _<_}
+use Prim.Native.Nat.{ℕ, zero, suc, _+_, _-_, _*_, _/_, _≤_, _<_}
 use native.Mathlib.Omega.{arith}
 use lib.ListN.{length}
-use lib.Dec.{eqb, leb}
-use borrow.Author.Tests.{eqb-true, eqb-false, leb-true}
-use Rattle.model.specs.Limits.{mostPages, pageSize}
-use Rattle.model.specs.Reading.{lengthOk, pageOf}
+use lib.Dec.{eqb}
+use borrow.Author.Tests.{eqb-true, eqb-false}
+use Rattle.model.specs.Limits.{pageSize, capacity}
+use Rattle.model.specs.Reading.{pageOf, usedAt}
 use Rattle.model.specs.BeforeWalk.{allZero, settingsOk, trailerOf, isFree, trailerFits, recordTrailer, freeFits, pageFits, pagesFit, pageCount, beforeWalk}
 use Rattle.model.specs.Claims.{PagesKeep, AlikeBefore}
 use Rattle.theory_decoding.specs.Valid.{both as and-both}
 use Rattle.theory_check.specs.Facts.{both, arms, not-else}
+use Rattle.theory_check.specs.Trailers.{trailer-says}
+use Rattle.theory_check.specs.Parts.{page-two}
 use Rattle.theory_check.specs.Sums.{sum, sum-same}
 use Rattle.theory_check.specs.Tests.{stateOf}
 use Rattle.theory_check.specs.Check.{inUse, trailersOf, scanFrom}
@@ -49,15 +51,6 @@ zero-free : (s : List ℕ) → (isFree (trailerOf s) ≡ true → allZero s ≡ 
 unfolding freeFits
 zero-free s h = arms (isFree (trailerOf s)) {y' = true} h (λ _. refl) ∙ both (λ (b : Bool). b ≡ true) (isFree (trailerOf s)) refl refl
 
--- Page 1 is not free.
-pub not-free : (pages : ℕ) (t : List ℕ) → trailerFits pages 1 t ≡ true → isFree t ≡ false
-unfolding trailerFits
-not-free pages t e = go (isFree t) e
-  where
-    go : (b : Bool) → cond b false (recordTrailer pages 1 t) ≡ true → b ≡ false
-    go true e = absurd (false≢true e)
-    go false e = refl
-
 -- ── it passes exactly when page 0, each trailer and each free page keep the rules ──
 
 pub before-says : (img : List ℕ) → beforeWalk img ≡ true → PagesKeep img
@@ -83,6 +76,18 @@ before-holds img k = before-each img (k .settings) (λ p l u. rw (k .trailers p 
 
 pub before-exact : (img : List ℕ) → (beforeWalk img ≡ true) ↔ PagesKeep img
 before-exact img = (before-says img, before-holds img)
+
+-- page 1 is not free
+not-free : (pages : ℕ) (t : List ℕ) → trailerFits pages 1 t ≡ true → isFree t ≡ false
+unfolding trailerFits
+not-free pages t e = go (isFree t) e
+  where
+    go : (b : Bool) → cond b false (recordTrailer pages 1 t) ≡ true → b ≡ false
+    go true e = absurd (false≢true e)
+    go false e = refl
+
+pub first-used : (img : List ℕ) → 2 ≤ pageCount img → beforeWalk img ≡ true → isFree (trailerOf (pageOf img 1)) ≡ false
+first-used img few e = not-free (pageCount img) (trailerOf (pageOf img 1)) (before-says img e .trailers 1 (omega arith) (omega arith))
 
 -- ── it looks at page 0, at trailers and at free pages alone ──
 
@@ -131,7 +136,7 @@ unfolding trailersOf
 trailers-some img few e = rw e (go (pageCount img) few (inUse img) one)
   where
     one : inUse img 1 ≡ 1
-    one = rw (not-free (pageCount img) (trailerOf (pageOf img 1)) (before-says img e .trailers 1 (omega arith) (omega arith)))
+    one = rw (first-used img few e)
 
     go : (n : ℕ) → 2 ≤ n → (f : ℕ → ℕ) → f 1 ≡ 1 → 1 ≤ sum f (n - 1) 1
     go zero h f o = absurd (omega arith)
@@ -159,6 +164,13 @@ trailers-most img =
     let n = pageCount img in
     both (λ (x : ℕ). x ≤ n) (beforeWalk img)
     (omega (arith, sum-most (inUse img) (λ q. both (λ (x : ℕ). x ≤ 1) (isFree (trailerOf (pageOf img q))) (omega arith) (omega arith)) (n - 1) 1)) (omega arith)
+
+-- A page in use has its record before the trailer.
+pub used-fits : (img : List ℕ) (p : ℕ) → beforeWalk img ≡ true → 1 ≤ p → p < pageCount img → isFree (trailerOf (pageOf img p)) ≡ false
+    → usedAt img (pageSize * p) ≤ capacity
+used-fits img p e low high used =
+    let says = trailer-says (pageCount img) p (pageOf img p) (before-says img e .trailers p low high) used in
+    omega (arith, says .used, page-two img p (capacity + 2) (omega arith))
 
 -- The loop over the pages finds it.
 pub scan-is : (img : List ℕ) (pages k p n : ℕ) → scanFrom img pages k p n ≡ cond (pagesFit img pages k p) (n + sum (inUse img) k p) 0

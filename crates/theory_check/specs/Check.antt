@@ -1,10 +1,11 @@
 -- The check in the order of the code: the length, page 0, all trailers and free pages, then the walk.
-use mathlib.Core.Bool.{Bool, cond, _&&_}
+use mathlib.Core.Path.{_≡_}
+use mathlib.Core.Bool.{Bool, true, cond, _&&_}
 use mathlib.Core.List.{List}
-use Prim.Native.Nat.{ℕ, zero, suc, _+_, _-_}
+use Prim.Native.Nat.{ℕ, zero, suc, _+_, _-_, _≤_}
 use lib.ListN.{length, replicate}
 use lib.Dec.{eqb}
-use Rattle.model.specs.Limits.{pageSize, markBytes}
+use Rattle.model.specs.Limits.{mostPages, pageSize, markBytes}
 use Rattle.model.specs.Reading.{lengthOk, pageOf, kindAt}
 use Rattle.model.specs.BeforeWalk.{trailerOf, isFree, pageCount, beforeWalk}
 use Rattle.theory_check.specs.Sums.{sum}
@@ -27,6 +28,10 @@ scanFrom img pages (suc k) p n =
     let past = scanFrom img pages k (suc p) n in
     let found = stateOf pages p (pageOf img p) in
     cond (eqb found 0) 0 (cond (eqb found 2) on past)
+
+-- What the walk asks for: the part before it passes. So it need not ask again whether a record's length fits its page.
+abbrev pub Passed : (img : List ℕ) → Type 0
+Passed img = (pageCount img ≤ mostPages) × (beforeWalk img ≡ true)
 
 -- The walk from page 1, whose record's root is an aggregate.
 unfoldable pub walkOf : (img : List ℕ) → (left : ℕ) → Decoded

@@ -1,6 +1,6 @@
 -- The pages as parts of an image: their bytes, and a record on its page.
 use mathlib.Core.Path.{_≡_, refl, sym, ap, ap₂, _∙_}
-use mathlib.Core.Bool.{true}
+use mathlib.Core.Bool.{true, false}
 use mathlib.Core.List.{List, [], _∷_}
 use Prim.Native.Nat.{ℕ, zero, suc, _+_, _-_, _*_, _≤_, _<_}
 use native.Mathlib.Omega.{arith}
@@ -8,10 +8,11 @@ use native.Mathlib.Nat.{add-assoc}
 use lib.ListN.{length, take, drop, getD, length-drop}
 use lib.Seq.{length-take-le, take-take, drop-drop, getD-take, getD-drop}
 use lib.Dec.{eqb}
+use borrow.Author.Tests.{ne-eqb}
 use Rattle.model.specs.Limits.{pageSize, capacity}
 use Rattle.model.specs.Row.{Row, recordBytes, recordPage, recordOn}
-use Rattle.model.specs.Reading.{twoAt, pageOf, usedAt, backAt, settledAt}
-use Rattle.model.specs.BeforeWalk.{allZero}
+use Rattle.model.specs.Reading.{twoAt, pageOf, stateAt, usedAt, backAt, settledAt}
+use Rattle.model.specs.BeforeWalk.{allZero, trailerOf, isFree}
 use Rattle.theory_check.specs.Tests.{tailZero}
 use Rattle.theory_check.specs.Walk.{recordOf}
 use Rattle.theory_check.specs.Heads.{AllBytes, all-take, all-drop}
@@ -37,6 +38,11 @@ module _ (img : List ℕ) (p : ℕ) where
   pub page-two : (i : ℕ) → i + 1 < pageSize → twoAt (pageOf img p) i ≡ twoAt img (pageSize * p + i)
   unfolding twoAt
   page-two i h = rw (page-byte i (omega arith), page-byte (i + 1) (omega arith), add-assoc)
+
+  -- a page whose trailer says that it has a record is in use
+  pub in-use : stateAt img (pageSize * p) ≡ 1 → isFree (trailerOf (pageOf img p)) ≡ false
+  in-use k =
+      ne-eqb (getD (trailerOf (pageOf img p)) 0 0) 0 (λ z. omega (arith, z, getD-drop capacity (pageOf img p) 0 0, page-byte capacity (omega arith), k))
 
   -- the bytes between the length used and the trailer
   pub tail-part : (u : ℕ) → u ≤ capacity → take (capacity - u) (drop (pageSize * p + u) img) ≡ take (capacity - u) (drop u (pageOf img p))

@@ -4,8 +4,7 @@ use mathlib.Core.List.{List}
 use mathlib.Core.Bool.{Bool, true, false, cond, not, _&&_, true≢false}
 use Prim.Native.Nat.{ℕ, _+_, _-_, _/_, _≤_, _<_}
 use native.Mathlib.Omega.{arith}
-use lib.ListN.{length, getD}
-use lib.Seq.{getD-drop}
+use lib.ListN.{length}
 use lib.Dec.{eqb, leb}
 use borrow.Author.Tests.{eqb-true, ne-eqb, lt-leb}
 use Rattle.model.specs.Limits.{mostPages, pageSize, capacity}
@@ -20,7 +19,7 @@ use Rattle.theory_check.specs.Walk.{State, Job, node, list}
 use Rattle.theory_check.specs.Steps.{from, Entered}
 use Rattle.theory_check.specs.Heads.{AllBytes}
 use Rattle.theory_check.specs.Trailers.{trailer-says}
-use Rattle.theory_check.specs.Parts.{page-byte, page-record}
+use Rattle.theory_check.specs.Parts.{in-use, page-record}
 use Rattle.theory_check.specs.Sums.{sum, sum-add, only, sum-only}
 use Rattle.theory_check.specs.Passes.{Passes, proxy, helper, literal, aggregate, empty, next}
 use Rattle.theory_check.specs.Rows.{node-is}
@@ -81,18 +80,12 @@ abbrev pub pageIn : Job → ℕ
 pageIn (node s page holder level w) = page
 pageIn (list s page holder level w) = page
 
--- a page that the walk enters is in use
-used-entered : {img : List ℕ} {p page : ℕ} {w : State} → Entered img p page w → isFree (trailerOf (pageOf img p)) ≡ false
-used-entered {img} {p} g =
-    ne-eqb (getD (trailerOf (pageOf img p)) 0 0) 0
-    (λ z. omega (arith, z, getD-drop capacity (pageOf img p) 0 0, page-byte img p capacity (omega arith), g .kind))
-
 module _ (img : List ℕ) where
   has-entered : {p page : ℕ} {w : State} → Entered img p page w → hasRecord img p ≡ true
   has-entered {p} g =
       let low : leb p 1 ≡ false = lt-leb p 1 (g .past) in
       let high : leb (pageCount img) p ≡ false = lt-leb (pageCount img) p (omega (arith, g .inside)) in
-      rw (low, high, used-entered g)
+      rw (low, high, in-use img p (g .kind))
 
   -- other pages are not named
   pub others : {j : Job} {r : Row} {v : State} → Passes img j r v → (q : ℕ) → hasRecord img q ≡ false → count q r ≡ 0
@@ -130,7 +123,7 @@ module _ (img : List ℕ) (whole : AllBytes img)
   unfolding mayStand standing
   stored (proxy {s = s} {page = page} {r = r} h n g p) =
       let q = nameAt s 0 in
-      let says = trailer-says (pageCount img) q (pageOf img q) (kept q (omega (arith, g .past)) (omega (arith, g .inside))) (used-entered g) in
+      let says = trailer-says (pageCount img) q (pageOf img q) (kept q (omega (arith, g .past)) (omega (arith, g .inside))) (in-use img q (g .kind)) in
       (page-record img q whole (g .inside) (pageCount img) says (g .tail) page (g .holder) r (node-is p .root refl), stored p, tt)
   stored (helper h p) = stored p
   stored (literal h l) = tt

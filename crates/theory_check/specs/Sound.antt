@@ -19,7 +19,7 @@ use Rattle.theory_check.specs.Facts.{both, not-else}
 use Rattle.theory_check.specs.Tests.{isMarked, tailZero}
 use Rattle.theory_check.specs.Walk.{State, state, recordOf, node}
 use Rattle.theory_check.specs.Check.{inUse, trailersOf, walkOf, walkOk, checkBy}
-use Rattle.theory_check.specs.Before.{before-says, not-free, trailers-are}
+use Rattle.theory_check.specs.Before.{before-says, first-used, trailers-are}
 use Rattle.theory_check.specs.Marks.{marks-none}
 use Rattle.theory_check.specs.Heads.{AllBytes}
 use Rattle.theory_check.specs.Trailers.{TrailerIs, trailer-says, zero-page, SettingsIs, settings-say}
@@ -84,7 +84,7 @@ module _ (img : List ℕ) (bytes : AllBytes img) (c : Checked img) (root : Row) 
 
   -- page 1 is in use
   one-used : isFree (trailerOf (pageOf img 1)) ≡ false
-  one-used = not-free pages (trailerOf (pageOf img 1)) (c .before .trailers 1 (omega arith) (omega (arith, c .few)))
+  one-used = first-used img (c .few) (c .passed)
 
   first : TrailerIs pages 1 (pageOf img 1)
   first = trailer-says pages 1 (pageOf img 1) (c .before .trailers 1 (omega arith) (omega (arith, c .few))) one-used

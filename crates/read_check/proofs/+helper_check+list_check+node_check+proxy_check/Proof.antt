@@ -337,7 +337,7 @@ pub +helper-check+list-check+node-check+proxy-check-spec : {M : Type 1} → stat
     let k = c .before .before .before .before .before .before .before .before .before .before .before .before in
     let s = k .before .before .before in
     let w = helper-whole t (c .before .before .before .before .before) in
-    (omega (arith, w, k .loop .inv .1, s .pre .0), (omega arith, s .pre .1 .0, omega (arith, k .loop .inv .1, s .pre .1 .1), omega (arith, w, s .pre .1 .2))))
+    (omega (arith, w, k .loop .inv .1, s .pre .0), (omega arith, s .pre .1 .0, omega (arith, k .loop .inv .1, s .pre .1 .1), omega (arith, w, s .pre .1 .2), s .pre .1 .3)))
     -- add-n-3
     (λ c.
     let k = c .before .before .before .before .before .before .before .before .before .before .before .before .before .before in
@@ -435,7 +435,7 @@ pub +helper-check+list-check+node-check+proxy-check-spec : {M : Type 1} → stat
     let k = c .before .before .before .before .before .before .before .before .before .before .before .before in
     let s = k .before .before .before in
     let w = list-whole t (c .before .before .before .before .before) in
-    (omega (arith, w, k .loop .inv .1, s .pre .0), (omega arith, s .pre .1 .0, omega (arith, k .loop .inv .1, s .pre .1 .1), omega (arith, w, s .pre .1 .2))))
+    (omega (arith, w, k .loop .inv .1, s .pre .0), (omega arith, s .pre .1 .0, omega (arith, k .loop .inv .1, s .pre .1 .1), omega (arith, w, s .pre .1 .2), s .pre .1 .3)))
     -- add-at-3
     (λ c.
     let s = c .before .before .before .before .before .before .before .before .before .before .before .before .before .before .before .before in
@@ -494,7 +494,7 @@ pub +helper-check+list-check+node-check+proxy-check-spec : {M : Type 1} → stat
     let part = now (s .args .part) in
     let at = 6 * c .before .before .before .only .result + 6 in
     let n = ap length (rest-is at part) in
-    (omega (arith, s .pre .0, f .inside, n, length-drop at part), (f .low, s .pre .1 .2, omega (arith, s .pre .1 .3, n, length-drop at part))))
+    (omega (arith, s .pre .0, f .inside, n, length-drop at part), (f .low, s .pre .1 .2, omega (arith, s .pre .1 .3, n, length-drop at part), s .pre .1 .4)))
     -- returns
     (λ c. chained t (c .before .before .before .before) .same _ _ _ _ (c .list-check .ensures))
     -- head-requires
@@ -506,7 +506,7 @@ pub +helper-check+list-check+node-check+proxy-check-spec : {M : Type 1} → stat
     -- proxy-check-requires
     (λ c κs.
     let s = c .before .before .before .before .before .before .before .before .before .before in
-    (omega (arith, s .pre .0, c .before .before .before .if3 .left), (s .pre .1 .1, s .pre .1 .2)))
+    (omega (arith, s .pre .0, c .before .before .before .if3 .left), (s .pre .1 .1, s .pre .1 .2, s .pre .1 .4)))
     -- returns-3
     (λ c.
     let a = c .before .before .before .before .before .before .before .before .before .before .before .args in
@@ -527,7 +527,7 @@ pub +helper-check+list-check+node-check+proxy-check-spec : {M : Type 1} → stat
     let part = now (s .args .part) in
     let n = ap length (rest-is 6 part) in
     let h = headed _ _ _ (c .before .before .before .before .before .head .ensures) (c .before .before .before .if4 .taken) in
-    (omega (arith, s .pre .0, h, n, length-drop 6 part), (s .pre .1 .1, s .pre .1 .2, omega (arith, s .pre .1 .3, n, length-drop 6 part))))
+    (omega (arith, s .pre .0, h, n, length-drop 6 part), (s .pre .1 .1, s .pre .1 .2, omega (arith, s .pre .1 .3, n, length-drop 6 part), s .pre .1 .4)))
     -- returns-4
     (λ c.
     let a = c .before .before .before .before .before .before .before .before .before .before .before .args in
@@ -559,7 +559,7 @@ pub +helper-check+list-check+node-check+proxy-check-spec : {M : Type 1} → stat
     (proxy-check-at t)
     proxy-check.Post
     -- enters-requires
-    (λ c κs. tt)
+    (λ c κs. c .before .before .pre .1 .2)
     -- returns
     (λ c. came-stop _ _ (proxy-no _ _ _ _ _ (fails (c .before .enters .ensures) (c .if1 .taken))))
     -- mul-a
@@ -591,7 +591,7 @@ pub +helper-check+list-check+node-check+proxy-check-spec : {M : Type 1} → stat
     let n = c .before .before .before .before .before .used-at in
     let long = length-part (now (a .image)) (pageSize * a .p) (pageSize * a .p + n .result - pageSize * a .p) in (
       omega (arith, s .pre .0, f .room, f .used, n .ensures .0, long),
-      (search needs, s .pre .1 .0, omega (arith, s .pre .1 .1), omega (arith, n .ensures .1, long)),
+      (search needs, s .pre .1 .0, omega (arith, s .pre .1 .1), omega (arith, n .ensures .1, long), s .pre .1 .2),
     ))
     -- cast-widths
     (λ c.

@@ -10,7 +10,7 @@ use Rattle.theory_check.specs.Check.{walkOk}
 use Rattle.theory_check.specs.Facts.{passes, fails}
 use Rattle.theory_check.specs.Steps.{length-part}
 use Rattle.base_ranges.specs.Long.{length-says}
-use Rattle.read_check.proofs.Checks.{first-used, walked, walked-table}
+use Rattle.read_check.proofs.Checks.{first-fits, walked, walked-table}
 use Rattle.read_check.proofs.walk_ok.Statement.{statement}
 use Rattle.read_check.proofs.walk_ok.Tie as tie
 
@@ -26,7 +26,7 @@ tail-zero-requires c κs =
     let s = c .before .before .before in
     let img = now (s .args .image) in
     let l = length-says (length img) (s .pre .0) in
-    (omega arith, omega (arith, l .few, l .whole), first-used img (l .few) (s .pre .1))
+    (omega arith, omega (arith, l .few, l .whole), first-fits img (l .few) (s .pre .1))
 
 returns-2 : tie.Need-returns-2
 unfolding walkOk
@@ -49,13 +49,19 @@ part-node-check-end c =
     let s = c .before .before .before .before .before .before in
     let img = now (s .args .image) in
     let l = length-says (length img) (s .pre .0) in
-    omega (arith, l, first-used img (l .few) (s .pre .1), c .used-at .ensures .0)
+    omega (arith, l, first-fits img (l .few) (s .pre .1), c .used-at .ensures .0)
 
 node-check-requires : tie.Need-node-check-requires
 node-check-requires c κs =
     let s = c .before .before .before .before .before .before .before .before .before in
     let n = c .before .before .before .used-at in
-    (omega arith, omega arith, s .pre .2, omega (arith, n .ensures .1, length-part (now (s .args .image)) pageSize (pageSize + n .result - pageSize)))
+    let img = now (s .args .image) in (
+      omega arith,
+      omega arith,
+      s .pre .2,
+      omega (arith, n .ensures .1, length-part img pageSize (pageSize + n .result - pageSize)),
+      (length-says (length img) (s .pre .0) .many, s .pre .1),
+    )
 
 returns-3 : tie.Need-returns-3
 returns-3 c =
