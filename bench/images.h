@@ -171,7 +171,7 @@ static inline uint32_t make_nested(uint8_t *image, unsigned pages, unsigned free
     return last ? before + 1 : 1;
 }
 
-/* Two empty literals: nearly all of the page is zeros past the length used. */
+/* Two empty literals, the fewest nodes of a helper without a proxy: nearly all of the page is zeros past the length used. */
 static inline unsigned fill_few(uint8_t *at, unsigned left, unsigned page) {
     (void)left, (void)page;
     put_node(put_node(at, 2, 9, 6), 2, 9, 6);

@@ -47,8 +47,13 @@ def origin_bytes(rng, image):
     return [(at, rng.choice(values)) for at in made.origin_places(rng, image) for values in ((1, 2, 3), (4, 255))]
 
 
+def put_two(at, value, image, out):
+    for i, byte in enumerate(ref.two_bytes(value)):
+        made.put_byte(at + i, byte, image, out)
+
+
 def hurt_page_end(rng, image, out):
-    """A field of one trailer at the ends of its range, by itself or against the page it speaks of, or a byte past the length used."""
+    """One field of a trailer set to a value at an end of its range or just past it, or a byte past the length used."""
     pages = len(image) // ref.PAGE
     number = rng.randrange(pages)
     end = number * ref.PAGE + ref.CAPACITY
@@ -59,15 +64,14 @@ def hurt_page_end(rng, image, out):
     elif field == 1:
         made.put_byte(end + 1, rng.randrange(3), image, out)
     elif field == 2:
-        length = rng.choice((0, 5, 6, 7, used - 1, used + 1, 4079, 4080, 4081, 65535)) % 65536
-        for i, byte in enumerate(ref.two_bytes(length)):
-            made.put_byte(end + 2 + i, byte, image, out)
+        put_two(end + 2, rng.choice((0, 5, 6, 7, used - 1, used + 1, 4079, 4080, 4081, 65535)) % 65536, image, out)
     elif field == 3:
-        made.put_byte(end + 4, rng.choice((0, 1, number, rng.randrange(pages), pages - 1, pages, pages + 1)), image, out)
+        put_two(end + 4, rng.choice((0, 1, number, rng.randrange(pages), pages - 1, pages, pages + 1, 257, 65535)), image, out)
     elif field == 4:
         made.put_byte(end + rng.randrange(6, 16), rng.randrange(1, 256), image, out)
-    else:
-        made.put_byte(end - ref.CAPACITY + min(rng.choice((used, rng.randrange(used, 4081), 4079)), 4079), rng.randrange(1, 256), image, out)
+    elif used < ref.CAPACITY:
+        past = rng.choice((used, rng.randrange(used, ref.CAPACITY), ref.CAPACITY - 1))
+        made.put_byte(number * ref.PAGE + past, rng.randrange(1, 256), image, out)
 
 
 def any_records(rng, image):
@@ -86,8 +90,10 @@ def stage(rng, image):
     passed = ref.before_walk(image)
     assert ref.before_walk(any_records(rng, image)) == passed
     number = ref.check(image)[0]
-    assert passed or number == ref.BROKEN
-    return "before the walk" if not passed else "in the walk" if number else "passed"
+    if not passed:
+        assert number == ref.BROKEN
+        return "before the walk"
+    return "in the walk" if number else "passed"
 
 
 def some_number(rng):

@@ -13,7 +13,7 @@ use Rattle.model.specs.Reading.{twoAt, usedAt, configOn, pageOf}
 unfoldable pub allZero : List ℕ → Bool
 allZero s = every (λ x. eqb x 0) s
 
--- Page 0, whole, of an image of so many pages.
+-- Page 0, whole, of an image of so many pages. Its trailer begins with 2 and 0: settings, not settled.
 unfoldable pub settingsOk : (page : List ℕ) → (pages : ℕ) → Bool
 settingsOk s pages =
     let numbers = eqb (twoAt s 0) pages && inRange (configOn s) && eqb (getD s 3 0) 0 && allZero (take 8 (drop 8 s)) in
@@ -33,7 +33,7 @@ isFree t = eqb (getD t 0 0) 0
 abbrev pub settledFits : (p settled : ℕ) → Bool
 settledFits p n = cond (eqb p 1) (eqb n 1) (leb n 1)
 
--- The length used: a root has at least its header.
+-- The length used: from 6, since a root has at least its header, to 4,080.
 abbrev pub usedFits : (used : ℕ) → Bool
 usedFits n = leb 6 n && leb n capacity
 
@@ -46,7 +46,7 @@ unfoldable pub recordTrailer : (pages p : ℕ) → (t : List ℕ) → Bool
 recordTrailer pages p t =
     eqb (getD t 0 0) 1 && settledFits p (getD t 1 0) && usedFits (twoAt t 2) && backFits pages p (twoAt t 4) && allZero (drop 6 t)
 
--- Free, but on page 1, or a record's.
+-- Free, except on page 1, or a record's.
 unfoldable pub trailerFits : (pages p : ℕ) → (t : List ℕ) → Bool
 trailerFits pages p t = cond (isFree t) (not (eqb p 1) && allZero t) (recordTrailer pages p t)
 

@@ -46,13 +46,13 @@ pub record PagesKeep (img : List ℕ) : Type 0 where
 
 -- Two images agree on page 0, on all trailers and on all free pages; of a record's page they may have any bytes before its trailer.
 pub record AlikeBefore (a b : List ℕ) : Type 0 where
-  pub long : length a ≡ length b
+  pub pages : pageCount a ≡ pageCount b
   pub settings : pageOf a 0 ≡ pageOf b 0
   pub trailers : (p : ℕ) → 1 ≤ p → p < pageCount a → trailerOf (pageOf a p) ≡ trailerOf (pageOf b p)
   pub free : (p : ℕ) → 1 ≤ p → p < pageCount a → isFree (trailerOf (pageOf a p)) ≡ true → pageOf a p ≡ pageOf b p
 
--- It passes exactly when they keep the rules, it is the same for such images, and every image that passes the check has passed it.
-pub record BeforeWalk (img : List ℕ) : Type 0 where
+-- The part before the walk passes exactly when they keep the rules, gives such images the same answer, and has passed wherever the check passes.
+pub record BeforeWalkExact (img : List ℕ) : Type 0 where
   pub exactly : (beforeWalk img ≡ true) ↔ PagesKeep img
   pub alone : (other : List ℕ) → AlikeBefore img other → beforeWalk img ≡ beforeWalk other
   pub needed : checkOf img ≡ 0 → beforeWalk img ≡ true

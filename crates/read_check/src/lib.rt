@@ -20,7 +20,7 @@ ghost use Rattle.model.specs.Limits.{mostPages, mostLevels};
 ghost use Rattle.model.specs.Reading.{lengthOk};
 ghost use Rattle.model.specs.BeforeWalk.{beforeWalk};
 ghost use Rattle.theory_check.specs.Walk.{state, nodeOf, listOf, proxyOf};
-ghost use Rattle.theory_check.specs.Check.{trailersOf, Passed, walkOf, walkOk, checkBy};
+ghost use Rattle.theory_check.specs.Check.{trailersOf, PassedBefore, walkOf, walkOk, checkBy};
 ghost use Rattle.theory_check.specs.Widths.{widthsAfter};
 ghost use Rattle.read_check.specs.Came.{Came, Shown};
 
@@ -42,7 +42,7 @@ fn proxy_check<'a>(
     marks: &mut [u8; Settings::MARKS],
     widths: &mut [u32; Settings::PAGES],
 ) -> Walked
-    requires { ⌜ (level ≤ mostLevels + 1) × (left ≤ mostPages) × Passed (now image) ⌝ }
+    requires { ⌜ (level ≤ mostLevels + 1) × (left ≤ mostPages) × PassedBefore (now image) ⌝ }
     ensures { λ r. ⌜ Shown (proxyOf (now (image .entry)) p page level (state left (now (marks .entry))))
         r (now (marks .exit)) (now (widths .entry)) (now (widths .exit)) ⌝ }
 {
@@ -69,7 +69,7 @@ fn node_check<'a>(
     marks: &mut [u8; Settings::MARKS],
     widths: &mut [u32; Settings::PAGES],
 ) -> Walked
-    requires { ⌜ (holder < 5) × (level ≤ mostLevels + 1) × (left ≤ mostPages) × (length (now part) < 65536) × Passed (now image) ⌝ }
+    requires { ⌜ (holder < 5) × (level ≤ mostLevels + 1) × (left ≤ mostPages) × (length (now part) < 65536) × PassedBefore (now image) ⌝ }
     ensures { λ r. ⌜ Shown (nodeOf (now (image .entry)) (now (part .entry)) page holder level (state left (now (marks .entry))))
         r (now (marks .exit)) (now (widths .entry)) (now (widths .exit)) ⌝ }
 {
@@ -114,7 +114,7 @@ fn list_check<'a>(
     marks: &mut [u8; Settings::MARKS],
     widths: &mut [u32; Settings::PAGES],
 ) -> usize
-    requires { ⌜ (level ≤ mostLevels + 1) × (left ≤ mostPages) × (length (now part) < 65536) × Passed (now image) ⌝ }
+    requires { ⌜ (level ≤ mostLevels + 1) × (left ≤ mostPages) × (length (now part) < 65536) × PassedBefore (now image) ⌝ }
     ensures { λ r. ⌜ Came (listOf (now (image .entry)) (now (part .entry)) page 1 level (state left (now (marks .entry))))
         r (now (marks .exit)) (now (widths .entry)) (now (widths .exit)) ⌝ }
 {
@@ -154,7 +154,7 @@ fn helper_check<'a>(
     marks: &mut [u8; Settings::MARKS],
     widths: &mut [u32; Settings::PAGES],
 ) -> Walked
-    requires { ⌜ (level ≤ mostLevels + 1) × (left ≤ mostPages) × (length (now part) < 65536) × Passed (now image) ⌝ }
+    requires { ⌜ (level ≤ mostLevels + 1) × (left ≤ mostPages) × (length (now part) < 65536) × PassedBefore (now image) ⌝ }
     ensures { λ r. ⌜ Shown (listOf (now (image .entry)) (now (part .entry)) page 4 level (state left (now (marks .entry))))
         r (now (marks .exit)) (now (widths .entry)) (now (widths .exit)) ⌝ }
 {

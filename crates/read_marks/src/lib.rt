@@ -1,4 +1,5 @@
-// Whether the walk may enter the page that a proxy names: by the page's trailer, by its record's root, and by the marks of the pages reached.
+// Whether the walk may enter the page that a proxy names: by the page's trailer, its record's root, the marks of the pages reached, and the zeros past the
+// record.
 use base_layout::back_at;
 use base_layout::settled_at;
 use base_layout::used_at;
@@ -11,11 +12,11 @@ ghost use Rattle.model.specs.Limits.{mostPages, pageSize, capacity};
 ghost use Rattle.model.specs.Reading.{usedAt};
 ghost use Rattle.theory_check.specs.Tests.{isMarked, marked, namesOf, rootFits, tailZero};
 ghost use Rattle.theory_check.specs.Walk.{state, entersOf};
-ghost use Rattle.theory_check.specs.Check.{Passed};
+ghost use Rattle.theory_check.specs.Check.{PassedBefore};
 
 // ── marks: a bit for each page ──
 
-pub fn is_marked(marks: &[u8; Settings::MARKS], p: usize) -> bool
+fn is_marked(marks: &[u8; Settings::MARKS], p: usize) -> bool
     requires { ⌜ p < mostPages ⌝ }
     ensures { λ r. ⌜ r ≡ isMarked (now (marks .entry)) p ⌝ }
 {
@@ -37,8 +38,8 @@ pub fn set_mark(marks: &mut [u8; Settings::MARKS], p: usize)
 // ── pages ──
 
 // Whether page p by its trailer holds a record whose proxy stands in the record of a page. What the trailer says by itself is known before the walk.
-pub fn names(image: &[u8], p: usize, page: usize) -> bool
-    requires { ⌜ Passed (now image) ⌝ }
+fn names(image: &[u8], p: usize, page: usize) -> bool
+    requires { ⌜ PassedBefore (now image) ⌝ }
     ensures { λ r. ⌜ r ≡ namesOf (now (image .entry)) p page ⌝ }
 {
     if p < 2 {
@@ -56,7 +57,7 @@ pub fn names(image: &[u8], p: usize, page: usize) -> bool
 }
 
 // A settled record's root is no helper.
-pub fn root_fits(image: &[u8], p: usize) -> bool
+fn root_fits(image: &[u8], p: usize) -> bool
     requires { ⌜ (p < mostPages) × (pageSize * p + pageSize ≤ length (now image)) ⌝ }
     ensures { λ r. ⌜ r ≡ rootFits (now (image .entry)) p ⌝ }
 {
@@ -85,7 +86,7 @@ pub fn enters(
     left: usize,
     marks: &[u8; Settings::MARKS],
 ) -> bool
-    requires { ⌜ Passed (now image) ⌝ }
+    requires { ⌜ PassedBefore (now image) ⌝ }
     ensures { λ r. ⌜ r ≡ entersOf (now (image .entry)) p page (state left (now (marks .entry))) ⌝ }
 {
     if !names(image, p, page) {

@@ -1,5 +1,5 @@
 -- The tests of one page, on the page's bytes.
-use mathlib.Core.Path.{_≡_, refl, sym, ap, _∙_}
+use mathlib.Core.Path.{_≡_, refl}
 use mathlib.Core.Bool.{Bool, true, false, cond, not, _&&_, and-true, and-false}
 use mathlib.Core.List.{List, [], _∷_}
 use Prim.Native.Nat.{ℕ, zero, suc, _+_}
@@ -7,10 +7,10 @@ use native.Mathlib.Omega.{arith}
 use lib.ListN.{length, take, drop, length-drop}
 use lib.Seq.{take-all, drop-drop, getD-drop}
 use lib.Dec.{eqb}
-use borrow.Author.Tests.{eqb-false, eq-eqb, ne-eqb}
+use borrow.Author.Tests.{eq-eqb, ne-eqb}
 use Rattle.model.specs.Limits.{pageSize, capacity}
 use Rattle.model.specs.Reading.{stateAt, settledAt, usedAt, backAt}
-use Rattle.model.specs.BeforeWalk.{allZero, trailerOf, isFree, settledFits, usedFits, backFits, recordTrailer, trailerFits, freeFits}
+use Rattle.model.specs.BeforeWalk.{allZero, trailerOf, settledFits, usedFits, backFits, recordTrailer, trailerFits, freeFits}
 use Rattle.theory_decoding.specs.Valid.{both as and-both}
 use Rattle.theory_check.specs.Trailers.{trailer-two}
 use Rattle.theory_check.specs.Tests.{stateOf}

@@ -90,7 +90,7 @@ fn record_trailer(page: &[u8], pages: usize, p: usize) -> bool
 }
 
 // What page p is by its trailer and, where that says free, by its bytes: 0 against the rules, 1 free, 2 a record's.
-pub fn page_state(page: &[u8], pages: usize, p: usize) -> usize
+fn page_state(page: &[u8], pages: usize, p: usize) -> usize
     requires { ⌜ length (now page) ≡ pageSize ⌝ }
     ensures { λ r. ⌜ r ≡ stateOf pages p (now (page .entry)) ⌝ }
 {
@@ -123,7 +123,7 @@ fn numbers_on(page: &[u8]) -> Settings
 }
 
 // Whether page 0 holds settings, for an image of so many pages.
-pub fn settings_ok(page: &[u8], pages: usize) -> bool
+fn settings_ok(page: &[u8], pages: usize) -> bool
     requires { ⌜ length (now page) ≡ pageSize ⌝ }
     ensures { λ r. ⌜ r ≡ settingsOk (now (page .entry)) pages ⌝ }
 {
@@ -152,8 +152,8 @@ pub fn settings_ok(page: &[u8], pages: usize) -> bool
     zeros(&page[BACK..Settings::PAGE])
 }
 
-// The record pages from 1 on, 0 where one of the pages is against the rules by itself.
-pub fn scan_pages(image: &[u8], pages: usize) -> usize
+// How many record pages there are from 1 on, 0 where a page is against the rules by itself.
+fn scan_pages(image: &[u8], pages: usize) -> usize
     requires { ⌜ (pageSize * pages ≤ length (now image)) × (1 ≤ pages) × (pages ≤ mostPages) ⌝ }
     ensures { λ r. ⌜ r ≡ scanFrom (now (image .entry)) pages (pages - 1) 1 0 ⌝ }
 {

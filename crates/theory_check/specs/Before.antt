@@ -3,9 +3,8 @@ use mathlib.Core.Path.{_≡_, refl, sym, ap, ap₂, _∙_}
 use mathlib.Core.Logic.{_↔_}
 use mathlib.Core.List.{List}
 use mathlib.Core.Bool.{Bool, true, false, cond, _&&_, false≢true}
-use Prim.Native.Nat.{ℕ, zero, suc, _+_, _-_, _*_, _/_, _≤_, _<_}
+use Prim.Native.Nat.{ℕ, zero, suc, _+_, _-_, _*_, _≤_, _<_}
 use native.Mathlib.Omega.{arith}
-use lib.ListN.{length}
 use lib.Dec.{eqb}
 use borrow.Author.Tests.{eqb-true, eqb-false}
 use Rattle.model.specs.Limits.{pageSize, capacity}
@@ -16,7 +15,7 @@ use Rattle.theory_decoding.specs.Valid.{both as and-both}
 use Rattle.theory_check.specs.Facts.{both, arms, not-else}
 use Rattle.theory_check.specs.Trailers.{trailer-says}
 use Rattle.theory_check.specs.Parts.{page-two}
-use Rattle.theory_check.specs.Sums.{sum, sum-same}
+use Rattle.theory_check.specs.Sums.{sum, sum-same, sum-most}
 use Rattle.theory_check.specs.Tests.{stateOf}
 use Rattle.theory_check.specs.Check.{inUse, trailersOf, scanFrom}
 
@@ -104,25 +103,22 @@ page-same pages p s t e f =
     ap₂ _&&_ (ap (trailerFits pages p) e) (arms (isFree (trailerOf s)) (λ z. ap allZero (f z)) (λ _. refl) ∙ ap (λ x. cond (isFree x) (allZero t) true) e)
 
 module _ (a b : List ℕ) (s : AlikeBefore a b) where
-  same-count : pageCount a ≡ pageCount b
-  same-count = ap (λ (n : ℕ). n / pageSize) (s .long)
-
   pub before-alone : beforeWalk a ≡ beforeWalk b
   unfolding beforeWalk
   before-alone =
       let n = pageCount a in
-      ap₂ _&&_ (ap₂ settingsOk (s .settings) same-count)
+      ap₂ _&&_ (ap₂ settingsOk (s .settings) (s .pages))
       (fit-same a b n (n - 1) 1 (λ q l u. page-same n q (pageOf a q) (pageOf b q) (s .trailers q l (omega arith)) (s .free q l (omega arith)))
-      ∙ ap (λ (n : ℕ). pagesFit b n (n - 1) 1) same-count)
+      ∙ ap (λ (n : ℕ). pagesFit b n (n - 1) 1) (s .pages))
 
-  -- So does what it hands on to the walk.
+  -- What it hands on to the walk is the same, too.
   pub trailers-alone : trailersOf a ≡ trailersOf b
   unfolding trailersOf
   trailers-alone =
       let n = pageCount a in
       let used : sum (inUse a) (n - 1) 1 ≡ sum (inUse b) (n - 1) 1 =
       sum-same (inUse a) (inUse b) (n - 1) 1 (λ q l u. ap (λ (t : List ℕ). cond {A = ℕ} (isFree t) 0 1) (s .trailers q l (omega arith))) in
-      rw (before-alone, used, same-count)
+      rw (before-alone, used, (s .pages))
 
 -- ── what is handed on ──
 
@@ -154,10 +150,6 @@ pub trailers-pass : (img : List ℕ) → (trailersOf img ≡ 0 → ⊥) → befo
 unfolding trailersOf
 trailers-pass img z = not-else (beforeWalk img) {n = trailersOf img} (λ q. z (sym q)) refl .0
 
-sum-most : (f : ℕ → ℕ) → ((q : ℕ) → f q ≤ 1) → (k p : ℕ) → sum f k p ≤ k
-sum-most f h zero p = omega arith
-sum-most f h (suc k) p = omega (arith, h p, sum-most f h k (suc p))
-
 pub trailers-most : (img : List ℕ) → trailersOf img ≤ pageCount img
 unfolding trailersOf
 trailers-most img =
@@ -173,7 +165,7 @@ used-fits img p e low high used =
     omega (arith, says .used, page-two img p (capacity + 2) (omega arith))
 
 -- The loop over the pages finds it.
-pub scan-is : (img : List ℕ) (pages k p n : ℕ) → scanFrom img pages k p n ≡ cond (pagesFit img pages k p) (n + sum (inUse img) k p) 0
+scan-is : (img : List ℕ) (pages k p n : ℕ) → scanFrom img pages k p n ≡ cond (pagesFit img pages k p) (n + sum (inUse img) k p) 0
 unfolding scanFrom pagesFit stateOf
 scan-is img pages zero p n = omega arith
 scan-is img pages (suc k) p n = go (pageFits pages p (pageOf img p)) (isFree (trailerOf (pageOf img p))) refl refl (scan-is img pages k (suc p))

@@ -1,18 +1,14 @@
 -- How much a walk can find: each node that it shows takes bytes of a record, and it enters so many pages.
-use mathlib.Core.Path.{_≡_}
-use mathlib.Core.Bool.{true, _&&_}
 use mathlib.Core.List.{List}
-use Prim.Native.Nat.{ℕ, zero, suc, _+_, _-_, _*_, _/_, _≤_, _%_}
+use Prim.Native.Nat.{ℕ, _+_, _-_, _*_, _≤_}
 use native.Mathlib.Omega.{arith}
 use lib.ListN.{length, take, drop, length-drop}
 use lib.Seq.{length-take-le}
-use lib.Dec.{ltb, eqb, leb}
-use borrow.Author.Tests.{leb-true}
-use Rattle.model.specs.Limits.{mostPages, pageSize, mostLevels}
+use lib.Dec.{ltb, eqb}
+use Rattle.model.specs.Limits.{pageSize, mostLevels}
 use Rattle.model.specs.Tree.{width}
-use Rattle.model.specs.Reading.{lengthOk, pageOf, usedAt, nameAt}
+use Rattle.model.specs.Reading.{usedAt, nameAt}
 use Rattle.theory_rows.specs.Laws.{width-⊹, cond-case}
-use Rattle.theory_decoding.specs.Valid as valid
 use Rattle.theory_check.specs.Rec.{keeps}
 use Rattle.theory_check.specs.Tests.{wholeSize, passingKind}
 use Rattle.theory_check.specs.Walk.{State, withMark, entersOf, Decoded, Job, node, list, measure, stop, none, recordOf, step, proxyStep, nodeStep}

@@ -30,8 +30,8 @@ scanFrom img pages (suc k) p n =
     cond (eqb found 0) 0 (cond (eqb found 2) on past)
 
 -- What the walk asks for: the part before it passes. So it need not ask again whether a record's length fits its page.
-abbrev pub Passed : (img : List ℕ) → Type 0
-Passed img = (pageCount img ≤ mostPages) × (beforeWalk img ≡ true)
+abbrev pub PassedBefore : (img : List ℕ) → Type 0
+PassedBefore img = (pageCount img ≤ mostPages) × (beforeWalk img ≡ true)
 
 -- The walk from page 1, whose record's root is an aggregate.
 unfoldable pub walkOf : (img : List ℕ) → (left : ℕ) → Decoded

@@ -4,7 +4,7 @@ use mathlib.Core.Bool.{true, cond, _&&_}
 use mathlib.Core.List.{List}
 use Prim.Native.Nat.{ℕ, suc, _-_}
 use native.Mathlib.Omega.{arith}
-use lib.ListN.{length, getD, replicate}
+use lib.ListN.{getD, replicate}
 use lib.Seq.{take-at}
 use Rattle.model.specs.Limits.{pageSize, markBytes}
 use Rattle.model.specs.Row.{Row, store, Held, records, settingsPage, pagesFrom, image, lone, byTable, mayStand, standing, Config, recordOn, inRange, valid}
@@ -24,7 +24,7 @@ use Rattle.theory_check.specs.Before.{before-each}
 use Rattle.theory_check.specs.Marks.{marks-none, none-marked}
 use Rattle.theory_check.specs.Nodes.{record-node}
 use Rattle.theory_check.specs.Pages.{settings-ok, tail-of, root-kind, record-of, on-page}
-use Rattle.theory_check.specs.Scan.{named-range, image-fits, image-used}
+use Rattle.theory_check.specs.StorePages.{named-range, image-fits, image-used}
 use Rattle.theory_check.specs.Fresh.{Unreached}
 use Rattle.theory_check.specs.Walked.{done, walked}
 
@@ -47,16 +47,17 @@ module _ (st : Config) (root : Row) (v : Valid st root) where
       let top = both _ _ (levels .0) in
       both _ _ (top .0) .0
 
+  page-count : pageCount img ≡ st .pages
+  page-count = omega (arith, length-image st root v)
+
   before-image : beforeWalk img ≡ true
   before-image =
-      let n : pageCount img ≡ st .pages = omega (arith, length-image st root v) in
-      before-each img (rw (n, zero-page) (settings-ok st in-range)) (λ p a b. rw n (image-fits st root v p a (omega arith)))
+      before-each img (rw (page-count, zero-page) (settings-ok st in-range)) (λ p a b. rw page-count (image-fits st root v p a (omega (arith, page-count))))
 
   trailers-image : trailersOf img ≡ suc (recordCount root)
   unfolding trailersOf
   trailers-image =
-      let n : pageCount img ≡ st .pages = omega (arith, length-image st root v) in
-      rw (before-image, n) (image-used st root v)
+      rw (before-image, page-count) (image-used st root v)
 
   fresh-image : Unreached (st .pages) (replicate markBytes 0) root
   fresh-image = record { marks = marks-none; range = named-range st root v; once = λ q. omega (arith, once st root v q); new = λ q h. none-marked q }

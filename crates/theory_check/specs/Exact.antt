@@ -9,7 +9,7 @@ use lib.Dec.{eqb}
 use Rattle.model.specs.Reading.{lengthOk}
 use Rattle.model.specs.BeforeWalk.{beforeWalk}
 use Rattle.model.specs.Calls.Check.{checkOf}
-use Rattle.model.specs.Claims.{BeforeWalk}
+use Rattle.model.specs.Claims.{BeforeWalkExact}
 use Rattle.theory_calls.specs.Open.{passing, passes, not-passing}
 use Rattle.theory_check.specs.Check.{trailersOf, walkOk, checkBy}
 use Rattle.theory_check.specs.Before.{before-exact, before-alone}
@@ -43,7 +43,7 @@ exact img all = go (eqb (checkBy img) 0) refl
         wrong-by img z ∙ sym (not-passing img (broken z))
 
 -- What is claimed of the part before the walk.
-pub before-walk : (img : List ℕ) → BeforeWalk img
+pub before-walk : (img : List ℕ) → BeforeWalkExact img
 before-walk img = record {
   exactly = before-exact img;
   alone = before-alone img;

@@ -34,8 +34,8 @@ on-records mem h (agg l cs rest) m = each-++ (OnPage mem) (records h cs) (record
 on-records mem h (lit l c rest) m = on-records mem h rest m
 on-records mem h (rec p s r rest) m = (m .0, each-++ (OnPage mem) (records p r) (records h rest) (on-records mem p r (m .1)) (on-records mem h rest (m .2)))
 
-page-found : (mem : ℕ → List ℕ) (hs : List Held) → Each (OnPage mem) hs → (q : ℕ) → (times q (map (λ (h : Held). h .page) hs) ≡ 0 → mem q ≡ replicate pageSize 0)
-    → mem q ≡ pageAt hs q
+page-found : (mem : ℕ → List ℕ) (hs : List Held) → Each (OnPage mem) hs → (q : ℕ)
+    → (times q (map (λ (h : Held). h .page) hs) ≡ 0 → mem q ≡ replicate pageSize 0) → mem q ≡ pageAt hs q
 page-found mem [] m q z = z refl
 page-found mem (h ∷ hs) m q z = go (eqb q (h .page)) refl z (page-found mem hs (m .1) q)
   where

@@ -9,7 +9,7 @@ pub mod Steps
 pub mod Sums
 pub mod Nodes
 pub mod Pages
-pub mod Scan
+pub mod StorePages
 pub mod Fresh
 pub mod Walked
 pub mod Complete

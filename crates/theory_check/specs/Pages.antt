@@ -6,7 +6,7 @@ use Prim.Native.Nat.{ℕ, zero, suc, _+_, _-_, _*_, _≤_, _<_}
 use native.Mathlib.Omega.{arith}
 use lib.ListN.{length, take, drop, getD, replicate, length-append, length-replicate}
 use lib.Seq.{take-at, drop-at, take-take, drop-append-add, getD-take, getD-drop}
-use lib.Dec.{eqb, leb}
+use lib.Dec.{eqb}
 use borrow.Author.Tests.{eq-eqb, ne-eqb, le-leb, lt-ltb}
 use Rattle.model.specs.Limits.{mostPages, pageSize, capacity, settingsSize, matrixEntries}
 use Rattle.model.specs.Row.{Row, nil, agg, lit, rec, lone, recordSize, recordBytes, two, trailer, Held, recordPage, Config, settingsPage, isAgg, inRange}
@@ -77,9 +77,6 @@ settings-ok st ok =
 pub free-fits : (pages p : ℕ) → (p ≡ 1 → ⊥) → pageFits pages p (replicate pageSize 0) ≡ true
 unfolding trailerFits freeFits
 free-fits pages p h = rw (zeros pageSize, ne-eqb p 1 h, zeros 16)
-
-pub free-unused : isFree (trailerOf (replicate pageSize 0)) ≡ true
-free-unused = refl
 
 -- ── a record's page ──
 

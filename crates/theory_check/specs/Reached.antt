@@ -2,12 +2,11 @@
 use mathlib.Core.Path.{_≡_, refl, sym, ap, _∙_}
 use mathlib.Core.List.{List}
 use mathlib.Core.Bool.{Bool, true, false, cond, not, _&&_, true≢false}
-use Prim.Native.Nat.{ℕ, _+_, _-_, _/_, _≤_, _<_}
+use Prim.Native.Nat.{ℕ, _+_, _-_, _≤_, _<_}
 use native.Mathlib.Omega.{arith}
-use lib.ListN.{length}
 use lib.Dec.{eqb, leb}
 use borrow.Author.Tests.{eqb-true, ne-eqb, lt-leb}
-use Rattle.model.specs.Limits.{mostPages, pageSize, capacity}
+use Rattle.model.specs.Limits.{mostPages}
 use Rattle.model.specs.Row.{Row, nil, agg, lit, rec, _⊹_, count, outside, standing, mayStand}
 use Rattle.model.specs.Reading.{pageOf, nameAt}
 use Rattle.model.specs.BeforeWalk.{trailerOf, isFree, trailerFits, pageCount}

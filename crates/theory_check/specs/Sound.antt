@@ -9,7 +9,7 @@ use lib.Dec.{eqb, leb}
 use borrow.Author.Tests.{eqb-true, ne-eqb, leb-true, leb-false}
 use Rattle.model.specs.Limits.{mostPages, pageSize, capacity, markBytes}
 use Rattle.model.specs.Row.{Row, store, Config, count, outside, recordPage, standing, mayStand, recordOn}
-use Rattle.model.specs.Reading.{Reads, lengthOk, configOn, pageOf, backAt, settledAt}
+use Rattle.model.specs.Reading.{Reads, lengthOk, configOn, pageOf, usedAt, backAt, settledAt}
 use Rattle.model.specs.BeforeWalk.{trailerOf, isFree, pageCount, beforeWalk}
 use Rattle.model.specs.Claims.{PagesKeep}
 use Rattle.theory_rows.specs.Fits.{Fits, Placed, Valid}
@@ -34,8 +34,8 @@ use Rattle.theory_check.specs.Images.{image-is}
 
 record Checked (img : List ℕ) : Type 0 where
   whole : length img % pageSize ≡ 0
-  few : 2 ≤ length img / pageSize
-  many : length img / pageSize ≤ mostPages
+  few : 2 ≤ pageCount img
+  many : pageCount img ≤ mostPages
   passed : beforeWalk img ≡ true
   before : PagesKeep img
   tail : tailZero img 1 ≡ true
@@ -158,7 +158,8 @@ module _ (img : List ℕ) (bytes : AllBytes img) (c : Checked img) (root : Row) 
 
   rows : Fits (store root)
   rows =
-      (record-fits img 1 root (node-is p) (omega (arith, first .used, page-two img 1 (capacity + 2) (omega arith))) true (λ _ e. omega (arith, c .top)), fits p, tt)
+      let used : usedAt img (pageSize * 1) ≤ capacity = omega (arith, first .used, page-two img 1 (capacity + 2) (omega arith)) in
+      (record-fits img 1 root (node-is p) used true (λ _ e. omega (arith, c .top)), fits p, tt)
 
   is-valid : Valid (st img) root
   is-valid = record {

@@ -18,6 +18,14 @@ pub sum-same : (f g : ℕ → ℕ) (k p : ℕ) → ((q : ℕ) → p ≤ q → q 
 sum-same f g zero p h = refl
 sum-same f g (suc k) p h = ap₂ _+_ (h p (omega arith) (omega arith)) (sum-same f g k (suc p) (λ q l u. h q (omega arith) (omega arith)))
 
+pub sum-most : (f : ℕ → ℕ) → ((q : ℕ) → f q ≤ 1) → (k p : ℕ) → sum f k p ≤ k
+sum-most f h zero p = omega arith
+sum-most f h (suc k) p = omega (arith, h p, sum-most f h k (suc p))
+
+pub sum-none : (k p : ℕ) → sum (λ q. 0) k p ≡ 0
+sum-none zero p = refl
+sum-none (suc k) p = omega (arith, sum-none k (suc p))
+
 -- 1 for one page
 abbrev pub only : ℕ → ℕ → ℕ
 only x q = cond (eqb q x) 1 0

@@ -48,7 +48,8 @@ marked m p = set m (p / 8) (bitOr (getD m (p / 8) 0) (1 * 2 ^ (p % 8) % 256))
 
 -- ── pages ──
 
--- By its trailer page p holds a record whose proxy stands in the record of a page.
+-- By its trailer page p holds a record whose proxy stands in the record of a page. That its length fits is known before the walk, and said here so that
+-- the walk ends for any bytes.
 unfoldable pub namesOf : List ℕ → (p page : ℕ) → Bool
 namesOf img p page =
     let at = pageSize * p in

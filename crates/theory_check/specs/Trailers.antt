@@ -7,7 +7,7 @@ use native.Mathlib.Omega.{arith}
 use lib.ListN.{length, take, drop, getD, replicate, length-drop, take-append-drop, drop-of-length-le}
 use lib.Seq.{length-take-le, take-add, drop-drop, drop-cons, getD-drop}
 use lib.Dec.{eqb, leb}
-use borrow.Author.Tests.{eqb-true, eqb-false, leb-true}
+use borrow.Author.Tests.{eqb-true, leb-true}
 use Rattle.model.specs.Limits.{pageSize, capacity, settingsSize, matrixEntries}
 use Rattle.model.specs.Row.{Row, two, trailer, recordBytes, recordSize, recordPage, settingsPage, recordOn}
 use Rattle.model.specs.Reading.{twoAt, configOn, usedAt, backAt, stateAt, settledAt}
@@ -89,7 +89,7 @@ trailer-says pages p s e f =
 -- ── record pages ──
 
 -- A page with a record: the bytes used, zeros, the trailer.
-pub page-is : (pages p : ℕ) (s : List ℕ) → AllBytes s → length s ≡ pageSize → TrailerIs pages p s
+page-is : (pages p : ℕ) (s : List ℕ) → AllBytes s → length s ≡ pageSize → TrailerIs pages p s
     → allZero (take (capacity - usedAt s 0) (drop (usedAt s 0) s)) ≡ true
     → s ≡ take (usedAt s 0) s ++ replicate (capacity - usedAt s 0) 0 ++ trailer 1 (settledAt s 0) (usedAt s 0) (backAt s 0)
 page-is pages p s bytes long r tail =

@@ -337,7 +337,8 @@ pub +helper-check+list-check+node-check+proxy-check-spec : {M : Type 1} → stat
     let k = c .before .before .before .before .before .before .before .before .before .before .before .before in
     let s = k .before .before .before in
     let w = helper-whole t (c .before .before .before .before .before) in
-    (omega (arith, w, k .loop .inv .1, s .pre .0), (omega arith, s .pre .1 .0, omega (arith, k .loop .inv .1, s .pre .1 .1), omega (arith, w, s .pre .1 .2), s .pre .1 .3)))
+    let pre = s .pre .1 in
+    (omega (arith, w, k .loop .inv .1, s .pre .0), (omega arith, pre .0, omega (arith, k .loop .inv .1, pre .1), omega (arith, w, pre .2), pre .3)))
     -- add-n-3
     (λ c.
     let k = c .before .before .before .before .before .before .before .before .before .before .before .before .before .before in
@@ -435,7 +436,8 @@ pub +helper-check+list-check+node-check+proxy-check-spec : {M : Type 1} → stat
     let k = c .before .before .before .before .before .before .before .before .before .before .before .before in
     let s = k .before .before .before in
     let w = list-whole t (c .before .before .before .before .before) in
-    (omega (arith, w, k .loop .inv .1, s .pre .0), (omega arith, s .pre .1 .0, omega (arith, k .loop .inv .1, s .pre .1 .1), omega (arith, w, s .pre .1 .2), s .pre .1 .3)))
+    let pre = s .pre .1 in
+    (omega (arith, w, k .loop .inv .1, s .pre .0), (omega arith, pre .0, omega (arith, k .loop .inv .1, pre .1), omega (arith, w, pre .2), pre .3)))
     -- add-at-3
     (λ c.
     let s = c .before .before .before .before .before .before .before .before .before .before .before .before .before .before .before .before in

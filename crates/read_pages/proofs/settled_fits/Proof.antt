@@ -1,4 +1,3 @@
-use mathlib.Core.Path.{refl}
 use borrow.Author.Tests.{eq-eqb, ne-eqb}
 use Rattle.read_pages.proofs.settled_fits.Statement.{statement}
 use Rattle.read_pages.proofs.settled_fits.Tie as tie

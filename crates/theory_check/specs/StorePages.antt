@@ -1,8 +1,8 @@
 -- The image of a valid store passes the part before the walk, which finds as many pages in use as there are records.
-use mathlib.Core.Path.{_≡_, refl, ap, _∙_}
+use mathlib.Core.Path.{_≡_, refl, _∙_}
 use mathlib.Core.Bool.{Bool, true, false, cond, _||_}
 use mathlib.Core.List.{List, [], _∷_, _++_, map}
-use Prim.Native.Nat.{ℕ, zero, suc, _+_, _-_, _≤_, _<_}
+use Prim.Native.Nat.{ℕ, suc, _+_, _-_, _≤_, _<_}
 use native.Mathlib.Omega.{arith}
 use lib.Dec.{leb, eqb}
 use borrow.Author.Tests.{eqb-true, eqb-false, eq-eqb, ne-eqb, le-leb, leb-false, lt-ltb}
@@ -18,14 +18,10 @@ use Rattle.theory_decoding.specs.Steps.{recordCount, named-inside}
 use Rattle.theory_places.specs.Pages.{pages-count, pages-once}
 use Rattle.theory_check.specs.Check.{inUse}
 use Rattle.theory_check.specs.Pages.{free-fits, record-fits, record-used}
-use Rattle.theory_check.specs.Sums.{sum, sum-add, sum-same, only, sum-only}
+use Rattle.theory_check.specs.Sums.{sum, sum-add, sum-none, sum-same, only, sum-only}
 use Rattle.theory_check.specs.Images.{Each, each-++}
 
 -- ── sums ──
-
-sum-none : (k p : ℕ) → sum (λ q. 0) k p ≡ 0
-sum-none zero p = refl
-sum-none (suc k) p = omega (arith, sum-none k (suc p))
 
 -- each record is on one of the pages
 sum-count : (k p : ℕ) (r : Row) → ((q : ℕ) → 1 ≤ count q r → (p ≤ q) × (q < p + k)) → sum (λ q. count q r) k p ≡ recordCount r
