@@ -16,7 +16,7 @@
  * removal may stand in the node that it removes.
  * The image and the buffers stay the caller's; the library keeps no pointer. The functions keep no state and allocate nothing: they may be called
  * from several threads on different images. They need up to 28 KB of stack or, where records are nested deeply in one another, 10 KB and some
- * 360 bytes for each: up to 384 KB.
+ * 355 bytes for each: up to 384 KB.
  *
  * The format, for those who look at bytes: a record is a tree of nodes, each a header of six bytes (kind, origin, one byte each; label, size, two bytes
  * each, low byte first) and what it holds. Kind 1 is an aggregate, 2 a literal, 3 a proxy: two bytes that name the page of the record that stands in its

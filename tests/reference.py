@@ -710,7 +710,7 @@ def listing(image):
 
 # ---- Replay of call scripts
 
-RULES = "3"                                           # the rule set: the base with E1 to E3
+RULES = "3"                                           # the rule set: the base with E1 to E3; E4 changes no answer
 
 
 def from_hex(text):
