@@ -1,6 +1,6 @@
 -- The marks that a walk leaves, and the pages that it may still enter.
 use mathlib.Core.Path.{_≡_, refl, _∙_}
-use mathlib.Core.Bool.{Bool, true, false, cond}
+use mathlib.Core.Bool.{false}
 use mathlib.Core.List.{List}
 use Prim.Native.Nat.{ℕ, _+_, _≤_, _<_}
 use native.Mathlib.Omega.{arith}
@@ -8,6 +8,7 @@ use lib.Dec.{eqb}
 use Rattle.model.specs.Limits.{mostPages}
 use Rattle.model.specs.Row.{Row, nil, agg, lit, rec, count}
 use Rattle.theory_decoding.specs.Valid.{names-own}
+use Rattle.theory_check.specs.Facts.{not-one}
 use Rattle.theory_check.specs.Tests.{isMarked, marked}
 use Rattle.theory_check.specs.Marks.{IsMarks, marks-kept, is-marked}
 
@@ -22,10 +23,6 @@ marksAfter (rec p s r rest) m = marksAfter rest (marksAfter r (marked m p))
 record Kept (row : Row) (m new : List ℕ) : Type 0 where
   marks : IsMarks new
   same : (q : ℕ) → q < mostPages → count q row ≡ 0 → isMarked new q ≡ isMarked m q
-
-not-one : (b : Bool) → _≡_ {A = ℕ} (cond b 1 0) 0 → b ≡ false
-not-one true e = absurd (omega arith)
-not-one false e = refl
 
 kept : (row : Row) (m : List ℕ) → IsMarks m → ((q : ℕ) → 1 ≤ count q row → q < mostPages) → Kept row m (marksAfter row m)
 kept nil m i r = record { marks = i; same = λ q l z. refl }

@@ -9,20 +9,21 @@ use lib.Dec.{eqb, leb}
 use borrow.Author.Tests.{eqb-true, ne-eqb, leb-true, leb-false}
 use Rattle.model.specs.Limits.{mostPages, pageSize, capacity, markBytes}
 use Rattle.model.specs.Row.{Row, store, Config, count, outside, recordPage, standing, mayStand, recordOn}
-use Rattle.model.specs.Reading.{Reads, lengthOk, configOn, pageOf, usedAt, backAt, settledAt}
+use Rattle.model.specs.Reading.{Reads, lengthOk, configOn, pageOf, backAt, settledAt}
 use Rattle.model.specs.BeforeWalk.{trailerOf, isFree, pageCount, beforeWalk}
 use Rattle.model.specs.Claims.{PagesKeep}
 use Rattle.theory_rows.specs.Fits.{Fits, Placed, Valid}
+use Rattle.theory_rows.specs.Image.{placed-once}
 use Rattle.theory_decoding.specs.Valid as valid
 use Rattle.theory_decoding.specs.Valid.{valid-holds}
-use Rattle.theory_check.specs.Facts.{both, not-else}
+use Rattle.theory_check.specs.Facts.{bit-low, not-else}
 use Rattle.theory_check.specs.Tests.{isMarked, tailZero}
 use Rattle.theory_check.specs.Walk.{State, state, recordOf, node}
 use Rattle.theory_check.specs.Check.{inUse, trailersOf, walkOf, walkOk, checkBy}
-use Rattle.theory_check.specs.Before.{before-says, first-used, trailers-are}
+use Rattle.theory_check.specs.Before.{before-says, first-used, used-fits, trailers-are}
 use Rattle.theory_check.specs.Marks.{marks-none}
 use Rattle.theory_check.specs.Heads.{AllBytes}
-use Rattle.theory_check.specs.Trailers.{TrailerIs, trailer-says, zero-page, SettingsIs, settings-say}
+use Rattle.theory_check.specs.Trailers.{TrailerIs, trailer-says, blank-page, SettingsIs, settings-say}
 use Rattle.theory_check.specs.Passes.{Passes, passes, record-bytes}
 use Rattle.theory_check.specs.Rows.{node-is, first-byte, record-fits, fits, levels}
 use Rattle.theory_check.specs.Parts.{page-bytes, page-long, page-byte, page-two, page-record}
@@ -37,7 +38,6 @@ record Checked (img : List ℕ) : Type 0 where
   few : 2 ≤ pageCount img
   many : pageCount img ≤ mostPages
   passed : beforeWalk img ≡ true
-  before : PagesKeep img
   tail : tailZero img 1 ≡ true
   top : getD img pageSize 0 ≡ 1
   ended : walkOf img (trailersOf img) .walk .left ≡ 1
@@ -58,7 +58,6 @@ check-says img e =
       few = leb-true 2 (n / pageSize) (least .1);
       many = leb-true (n / pageSize) mostPages (sizes .1);
       passed = before-ok .0;
-      before = before-says img (before-ok .0);
       tail = front .1;
       top = eqb-true (getD img pageSize 0) 1 (front .0);
       ended = eqb-true (walkOf img k .walk .left) 1 (walk-ok .1);
@@ -75,22 +74,22 @@ module _ (img : List ℕ) (bytes : AllBytes img) (c : Checked img) (root : Row) 
   abbrev pages : ℕ
   pages = pageCount img
 
+  keep : PagesKeep img
+  keep = before-says img (c .passed)
+
   inside : (q : ℕ) → q < pages → pageSize * q + pageSize ≤ length img
   inside q h = omega arith
 
   settings : SettingsIs (pageOf img 0) pages
   settings =
-      settings-say (pageOf img 0) pages (page-bytes img 0 bytes) (page-long img 0 (inside 0 (omega (arith, c .few)))) (c .before .settings)
+      settings-say (pageOf img 0) pages (page-bytes img 0 bytes) (page-long img 0 (inside 0 (omega (arith, c .few)))) (keep .settings)
 
   -- page 1 is in use
   one-used : isFree (trailerOf (pageOf img 1)) ≡ false
   one-used = first-used img (c .few) (c .passed)
 
   first : TrailerIs pages 1 (pageOf img 1)
-  first = trailer-says pages 1 (pageOf img 1) (c .before .trailers 1 (omega arith) (omega (arith, c .few))) one-used
-
-  bit-low : (b : Bool) → cond b 1 0 ≤ 1
-  bit-low b = both (λ n. n ≤ 1) b {x = 1} {y = 0} (omega arith) (omega arith)
+  first = trailer-says pages 1 (pageOf img 1) (keep .trailers 1 (omega arith) (omega (arith, c .few))) one-used
 
   -- a page that is free is not named
   unnamed : (q : ℕ) → hasRecord img q ≡ false → count q root ≡ 0
@@ -106,13 +105,6 @@ module _ (img : List ℕ) (bytes : AllBytes img) (c : Checked img) (root : Row) 
       go false false d e =
           omega (arith, marks p marks-none .once q (omega (arith, leb-false pages q e, c .many)), bit-low (isMarked (v .marks) q))
 
-  once : (q : ℕ) → count q (store root) ≤ 1
-  once q = go (eqb q 1) refl
-    where
-      go : (b : Bool) → eqb q 1 ≡ b → cond b 1 0 + count q root + 0 ≤ 1
-      go true e = rw (eqb-true q 1 e) (omega (arith, placed 1))
-      go false e = omega (arith, placed q, both (λ n. n ≤ 1) (outside pages q) {x = 0} {y = 1} (omega arith) (omega arith))
-
   -- so each is named no more often than it is in use,
   named-low : (q : ℕ) → count q (store root) ≤ inUse img q
   named-low q = go (isFree (trailerOf (pageOf img q))) refl
@@ -122,7 +114,7 @@ module _ (img : List ℕ) (bytes : AllBytes img) (c : Checked img) (root : Row) 
           let other : eqb q 1 ≡ false =
           ne-eqb q 1 (λ d. true≢false (sym e ∙ ap (λ (n : ℕ). isFree (trailerOf (pageOf img n))) d ∙ one-used)) in
           rw other (omega (arith, unnamed q (rw e (and-false (not (outside pages q))))))
-      go false e = once q
+      go false e = placed-once pages root placed q
 
   -- and as there are as many names as pages in use, every page in use is named.
   reached : (q : ℕ) → 1 ≤ q → q < pages → inUse img q ≤ count q (store root)
@@ -145,7 +137,7 @@ module _ (img : List ℕ) (bytes : AllBytes img) (c : Checked img) (root : Row) 
   free q a b z = go (isFree (trailerOf (pageOf img q))) refl (reached q a b)
     where
       go : (t : Bool) → isFree (trailerOf (pageOf img q)) ≡ t → cond t 0 1 ≤ count q (store root) → pageOf img q ≡ replicate pageSize 0
-      go true e l = zero-page (pageOf img q) (page-long img q (inside q b)) (c .before .free q a b e)
+      go true e l = blank-page (pageOf img q) (page-long img q (inside q b)) (keep .free q a b e)
       go false e l = absurd (omega arith)
 
   on-one : pageOf img 1 ≡ recordPage (recordOn 1 true 0 root)
@@ -158,7 +150,7 @@ module _ (img : List ℕ) (bytes : AllBytes img) (c : Checked img) (root : Row) 
 
   rows : Fits (store root)
   rows =
-      let used : usedAt img (pageSize * 1) ≤ capacity = omega (arith, first .used, page-two img 1 (capacity + 2) (omega arith)) in
+      let used = used-fits img 1 (c .passed) (omega arith) (omega (arith, c .few)) one-used in
       (record-fits img 1 root (node-is p) used true (λ _ e. omega (arith, c .top)), fits p, tt)
 
   is-valid : Valid (st img) root
@@ -176,7 +168,7 @@ module _ (img : List ℕ) (bytes : AllBytes img) (c : Checked img) (root : Row) 
     same =
         let n = settings .pages in
         image-is img (st img) root (omega (arith, c .few)) (omega (arith, c .whole)) (settings .same)
-        (on-one, stored img bytes (c .before .trailers) p, tt) (λ q a b. free q a (omega arith));
+        (on-one, stored img bytes (keep .trailers) p, tt) (λ q a b. free q a (omega arith));
   }
 
 -- What it reads as: the walk's row, with the settings of page 0.

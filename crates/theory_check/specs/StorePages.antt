@@ -16,6 +16,7 @@ use Rattle.theory_rows.specs.Image.{AllFit, all-fit, image-page, once}
 use Rattle.theory_decoding.specs.Valid.{names-own}
 use Rattle.theory_decoding.specs.Steps.{recordCount, named-inside}
 use Rattle.theory_places.specs.Pages.{pages-count, pages-once}
+use Rattle.theory_check.specs.Facts.{bit-low, not-one}
 use Rattle.theory_check.specs.Check.{inUse}
 use Rattle.theory_check.specs.Pages.{free-fits, record-fits, record-used}
 use Rattle.theory_check.specs.Sums.{sum, sum-add, sum-none, sum-same, only, sum-only}
@@ -62,46 +63,38 @@ used-at (h ∷ hs) f q l = go (eqb q (h .page)) l (used-at hs (f .1) q)
 
 -- ── each page keeps the rules ──
 
-not-two : (b : Bool) → leb (cond b 1 0) 1 ≡ true
-not-two true = refl
-not-two false = refl
+-- The page that a record is on keeps the rules by itself.
+abbrev Keeps : (pages : ℕ) → Held → Type 0
+Keeps pages h = pageFits pages (h .page) (recordPage h) ≡ true
 
-not-one : (b : Bool) → _≡_ {A = ℕ} (cond b 1 0) 0 → b ≡ false
-not-one true e = absurd (omega arith)
-not-one false e = refl
+-- The records of a row, whose own record on page h is not among them: each is on a page of its own, so it does not hold itself.
+keeps-records : (pages : ℕ) → pages ≤ mostPages → (h : ℕ) (row : Row) → Fits row → 1 ≤ h → h < pages → count h row ≡ 0 → ((q : ℕ) → count q row ≤ 1)
+    → ((q : ℕ) → 1 ≤ count q row → (2 ≤ q) × (q < pages)) → Each (Keeps pages) (records h row)
+keeps-records pages m h nil f a b o c r = tt
+keeps-records pages m h (agg l cs rest) f a b o c r =
+    each-++ (Keeps pages) (records h cs) (records h rest)
+    (keeps-records pages m h cs (f .1) a b (omega arith) (λ q. omega (arith, c q)) (λ q g. r q (omega arith)))
+    (keeps-records pages m h rest (f .2) a b (omega arith) (λ q. omega (arith, c q)) (λ q g. r q (omega arith)))
+keeps-records pages m h (lit l x rest) f a b o c r = keeps-records pages m h rest (f .3) a b o c r
+keeps-records pages m h (rec p s x rest) f a b o c r =
+    let low = r p (names-own p s x rest) in
+    let alone : cond true 1 0 + count p x + count p rest ≤ 1 = rw (eq-eqb p p refl) at (c p) in
+    let later : eqb p 1 ≡ false = ne-eqb p 1 (λ e. omega arith) in
+    let other : eqb h p ≡ false = not-one (eqb h p) (omega arith) in (
+      record-fits (recordOn p s h x) (f .0 .fits) (omega arith) pages (rw later (le-leb _ 1 (bit-low s)))
+          (rw (later, le-leb 1 h a, lt-ltb h pages b, other)),
+      each-++ (Keeps pages) (records p x) (records h rest)
+          (keeps-records pages m p x (f .1) (omega arith) (low .1) (omega arith) (λ q. omega (arith, c q)) (λ q g. r q (omega arith)))
+          (keeps-records pages m h rest (f .2) a b (omega arith) (λ q. omega (arith, c q)) (λ q g. r q (omega arith))),
+    )
 
-module _ (pages : ℕ) (many : pages ≤ mostPages) where
-  abbrev Keeps : Held → Type 0
-  Keeps h = pageFits pages (h .page) (recordPage h) ≡ true
-
-  -- The records of a row, whose own record on page h is not among them: each is on a page of its own, so it does not hold itself.
-  keeps-records : (h : ℕ) (row : Row) → Fits row → 1 ≤ h → h < pages → count h row ≡ 0 → ((q : ℕ) → count q row ≤ 1)
-      → ((q : ℕ) → 1 ≤ count q row → (2 ≤ q) × (q < pages)) → Each Keeps (records h row)
-  keeps-records h nil f a b o c r = tt
-  keeps-records h (agg l cs rest) f a b o c r =
-      each-++ Keeps (records h cs) (records h rest)
-      (keeps-records h cs (f .1) a b (omega arith) (λ q. omega (arith, c q)) (λ q g. r q (omega arith)))
-      (keeps-records h rest (f .2) a b (omega arith) (λ q. omega (arith, c q)) (λ q g. r q (omega arith)))
-  keeps-records h (lit l x rest) f a b o c r = keeps-records h rest (f .3) a b o c r
-  keeps-records h (rec p s x rest) f a b o c r =
-      let low = r p (names-own p s x rest) in
-      let alone : cond true 1 0 + count p x + count p rest ≤ 1 = rw (eq-eqb p p refl) at (c p) in
-      let later : eqb p 1 ≡ false = ne-eqb p 1 (λ e. omega arith) in
-      let other : eqb h p ≡ false = not-one (eqb h p) (omega arith) in (
-        record-fits (recordOn p s h x) (f .0 .fits) (omega arith) pages (rw later (not-two s))
-            (rw (later, le-leb 1 h a, lt-ltb h pages b, other)),
-        each-++ Keeps (records p x) (records h rest)
-            (keeps-records p x (f .1) (omega arith) (low .1) (omega arith) (λ q. omega (arith, c q)) (λ q g. r q (omega arith)))
-            (keeps-records h rest (f .2) a b (omega arith) (λ q. omega (arith, c q)) (λ q g. r q (omega arith))),
-      )
-
-  keeps-at : (hs : List Held) → Each Keeps hs → (q : ℕ) → (q ≡ 1 → ⊥) → pageFits pages q (pageAt hs q) ≡ true
-  keeps-at [] k q n = free-fits pages q n
-  keeps-at (h ∷ hs) k q n = go (eqb q (h .page)) refl (keeps-at hs (k .1) q n)
-    where
-      go : (b : Bool) → eqb q (h .page) ≡ b → pageFits pages q (pageAt hs q) ≡ true → pageFits pages q (cond b (recordPage h) (pageAt hs q)) ≡ true
-      go true e ih = rw (eqb-true q (h .page) e) (k .0)
-      go false e ih = ih
+keeps-at : (pages : ℕ) (hs : List Held) → Each (Keeps pages) hs → (q : ℕ) → (q ≡ 1 → ⊥) → pageFits pages q (pageAt hs q) ≡ true
+keeps-at pages [] k q n = free-fits pages q n
+keeps-at pages (h ∷ hs) k q n = go (eqb q (h .page)) refl (keeps-at pages hs (k .1) q n)
+  where
+    go : (b : Bool) → eqb q (h .page) ≡ b → pageFits pages q (pageAt hs q) ≡ true → pageFits pages q (cond b (recordPage h) (pageAt hs q)) ≡ true
+    go true e ih = rw (eqb-true q (h .page) e) (k .0)
+    go false e ih = ih
 
 module _ (st : Config) (root : Row) (v : Valid st root) where
   -- A page that a proxy names is a page of the image past page 1.
@@ -113,9 +106,9 @@ module _ (st : Config) (root : Row) (v : Valid st root) where
       go false true d e l = absurd (omega arith)
       go false false d e l = omega (arith, leb-false q 1 d, leb-false (st .pages) q e)
 
-  others : Each (Keeps (st .pages) (v .ranges .many)) (records 1 root ++ [])
+  others : Each (Keeps (st .pages)) (records 1 root ++ [])
   others =
-      each-++ (Keeps (st .pages) (v .ranges .many)) (records 1 root) []
+      each-++ (Keeps (st .pages)) (records 1 root) []
       (keeps-records (st .pages) (v .ranges .many) 1 root (v .rows .1) (omega arith) (omega (arith, v .ranges .few))
       (omega (arith, pages-once st root v 1, pages-count root 1)) (λ q. omega (arith, once st root v q)) named-range)
       tt
@@ -126,7 +119,7 @@ module _ (st : Config) (root : Row) (v : Valid st root) where
     where
       go : (t : Bool) → eqb q 1 ≡ t → pageFits (st .pages) q (cond t (recordPage (recordOn 1 true 0 root)) (pageAt (records 1 root ++ []) q)) ≡ true
       go true e = rw (eqb-true q 1 e) (record-fits (recordOn 1 true 0 root) (v .rows .0 .fits) (omega arith) (st .pages) refl refl)
-      go false e = keeps-at (st .pages) (v .ranges .many) (records 1 root ++ []) others q (eqb-false q 1 e)
+      go false e = keeps-at (st .pages) (records 1 root ++ []) others q (eqb-false q 1 e)
 
   -- The pages in use are those of the records.
   pub image-used : sum (inUse (image st root)) (st .pages - 1) 1 ≡ suc (recordCount root)

@@ -122,8 +122,8 @@ record-page pages p s bytes long k tail r e =
     page-is pages p s bytes long k tail ∙ λ i. e i ++ replicate (capacity - n i) 0 ++ trailer 1 (b i) (n i) (backAt s 0)
 
 -- A page that is all zero is blank.
-pub zero-page : (s : List ℕ) → length s ≡ pageSize → allZero s ≡ true → s ≡ replicate pageSize 0
-zero-page s long z = zeros s z pageSize long
+pub blank-page : (s : List ℕ) → length s ≡ pageSize → allZero s ≡ true → s ≡ replicate pageSize 0
+blank-page s long z = zeros s z pageSize long
 
 -- ── the settings page ──
 

@@ -11,7 +11,7 @@ use lib.Dec.{eqb}
 use Rattle.model.specs.Limits.{pageSize, capacity}
 use Rattle.model.specs.Row.{Row, nil, agg, lit, rec, size, lone, recordSize, bytes, recordBytes, header, Held, records, recordPage, settingsPage, pageAt}
 use Rattle.model.specs.Row.{pagesFrom, image, Config, store, count, outside, noHead, recordOn}
-use Rattle.theory_rows.specs.Fits.{Fits, Valid}
+use Rattle.theory_rows.specs.Fits.{Fits, Placed, Valid}
 use Rattle.model.specs.Reading.{pageOf}
 use Rattle.theory_rows.specs.Laws.{length-bytes, cond-case}
 
@@ -109,6 +109,14 @@ page-slice hs f (suc n) (suc k) q h =
 pub length-settings : (st : Config) → length (st .matrix) ≡ 256 → length (settingsPage st) ≡ pageSize
 length-settings st m = simp (length-append, length-replicate, m)
 
+-- A root that names no page twice, and neither page 1 nor one outside: with page 1 as its own no page is named twice.
+pub placed-once : (pages : ℕ) (root : Row) → Placed pages root → (q : ℕ) → count q (store root) ≤ 1
+placed-once pages root placed q = go (eqb q 1) refl
+  where
+    go : (b : Bool) → eqb q 1 ≡ b → cond b 1 0 + count q root + 0 ≤ 1
+    go true e = omega (arith, subst (λ (n : ℕ). count n root ≤ 0) (sym (eqb-true q 1 e)) (placed 1))
+    go false e = omega (arith, placed q, cond-case (λ n. n ≤ 1) (outside pages q) {x = 0} {y = 1} (λ _. omega arith) (λ _. omega arith))
+
 module _ (st : Config) (root : Row) (v : Valid st root) where
   pub all-fit : AllFit (records 0 (store root))
   all-fit = fits-records 0 (store root) (v .rows)
@@ -123,11 +131,7 @@ module _ (st : Config) (root : Row) (v : Valid st root) where
       (page-slice (records 0 (store root)) all-fit (st .pages - 1) k 1 (omega arith) ∙ ap (pageAt (records 0 (store root))) b)
 
   pub once : (q : ℕ) → count q (store root) ≤ 1
-  once q = go (eqb q 1) refl
-    where
-      go : (b : Bool) → eqb q 1 ≡ b → cond b 1 0 + count q root + 0 ≤ 1
-      go true e = omega (arith, subst (λ (n : ℕ). count n root ≤ 0) (sym (eqb-true q 1 e)) (v .placed 1))
-      go false e = omega (arith, v .placed q, cond-case (λ n. n ≤ 1) (outside (st .pages) q) {x = 0} {y = 1} (λ _. omega arith) (λ _. omega arith))
+  once = placed-once (st .pages) root (v .placed)
 
   -- In the image of a valid store each record stands on its page.
   pub image-stored : Stored (pageAt (records 0 (store root))) 0 (store root)
