@@ -1,5 +1,5 @@
 /* Find, climb, next and insert on the same format, as a C programmer would write them; not proved. Like the library, each call checks the image first.
- * Answers are positions in the image (page * 4096 + offset); 0 stands for none or refused. */
+ * What they are made of, and the removal, do not: the image passes. Answers are positions in the image (page * 4096 + offset); 0 stands for none or refused. */
 #ifndef CALLS_H
 #define CALLS_H
 
@@ -57,12 +57,12 @@ static size_t proxy_to(const uint8_t *image, unsigned holder, unsigned page) {
     return at;
 }
 
-static size_t plain_find(const uint8_t *image, size_t len, const uint8_t *path, size_t path_len) {
+static inline size_t plain_find(const uint8_t *image, size_t len, const uint8_t *path, size_t path_len) {
     if (plain_check(image, len) || path_len > 92 || path_len % 4) return 0;
     return walk_path(image, path, path_len);
 }
 
-static size_t plain_next(const uint8_t *image, size_t len, size_t at) {
+static inline size_t plain_next(const uint8_t *image, size_t len, size_t at) {
     if (plain_check(image, len)) return 0;
     unsigned page = (unsigned)(at / 4096);
     size_t end;
@@ -97,7 +97,7 @@ static void trace_up(const uint8_t *image, size_t at, size_t target, uint32_t ca
     *index = n;
 }
 
-static size_t plain_climb(const uint8_t *image, size_t len, size_t at, uint8_t *path) {
+static inline size_t plain_climb(const uint8_t *image, size_t len, size_t at, uint8_t *path) {
     if (plain_check(image, len)) return 0;
     uint8_t whole[92];
     size_t start = 92, end;
@@ -116,16 +116,18 @@ static size_t plain_climb(const uint8_t *image, size_t len, size_t at, uint8_t *
 /* ── insert ── */
 
 struct growing {
-    uint8_t *image, used[1024];
+    uint8_t *image, changed[1024]; /* what becomes of a page: a dry insert writes nothing */
     unsigned pages, target, tolerance;
     int dry, full;
 };
 
+enum { TAKEN = 1, FREED = 2 };
+
 static unsigned free_page(struct growing *g, unsigned near) {
     unsigned q = near;
     for (unsigned n = g->pages; n; n--, q = q + 1 < g->pages ? q + 1 : 2)
-        if (!g->used[q]) {
-            g->used[q] = 1;
+        if (q < g->pages && (g->changed[q] ? g->changed[q] == FREED : !g->image[4096u * (size_t)q + 4080])) {
+            g->changed[q] = TAKEN;
             return q;
         }
     g->full = 1;
@@ -217,7 +219,7 @@ static int grow_up(struct growing *g, unsigned page, uint8_t *buf, size_t len) {
             return splits;
         }
         if (!settled) {
-            g->used[page] = 0;
+            g->changed[page] = FREED;
             if (!g->dry) memset(p, 0, 4096);
         }
         size_t n = buf[0] == 1 ? 6 : 0;
@@ -236,14 +238,36 @@ static int grow_up(struct growing *g, unsigned page, uint8_t *buf, size_t len) {
     }
 }
 
+/* Step 1 of growth before E5 looked at no right sibling; only fill.c, which compares the two, sets this. */
+static int left_sibling_only;
+
+/* Directly after a sibling, or before it; if it is a record's root, after or before its proxy. */
+static size_t beside(const uint8_t *image, size_t sibling, int after) {
+    if (sibling % 4096 == 0) sibling = proxy_to(image, get16(image + sibling + 4084), (unsigned)(sibling / 4096));
+    return after ? sibling + get16(image + sibling + 4) : sibling;
+}
+
+static unsigned unused_at(const uint8_t *image, size_t spot) { return 4080 - get16(image + spot / 4096 * 4096 + 4082); }
+
+/* Step 1 of growth: where child number `child` of the parent goes, or 0 if that leaves a gap. */
+static size_t spot_of(const uint8_t *image, size_t parent, uint32_t child) {
+    size_t row = parent + 6, end = parent + get16(image + parent + 4), left = 0, right = 0, after, before;
+    uint32_t k = child - 1, n = child;
+    if (child && !(left = nth_of(image, row, end, &k))) return 0;
+    if (!left_sibling_only) right = nth_of(image, row, end, &n);
+    after = left ? beside(image, left, 1) : row;
+    if (!right) return after;
+    before = beside(image, right, 0);
+    return !left || unused_at(image, before) > unused_at(image, after) ? before : after;
+}
+
 static unsigned class_of(unsigned label) { return label < 15 ? label : 15; }
 
+/* One insert at a spot below the parent; if it is dry, nothing is written, and one learns whether a page is missing. Gives the number of splits. */
 static int plain_once(uint8_t *image, size_t len, size_t parent, size_t goes, const uint8_t *node, size_t size, int dry, int *full) {
     struct growing g = {image, {0}, (unsigned)(len / 4096), image[2], get16(image + 4), dry, 0};
     uint8_t buf[4700], proxy[8];
     unsigned page = (unsigned)(goes / 4096);
-    memset(g.used, 1, sizeof g.used);
-    for (unsigned p = 2; p < g.pages; p++) g.used[p] = image[4096u * (size_t)p + 4080];
     if (!image[16 + 16 * class_of(get16(image + parent + 2)) + class_of(get16(node + 2))]) {
         unsigned q = free_page(&g, page);
         put_page(&g, q, node, size, 1, page);
@@ -259,22 +283,16 @@ static int plain_once(uint8_t *image, size_t len, size_t parent, size_t goes, co
 }
 
 /* The number of splits, or -1 if refused; the new node's position. */
-static int plain_insert(uint8_t *image, size_t len, const uint8_t *path, size_t path_len, uint32_t child, unsigned kind, unsigned origin, unsigned label,
-                        const uint8_t *content, size_t content_len, size_t *place) {
+static inline int plain_insert(uint8_t *image, size_t len, const uint8_t *path, size_t path_len, uint32_t child, unsigned kind, unsigned origin,
+                               unsigned label, const uint8_t *content, size_t content_len, size_t *place) {
     uint8_t node[526], whole[92];
     size_t parent, goes;
     int full, splits;
     if (plain_check(image, len) || path_len > 88 || path_len % 4 || origin > 3 || content_len > 520) return -1;
     parent = walk_path(image, path, path_len);
     if (!parent || image[parent] != 1) return -1;
-    goes = parent + 6;
-    if (child) {
-        uint32_t k = child - 1;
-        size_t left = nth_of(image, parent + 6, parent + get16(image + parent + 4), &k);
-        if (!left) return -1;
-        goes = left + get16(image + left + 4);
-        if (left % 4096 == 0) goes = proxy_to(image, get16(image + left + 4084), (unsigned)(left / 4096)) + 8;
-    }
+    goes = spot_of(image, parent, child);
+    if (!goes) return -1;
     memcpy(put_node(node, kind, label, (unsigned)content_len + 6), content, content_len);
     node[1] = (uint8_t)origin;
     plain_once(image, len, parent, goes, node, content_len + 6, 1, &full);
@@ -284,6 +302,45 @@ static int plain_insert(uint8_t *image, size_t len, const uint8_t *path, size_t 
     for (int i = 0; i < 4; i++) whole[path_len + (size_t)i] = (uint8_t)(child >> (8 * i));
     *place = walk_path(image, whole, path_len + 4);
     return splits;
+}
+
+/* ── remove ── */
+
+/* Frees the records of the proxies in these bytes, and all below them. */
+static inline void free_below(uint8_t *image, size_t at, size_t end) {
+    for (; at < end; at += image[at] == 1 ? 6 : get16(image + at + 4))
+        if (image[at] == 3) {
+            unsigned page = get16(image + at + 6);
+            size_t stop, row = row_of(image, page, &stop);
+            free_below(image, row, stop);
+            memset(image + 4096u * (size_t)page, 0, 4096);
+        }
+}
+
+/* Removes the node at a position. */
+static inline void drop_node(uint8_t *image, size_t at) {
+    uint8_t next[4096];
+    free_below(image, at, at + get16(image + at + 4));
+    if (at % 4096 == 0) {
+        size_t proxy = proxy_to(image, get16(image + at + 4084), (unsigned)(at / 4096));
+        memset(image + at, 0, 4096);
+        at = proxy;
+    }
+    uint8_t *rec = image + at / 4096 * 4096;
+    size_t from = at % 4096, used = splice_in(rec, get16(rec + 4082), from, get16(image + at + 4), rec, 0, around(rec, from), next);
+    unsigned page = (unsigned)(at / 4096), holder = get16(rec + 4084);
+    size_t helper = next[0] == 4 && 6 + get16(next + 10) == used ? 6 : 0; /* left with one child */
+    if (helper && next[6] == 3) {
+        unsigned child = get16(next + 12);
+        put16(image + proxy_to(image, holder, page) + 6, child);
+        put16(image + 4096u * (size_t)child + 4084, holder);
+        memset(rec, 0, 4096);
+        return;
+    }
+    used -= helper;
+    memcpy(rec, next + helper, used);
+    memset(rec + used, 0, 4080 - used);
+    put16(rec + 4082, (unsigned)used);
 }
 
 #endif

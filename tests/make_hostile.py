@@ -106,6 +106,14 @@ def some_removal(rng, entries):
     return "remove " + ref.to_hex(path)
 
 
+def some_position(rng, entries):
+    """A path and a child number of an insert: directly before or after some node, or any."""
+    node = rng.choice(entries).path if entries else ()
+    if node and rng.random() < 0.4:
+        return ref.path_bytes(node[:-1]), node[-1] + rng.randrange(2)
+    return made.some_path(rng, entries), rng.choice((0, 0, 1, rng.randrange(8), some_number(rng)))
+
+
 def some_call(rng, entries):
     """A call with arguments that are right, nearly right, or wrong."""
     kind = rng.randrange(24)
@@ -113,10 +121,10 @@ def some_call(rng, entries):
         return some_removal(rng, entries)
     if kind < 5:
         content = bytes([rng.randrange(256)]) * rng.choice((0, 0, 1, 6, 100, 519, 520, 521, 600))
-        child = rng.choice((0, 0, 1, rng.randrange(8), some_number(rng)))
+        path, child = some_position(rng, entries)
         origin = rng.choice((0, 1, 2, 3, rng.randrange(4), rng.choice(made.WRONG_ORIGINS)))
-        return "insert %s %d %d %d %d %s" % (ref.to_hex(made.some_path(rng, entries)), child, rng.choice((1, 1, 2, 2, 2, 0, 3, 258)), origin,
-                                             rng.choice((0, 7, 15, 65535)), ref.to_hex(content))
+        return "insert %s %d %d %d %d %s" % (ref.to_hex(path), child, rng.choice((1, 1, 2, 2, 2, 0, 3, 258)), origin, rng.choice((0, 7, 15, 65535)),
+                                             ref.to_hex(content))
     if kind < 8:
         return "find " + ref.to_hex(made.some_path(rng, entries))
     if kind < 11:

@@ -1,6 +1,6 @@
 """Writes a call script of random inserts with the reference's answers: many stores with settings over the whole ranges, grown in ways that reach
-what matters in growth (records near their limit, cascades of splits, deep chains, wide rows, records set apart, full stores, refusals). Half of
-the stores start empty; the others start from an image that is made at random, with records of every shape on any pages.
+what matters in growth (records near their limit, cascades of splits, deep chains, wide rows, siblings in two records, records set apart, full stores,
+refusals). Half of the stores start empty; the others start from an image that is made at random, with records of every shape on any pages.
 
     make_inserts.py SEED COUNT > SCRIPT
 
@@ -62,6 +62,64 @@ def path_to(record, node):
         node, record = siblings[at], record.holder
 
 
+def holders(record):
+    """A record, the one that holds its proxy, and so on up to the root's."""
+    chain = []
+    while record is not None:
+        chain.append(record)
+        record = record.holder
+    return chain
+
+
+# ---- Step 1 of growth
+
+# What it meets, as it is counted: which siblings there are; with spots in two records, which of these is emptier; which of them is a helper's record that
+# the other one holds, if one is; and siblings that are records' roots.
+STEP_1 = (("no sibling", "left only", "right only", "right only, in a helper's record", "both in one record"),
+          ("left emptier", "right emptier", "equal", "right emptier, set apart"),
+          ("right in a helper's record and left outside", "left in one and right outside", "through two helpers or more", "in helpers' records side by side"),
+          ("left is a root", "right is a root", "left's own record decides otherwise", "right's own record decides otherwise"))
+
+
+def step_1_meets(store, path, child, label):
+    """What step 1 meets in an insert, by name; the store is that before it. A refused insert may meet nothing."""
+    try:
+        parent, record = ref.node_of_path(store, path)
+        after, before = ref.spots_offered(parent, record, child)
+    except ref.Refused:
+        return
+    if not after or not before:
+        yield "left only" if after else "right only" if before else "no sibling"
+        if before and before[2] is not record:
+            yield "right only, in a helper's record"
+        return
+    left, right = after[2], before[2]
+    if left is right:
+        yield "both in one record"
+        return
+    goes_right = ref.unused(right) > ref.unused(left)
+    yield "right emptier" if goes_right else "equal" if ref.unused(right) == ref.unused(left) else "left emptier"
+    if goes_right and ref.is_apart(store.settings, parent, ref.Node(ref.LITERAL, label)):
+        yield "right emptier, set apart"
+    inner, outer = (right, left) if left in holders(right) else (left, right)
+    if outer not in holders(inner):
+        yield "in helpers' records side by side"
+    else:
+        yield "right in a helper's record and left outside" if inner is right else "left in one and right outside"
+        if inner.holder is not outer:
+            yield "through two helpers or more"
+    # the record that a sibling is the root of, if it is one; its unused bytes play no part
+    left_own, right_own = after[0][after[1] - 1].record, before[0][before[1]].record
+    if left_own:
+        yield "left is a root"
+        if (ref.unused(right) > ref.unused(left_own)) != goes_right:
+            yield "left's own record decides otherwise"
+    if right_own:
+        yield "right is a root"
+        if (ref.unused(right_own) > ref.unused(left)) != goes_right:
+            yield "right's own record decides otherwise"
+
+
 # ---- One store
 
 class Done(Exception):
@@ -77,6 +135,7 @@ class Counts:
         self.origins = [0] * ref.ORIGINS              # of accepted ones
         self.splits = [0, 0, 0, 0]                    # none, one, two, three or more
         self.leans = [0, 0]
+        self.step_1 = {name: 0 for names in STEP_1 for name in names}
         self.stores_of = dict.fromkeys(ref.TARGETS, 0)
         self.halves = {target: [0, 0] for target in ref.TARGETS}      # splits at an exact half: to the number below, and above
 
@@ -99,6 +158,8 @@ class Counts:
         yield "splits: none %d, one %d, two %d, three or more %d; longest cascade %d; leans %d to %d" % (*self.splits, self.longest, *self.leans)
         yield "stores with %d of the %d targets; splits at an exact half: %s" % (
             sum(1 for count in self.stores_of.values() if count), len(ref.TARGETS), "; ".join(self.half_lines()))
+        for names in STEP_1:
+            yield "step 1: " + "; ".join("%s %d" % (name, self.step_1[name]) for name in names)
         yield "refused: " + ", ".join("%d of %d" % (count, number) for number, count in sorted(self.refused.items()))
         yield "records with over %d bytes, or split: %d; set apart: %d" % (NEAR, self.near, self.apart)
         yield "deepest level %d; largest image %d pages; most records %d" % (self.deepest, self.pages, self.records)
@@ -153,6 +214,7 @@ class Larder:
         self.begin()
         if origin is None:
             origin = self.origin()
+        met = list(step_1_meets(self.store, path, child, label))
         try:
             answer = (0,) + ref.insert_node(self.store, path, child, kind, origin, label, content)
             ref.write_changes(self.store, self.image)
@@ -162,10 +224,10 @@ class Larder:
                 self.store = ref.read_store(self.image)
         self.write("insert %s %d %d %d %d %s" % (ref.to_hex(path), child, kind, origin, label, ref.to_hex(content)))
         self.write("= %d %d %d %d %d %s" % (answer + (ref.checksum(self.image),)))
-        self.count(answer, len(path) // 4 + 2, origin)
+        self.count(answer, len(path) // 4 + 2, origin, met)
         return answer[0]
 
-    def count(self, answer, level, origin):
+    def count(self, answer, level, origin, met=()):
         number, page, _, splits, lean = answer
         counts = self.counts
         counts.inserts += 1
@@ -178,6 +240,8 @@ class Larder:
         if record.settled and page != 1 and record.root.kind != ref.HELPER and not record.root.children:
             counts.apart += 1
             record = record.holder
+        for name in met:
+            counts.step_1[name] += 1
         counts.origins[origin] += 1
         counts.splits[min(splits, 3)] += 1
         counts.near += splits > 0 or used(self.image, record) > NEAR
@@ -274,16 +338,36 @@ class Larder:
         kind = self.rng.choice((ref.AGGREGATE, ref.LITERAL))
         return kind, self.rng.choice(self.labels), self.content(longest) if kind == ref.LITERAL else b""
 
-    def spot(self, record):
-        """A path and a child number that put a node into this record; None if there is none."""
+    def spots(self, record):
+        """Paths and child numbers of a new node in, before and after some nodes of a record."""
         nodes = list(nodes_under(record.root))
-        if not nodes:
-            return None
-        node = self.rng.choice(nodes)
-        path = path_to(record, node)
-        if node.kind == ref.AGGREGATE and len(path) <= 22 and (node is record.root or self.rng.random() < 0.3):
-            return path, 0
-        return (path[:-1], path[-1] + 1) if path else ([], 0)
+        for node in self.rng.sample(nodes, min(4, len(nodes))):
+            path = path_to(record, node)
+            found = [(path, 0)] if node.kind == ref.AGGREGATE and len(path) <= 22 else []
+            if path:
+                found += [(path[:-1], path[-1]), (path[:-1], path[-1] + 1)]
+            self.rng.shuffle(found)
+            yield from found
+
+    def some_spot(self):
+        """A path and a child number at some node of some record."""
+        return next(self.spots(self.record()), ([], 0))
+
+    def spot(self, record):
+        """A path and a child number that put a node into this record; None if none is found."""
+        for path, child in self.spots(record):
+            if ref.spot_chosen(*ref.node_of_path(self.store, path_bytes(path)), child)[2] is record:
+                return path, child
+        return None
+
+    def seam(self, record, last):
+        """The path and the child number before the first node that a helper's record shows, or after its last."""
+        path = path_to(record, record.root.children[0])
+        return path[:-1], path[-1] + (ref.record_shown(record) if last else 0)
+
+    def rarity(self, path, child):
+        """How often the rarest of what step 1 meets there was met so far."""
+        return min(self.counts.step_1[name] for name in step_1_meets(self.store, path_bytes(path), child, self.label_that(path, True)))
 
     def row(self, path):
         """The number of children of the node that a path names."""
@@ -292,13 +376,16 @@ class Larder:
         except ref.Refused:
             return 0
 
-    def free_label(self, path):
-        """A label that is not apart from the parent's, if one is found."""
+    def label_that(self, path, is_apart):
+        """A label that is apart from the parent's, or one that is not, if one is found."""
         parent, _ = ref.node_of_path(self.store, path_bytes(path))
         for label in self.labels + list(LABELS):
-            if not ref.is_apart(self.store.settings, parent, ref.Node(ref.LITERAL, label)):
+            if ref.is_apart(self.store.settings, parent, ref.Node(ref.LITERAL, label)) == is_apart:
                 return label
         return self.labels[0]
+
+    def free_label(self, path):
+        return self.label_that(path, False)
 
     def label(self, path):
         return self.free_label(path) if self.rng.random() < 0.5 else self.rng.choice(self.labels)
@@ -318,8 +405,35 @@ class Larder:
         return self.insert(b"", 0, *self.node())
 
     def anywhere(self):
-        spot = self.spot(self.record())
-        return self.insert(path_bytes(spot[0]), spot[1], *self.node()) if spot else self.front()
+        path, child = self.some_spot()
+        return self.insert(path_bytes(path), child, *self.node())
+
+    def seams(self):
+        """Nodes at an end of a helper's record, where the siblings offer spots in two records; of a few ends at the one that meets the rarest."""
+        helpers = [record for record in self.store.records.values() if record.root.kind == ref.HELPER]
+        ends = [(record, last) for record in self.rng.sample(helpers, min(4, len(helpers))) for last in (False, True)]
+        if not ends:
+            return self.anywhere()
+        self.rng.shuffle(ends)
+        record, last = min(ends, key=lambda end: self.rarity(*self.seam(*end)))
+        number, turns = 0, self.rng.choice((2, 4, 7))
+        while turns and number == 0 and self.store.records.get(record.page) is record:
+            way = self.made_equal if self.rng.random() < 0.2 else self.put_in
+            number, turns = way(*self.seam(record, last)), turns - 1
+        return number
+
+    def put_in(self, path, child):
+        """Some node there, set apart now and then."""
+        kind, _, content = self.node(self.rng.choice((20, None)))
+        return self.insert(path_bytes(path), child, kind, self.label_that(path, self.rng.random() < 0.3), content)
+
+    def made_equal(self, path, child):
+        """If siblings offer spots there in two records, the emptier one is filled to be like the other."""
+        offered = ref.spots_offered(*ref.node_of_path(self.store, path_bytes(path)), child)
+        if None in offered:
+            return 0
+        fuller, emptier = sorted([spot[2] for spot in offered], key=ref.unused)
+        return self.fill(emptier, ref.unused(fuller))
 
     def chain(self):
         """Only children down to the last level, and once too deep; then literals along the chain."""
@@ -356,7 +470,7 @@ class Larder:
 
     def wide(self):
         """Empty nodes into one row."""
-        path, _ = self.spot(self.record()) or ([], 0)
+        path, _ = self.some_spot()
         return self.empty_nodes(path_bytes(path), self.rng.choice((5, 30, 120)))
 
     def empty_nodes(self, path, count):
@@ -424,8 +538,8 @@ class Larder:
 
     def cascade(self):
         """The records from the root's down to a deep one are filled, then the deep one is split."""
-        record = max([self.record() for _ in range(8)], key=lambda r: len(self.holders(r)))
-        chain = self.holders(record)[:self.rng.choice((2, 4, 7, 12))]
+        record = max([self.record() for _ in range(8)], key=lambda r: sum(1 for holder in holders(r)[:7] if self.spot(holder)))
+        chain = holders(record)[:self.rng.choice((2, 4, 7, 12))]
         for holder in reversed(chain):
             if self.fill(holder, self.rng.choice((0, 0, 0, 1, 5, 7, 40))):
                 break
@@ -440,14 +554,6 @@ class Larder:
         if not spot:
             return self.anywhere()
         return self.insert(path_bytes(spot[0]), spot[1], ref.LITERAL, self.label(spot[0]), self.rng.randbytes(self.rng.choice((0, 10, 300, 520))))
-
-    def holders(self, record):
-        """A record, the one that holds its proxy, and so on up to the root's."""
-        chain = []
-        while record is not None:
-            chain.append(record)
-            record = record.holder
-        return chain
 
     def again(self):
         """The same image grown in several ways at its limit."""
@@ -467,8 +573,8 @@ class Larder:
     def refusal(self):
         """An insert with one thing wrong, or several."""
         rng = self.rng
-        spot = self.spot(self.record()) or ([], 0)
-        path, child = path_bytes(spot[0]), spot[1]
+        path, child = self.some_spot()
+        path = path_bytes(path)
         kind, label, content = self.node()
         origin = self.origin()
         for wrong in {rng.choice(FAULTS), rng.choice((0, 0, ref.BAD_ORIGIN, rng.choice(FAULTS)))}:
@@ -539,6 +645,8 @@ class Larder:
                 self.damaged()
             elif chance < 0.22:
                 full += self.halved() == ref.FULL
+            elif chance < 0.4:
+                full += self.seams() == ref.FULL
             else:
                 full += self.rng.choice(ways)() == ref.FULL
 

@@ -188,9 +188,9 @@ class Larder(grown.Larder):
 
     def branch_undone(self):
         """A branch is put in and taken out again: the tree is the former one."""
-        spot = self.spot(self.record()) or ([], 0)
-        path, former = spot[0] + [spot[1]], tree(self.store)
-        number = self.insert(path_bytes(spot[0]), spot[1], ref.AGGREGATE, self.rng.choice(self.labels))
+        parent, child = self.some_spot()
+        path, former = parent + [child], tree(self.store)
+        number = self.insert(path_bytes(parent), child, ref.AGGREGATE, self.rng.choice(self.labels))
         if number:
             return number
         for _ in range(self.rng.choice((0, 3, 12, 40)) if len(path) <= 22 else 0):
@@ -247,6 +247,8 @@ class Larder(grown.Larder):
                 self.look()
             elif chance < 0.13:
                 self.branch_undone()
+            elif chance < 0.23:
+                self.seams()
             elif filling != (chance > 0.85):
                 filling = self.rng.choice(ways)() != ref.FULL and filling
             else:

@@ -2,10 +2,10 @@
 
     make_scripts.py SEED STORES DAMAGED > SCRIPT
 
-First comes a small image with helpers in one another, from which each node is removed. Then STORES images are grown, some of them thinned by removals;
-after each, calls that change nothing are asked, then inserts with right and wrong origins, then removals, accepted and refused; nodes of each kind get
-right and wrong origins, and DAMAGED variants of the image are made: all these are checked (and, now and then, asked). The same seed gives the same
-script.
+First comes a small image with helpers in one another and side by side, from which each node is removed, and into which a node is put at every position,
+its records being more or less full. Then STORES images are grown, some of them thinned by removals; after each, calls that change nothing are asked,
+then inserts with right and wrong origins, then removals, accepted and refused; nodes of each kind get right and wrong origins, and DAMAGED variants of
+the image are made: all these are checked (and, now and then, asked). The same seed gives the same script.
 """
 
 import random
@@ -15,6 +15,7 @@ import reference as ref
 
 SHAPES = [(2, 6), (3, 12), (5, 60), (8, 160), (13, 400), (40, 900)]
 ORIGIN_BYTES = (0, 1, 2, 3, 4, 255)
+ROW = (1, 8, 3, 5)                                    # see nested_helpers: the pages of the records that the root's row goes through, before page 1 again
 WRONG_ORIGINS = (4, 255, 256, 65536, 2**32 - 1)       # above 3, also where the low byte or two are not
 
 
@@ -210,24 +211,33 @@ def damage(rng, image, out):
         put_byte(at, value, image, out)
 
 
-def nested_helpers():
-    """An image with a helper in a helper, records below, and a branch that stands in the root's record with a proxy; a removal can leave each helper with
-    a proxy or with another child."""
-    image = bytearray(8 * ref.PAGE)
-    ref.format_image(image, 8, 128, 409, 1, b"\x02" * 256, 7)
+def nested_helpers(sizes=(), own=2):
+    """An image with helpers in one another and side by side, records below, and a branch that stands in the root's record with a proxy; a removal can leave
+    each helper with a proxy or with another child. `sizes` are those of the records of ROW, if they matter. Two nodes of the root's row are the roots of
+    records, on pages 7 and 10, with a literal of `own` bytes. Label 14 is apart under the root."""
+    matrix = bytearray(b"\x02" * 256)
+    matrix[16 * 7 + 14] = ref.APART
+    image = bytearray(14 * ref.PAGE)
+    ref.format_image(image, 14, 128, 409, 1, matrix, 7)
     store = ref.read_store(image)
 
-    def literal(label):
-        return ref.Node(ref.LITERAL, label, b"AB", origin=label % ref.ORIGINS)
+    def literal(label, length=2):
+        return ref.Node(ref.LITERAL, label, b"AB".ljust(length, b"\0"), origin=label % ref.ORIGINS)
 
     def proxy(page, settled, root):
         store.records[page] = ref.Record(page, settled, root)
         return ref.Node(ref.PROXY, record=store.records[page])
 
-    branch = proxy(2, True, ref.Node(ref.AGGREGATE, 4, children=[proxy(6, False, literal(5)), literal(6)]))
+    branch = proxy(10, True, ref.Node(ref.AGGREGATE, 4, children=[proxy(11, False, literal(5)), literal(6, own)]))
     inner = proxy(5, False, ref.Node(ref.HELPER, children=[branch, literal(3)]))
     outer = proxy(3, False, ref.Node(ref.HELPER, children=[literal(2), inner]))
-    store.records[1].root.children = [literal(1), outer, ref.Node(ref.AGGREGATE, 8, children=[proxy(7, True, literal(9))])]
+    beside = proxy(8, False, ref.Node(ref.HELPER, children=[literal(10), proxy(7, True, literal(11, own))]))
+    below = proxy(12, False, ref.Node(ref.HELPER, children=[literal(9), literal(12)]))
+    store.records[1].root.children = [literal(1), beside, outer, ref.Node(ref.AGGREGATE, 8, children=[below])]
+    for page, size in zip(ROW, sizes):
+        root = store.records[page].root
+        filler = next(child for child in root.children if child.kind == ref.LITERAL)
+        filler.content = filler.content.ljust(len(filler.content) + size - ref.size(root), b"\0")
     store.changed = set(store.records)
     ref.write_changes(store, image)
     return image
@@ -246,6 +256,21 @@ def ask_nested(out):
         for path in paths:
             ask("remove " + ref.to_hex(ref.path_bytes(path)), changed, out)
         ask("check", changed, out)
+
+
+def ask_siblings(out):
+    """An insert at every position of every row, also of a node that is set apart in the root's: the records of ROW are equally full, or the later the
+    fuller, or the emptier; those whose roots stand in the row are emptier than all of them, or fuller."""
+    for own in 2, ref.CONTENT:
+        for sizes in (300, 300, 300, 300), (200, 300, 400, 500), (500, 400, 300, 200):
+            image = nested_helpers(sizes, own)
+            put_image(image, out)
+            out.append("S")
+            for entry in ref.document_order(ref.read_store(image)):
+                for child in range(entry.children + 1 if entry.node.kind == ref.AGGREGATE else 0):
+                    for label in (9, 14)[:2 - bool(entry.path)]:
+                        out.append("R")
+                        ask("insert %s %d 2 1 %d 41" % (ref.to_hex(ref.path_bytes(entry.path)), child, label), bytearray(image), out)
 
 
 def formats(rng, out):
@@ -268,6 +293,7 @@ def main(seed, stores, damaged):
     rng = random.Random(seed)
     out = []
     ask_nested(out)
+    ask_siblings(out)
     for store in range(stores):
         print("store %d of %d" % (store + 1, stores), file=sys.stderr)
         formats(rng, out)

@@ -33,6 +33,15 @@ awk -v kind="$kind" '/ calls, / { calls += $2; differences += $4 }
     /^records freed: / { freed += $3 }
     /^helpers replaced: / { by_proxy += $3; by_other += $13 }
     /^stores full: / { full += $3; empty += $6; again += $11 }
+    /^step 1: / {
+        n = split(substr($0, 9), part, "; ")
+        for (i = 1; i <= n; i++) {
+            name = part[i]
+            sub(/ [0-9]+$/, "", name)
+            if (!(name in met)) { names[++cases] = name; lead[cases] = i > 1 ? "; " : "\n" kind ": step 1: " }
+            met[name] += substr(part[i], length(name) + 2)
+        }
+    }
     match($0, /before the walk: [0-9]+/) { split(substr($0, RSTART), word, " "); before += word[4] }
     match($0, /in the walk: [0-9]+/) { split(substr($0, RSTART), word, " "); walk += word[4] }
     END {
@@ -41,7 +50,13 @@ awk -v kind="$kind" '/ calls, / { calls += $2; differences += $4 }
         reached["removals"] = "; removed " removed + 0 ", records freed " freed + 0 helpers
         reached["hostile"] = "; images refused before the walk " before + 0 ", in the walk " walk + 0
         stores = "; stores full " full + 0 " times, empty " empty + 0 ", full again " again + 0
-        print kind ": " calls " calls compared, " differences " differences" reached[kind] (kind == "removals" ? stores : "")
+        text = kind ": " calls " calls compared, " differences " differences" reached[kind] (kind == "removals" ? stores : "")
+        missed = kind != "hostile" && !cases
+        for (i = 1; i <= cases; i++) {
+            text = text lead[i] names[i] " " met[names[i]]
+            missed = missed || !met[names[i]]
+        }
+        print text
         # a run that meets no such case shows less than it says
-        exit kind == "removals" && !(freed && by_proxy && by_other && full && empty && again) || kind == "hostile" && !(before && walk)
+        exit missed || kind == "removals" && !(freed && by_proxy && by_other && full && empty && again) || kind == "hostile" && !(before && walk)
     }' "target/$kind.log"

@@ -1,4 +1,4 @@
-"""A second implementation of the rules, for the tests: small, made from their text alone (the base with changes E1 to E4).
+"""A second implementation of the rules, for the tests: small, made from their text alone (the base with changes E1 to E5).
 
 As a module it offers the calls over an image held in a bytearray: format_image, check, insert, remove, find, climb,
 read, next_node, records and listing. Each answer is a tuple that begins with the number. To make many inserts and
@@ -482,13 +482,34 @@ def split(store, record):
     return lean, record.holder
 
 
+def unused(record):
+    return CAPACITY - size(record.root)
+
+
+def spots_offered(parent, record, child):
+    """The spots for the child of that number of a parent in a record: directly after its left sibling and directly
+    before its right one, or their proxies; None without that sibling. A spot is a list, a position and their record."""
+    after = before = None
+    if child > 0:
+        siblings, at, taker = child_shown(parent.children, record, child - 1)
+        after = siblings, at + 1, taker
+    if child < nodes_shown(parent.children):
+        before = child_shown(parent.children, record, child)
+    return after, before
+
+
+def spot_chosen(parent, record, child):
+    """Step 1: the spot that takes the child of that number of a parent in a record."""
+    after, before = spots_offered(parent, record, child)
+    if after and before:
+        return before if unused(before[2]) > unused(after[2]) else after
+    return after or before or (parent.children, 0, record)
+
+
 def grow(store, parent, record, child, node):
     """Puts the node in as the child of that number of a parent in a record; gives the number of splits and the first
     lean."""
-    siblings, at = parent.children, 0
-    if child > 0:
-        siblings, at, record = child_shown(parent.children, record, child - 1)
-        at += 1
+    siblings, at, record = spot_chosen(parent, record, child)
     if is_apart(store.settings, parent, node):
         node = new_record(store, record.page, True, node)
     siblings.insert(at, node)
@@ -710,7 +731,7 @@ def listing(image):
 
 # ---- Replay of call scripts
 
-RULES = "3"                                           # the rule set: the base with E1 to E3; E4 changes no answer
+RULES = "5"                                           # the rule set: the base with E1 to E5
 
 
 def from_hex(text):

@@ -6,7 +6,7 @@
 
 #include "../include/nichelarder.h"
 
-#define RULES 3u /* the rule set: the base with E1 to E3; E4 changes no answer */
+#define RULES 5u /* the rule set: the base with E1 to E5 */
 
 static uint8_t *image, *kept;
 static size_t image_len, kept_len;

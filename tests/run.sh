@@ -18,7 +18,7 @@ strict=(-Wall -Wextra -Wpedantic -Wconversion -Wshadow -Werror)
 "$cc" -std=c99 "${strict[@]}" examples/panel.c target/staticlib/libnichelarder.a -o target/panel
 target/panel | diff examples/panel.txt -
 at 3 "the stored scripts${VECTORS:+, and those of $VECTORS}"
-target/replay tests/scripts/*.txt ${VECTORS:+"$VECTORS"/e03-*.txt}
+target/replay tests/scripts/*.txt ${VECTORS:+"$VECTORS"/e05-*.txt}
 at 4 "the split point at every target"
 python3 -B tests/make_rounding.py | target/replay /dev/stdin
 at 5 "random inserts"

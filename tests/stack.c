@@ -1,8 +1,9 @@
 /* How much stack the calls take, measured on a thread whose stack is painted: an insert takes at most 24 KB beside the check of the same image, a
  * removal at most 8 KB.
- * The images: a small tree, one whose inserts cascade, one whose split goes down through all levels, and the deepest nesting of records, a chain of helper
- * records through 1,022 pages, in the root's row and in one branch, which is removed whole. */
+ * The images: a small tree, one grown by inserts, one whose splits cascade, one whose split goes down through all levels, and the deepest nesting of
+ * records, a chain of helper records through 1,022 pages, in the root's row and in one branch, which is removed whole. */
 #define _POSIX_C_SOURCE 200809L
+#include "../bench/images.h"
 #include "../include/nichelarder.h"
 #include <pthread.h>
 #include <stdio.h>
@@ -128,13 +129,16 @@ int main(void) {
     if (!image || !before || format(64, 409))
         return 2;
     measure("small");
-    /* aggregates in front of each other: separators pile up in the root's record until splits cascade */
+    /* in front of each other, until several records have been split */
     for (k = 0; k < 40; k++) {
         if (nl_insert(image, image_len, content, 0, 0, k % 3 ? NL_LITERAL : NL_AGGREGATE, k % 4, 9, content, k % 3 ? 520 : 0, answer, &lean))
             break;
         measure(NULL);
     }
     measure("grown");
+    /* five nested records that are full: a node in front goes into the deepest, and all are split */
+    make_nested(image, 64, 16, 5, 0, fill_literals);
+    measure("cascade");
     /* one aggregate in another down to level 23, the last full of literals: with tolerance 0, the split goes down to them */
     if (format(64, 0))
         return 2;

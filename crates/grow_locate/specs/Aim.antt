@@ -1,5 +1,5 @@
 -- What the code finds: the record that takes the new node, the byte of it where the node goes, and its parent there.
-use mathlib.Core.Path.{_≡_, refl, sym, ap, subst, _∙_}
+use mathlib.Core.Path.{_≡_, refl, sym, ap, _∙_}
 use mathlib.Core.List.{List, []}
 use mathlib.Core.Option.{some}
 use Prim.Native.Nat.{ℕ, _+_, _*_, _/_, _%_, _≤_}
@@ -15,14 +15,17 @@ use Rattle.theory_decoding.specs.Reading.{reads-valid}
 use Rattle.theory_places.specs.Order.{lone-root}
 use Rattle.theory_layout.specs.Here.{view}
 use Rattle.read_find.specs.Rowed.{Rowed}
-use Rattle.model.specs.Spot.{here, into, top, lastPage, Spot, spotIn, spotOf}
-use Rattle.theory_growth.specs.Chain.{hang}
+use Rattle.model.specs.Spot.{here, top, lastPage, Spot, spotIn, spotOf, whole}
+use Rattle.theory_growth.specs.Chain.{fill-into, hang}
 use Rattle.theory_insert_point.specs.Bytes.{spot-here}
 use Rattle.grow_locate.specs.declared.Receiver.{Receiver}
 use Rattle.grow_locate.specs.declared.Sighted.{Sighted}
-use Rattle.grow_locate.specs.Behind.{behindOf, sightOf}
-use Rattle.grow_locate.specs.Parent.{offsetIn, holderIn, Hits, child-hits, Parent, spot-along, in-parent}
+use Rattle.grow_locate.specs.declared.Run.{Run}
+use Rattle.grow_locate.specs.Seek.{childrenRun}
+use Rattle.grow_locate.specs.Choose.{sightChild}
+use Rattle.grow_locate.specs.Parent.{offsetIn, holderIn, Sights, Parent, spot-along, in-parent}
 use Rattle.grow_locate.specs.Children.{parent-here, kids, kids-go}
+use Rattle.grow_locate.specs.Siblings.{child-sights}
 
 -- A new node is to be child k of the aggregate that stands at the byte `parent` of the image.
 pub record Aimed (img : List ℕ) (parent k : ℕ) : Type 0 where
@@ -56,28 +59,29 @@ module _ {img : List ℕ} {above k : ℕ} (w : Aimed img above k) where
       in-parent (spotIn k) (spot-along k) (w .root) (w .t) (w .y) top (here nil) 0 0 (w .path) (w .root) refl (rw (lone-root (w .st) (w .root) v)) (w .taken)
       (w .names)
 
-  hits : Hits (found .0 .head) (behindOf (above + 6) (above % pageSize) 0 (found .0 .children) k) (some (w .t))
-  unfolding spotIn
-  hits =
-      let p = found .0 in
-      subst (Hits (p .head) (behindOf (above + 6) (above % pageSize) 0 (p .children) k)) (found .1)
-      (child-hits (p .head) (p .chain) (into (p .position) (p .head) (p .rest)) k (p .children) (kids-go (w .reads) p (w .at)))
+  abbrev run : Run
+  run = childrenRun img above
 
-  pub received : (s : Sighted)
-      → ((r : Rowed img (above + 6) (above + sizeAt img above) mostPages) → s ≡ sightOf (behindOf (above + 6) (above % pageSize) 0 (r .row) k))
+  aims : Sights (found .0 .head) (sightChild img run (found .0 .children) k) (w .t)
+  unfolding spotIn
+  aims =
+      let p = found .0 in
+      let held = ap (whole (p .chain)) (fill-into (p .position) (p .head) (p .rest) (p .children)) ∙ p .is in
+      child-sights (w .reads) (p .head) (p .chain) (p .position) (p .rest) k (p .children) (w .t) run held (kids-go (w .reads) p (w .at)) (found .1)
+
+  pub received : (s : Sighted) → ((r : Rowed img (above + 6) (above + sizeAt img above) mostPages) → s ≡ sightChild img run (r .row) k)
       → s .receiver ≡ receiverOf (w .t)
   received s f =
       let t = w .t in
       let h = spot-here img (w .st) (w .root) (w .reads) (w .path) k t (w .taken) in
-      let l = behindOf (above + 6) (above % pageSize) 0 (found .0 .children) k in
-      let g = hits .0 in
-      let a : l .past / pageSize ≡ lastPage (t .chain) = omega (arith, g .at, h .room) in
-      let b : l .past % pageSize ≡ offsetIn (t .position) (t .rest) = omega (arith, g .at, h .room) in
-      ap (λ (s : Sighted). s .receiver) (f (kids (w .reads) (found .0) (w .at)))
+      let g = aims .goes in
+      let a : aims .pos / pageSize ≡ lastPage (t .chain) = omega (arith, g .at, h .room) in
+      let b : aims .pos % pageSize ≡ offsetIn (t .position) (t .rest) = omega (arith, g .at, h .room) in
+      ap (λ (s : Sighted). s .receiver) (f (kids (w .reads) (found .0) (w .at)) ∙ aims .is)
       ∙ (λ i. record { page = a i; at = b i; par = g .holder i; deep = g .hangs i })
 
   -- The parent's header has the label of the spot's parent.
   pub parent-label : (above + 6 ≤ length img) × (headAt img above .label ≡ w .t .parent .label)
   parent-label =
       let h = parent-here (w .reads) (found .0) (w .at) in
-      (omega (arith, h .room, h .on .inside), ap (λ (h : Head). h .label) (view h (omega arith) .head-is ∙ sym (hits .1)))
+      (omega (arith, h .room, h .on .inside), ap (λ (h : Head). h .label) (view h (omega arith) .head-is ∙ sym (aims .parent)))

@@ -1,5 +1,7 @@
 pub mod Seek
-pub mod Behind
+pub mod Walk
+pub mod Choose
 pub mod Parent
+pub mod Siblings
 pub mod Children
 pub mod Aim

@@ -1,8 +1,8 @@
 -- The parent of a node, and the node, as bytes of the image: one that stands in the records, and a new one.
-use mathlib.Core.Path.{_≡_, refl, sym, ap, subst, _∙_}
-use mathlib.Core.Bool.{Bool, true, cond, and-true}
+use mathlib.Core.Path.{_≡_, refl, sym, ap, _∙_}
+use mathlib.Core.Bool.{Bool, true, false, cond, and-true}
 use mathlib.Core.List.{List, [], _∷_}
-use mathlib.Core.Option.{Option, none, some, Option·map, Option·some-injective, Option·none-ne-some}
+use mathlib.Core.Option.{Option, none, some, Option·some-injective, Option·none-ne-some}
 use Prim.Native.Nat.{ℕ, zero, suc, _+_, _*_, _-_}
 use native.Mathlib.Omega.{arith}
 use lib.ListN.{length}
@@ -12,13 +12,13 @@ use Rattle.model.specs.Row.{Head, Row, nil, agg, lit, rec, _⊹_, size, lone, b
 use Rattle.model.specs.Tree.{width, placeAt}
 use Rattle.model.specs.declared.Place.{Place}
 use Rattle.theory_rows.specs.Laws.{size-⊹}
-use Rattle.model.specs.Spot.{Position, here, inside, fill, past, into, Chain, below, lastPage, Spot, spotAfter, spotChild, spotIn, whole}
-use Rattle.model.specs.Removal.{Stand, standIn}
+use Rattle.model.specs.Spot.{Position, here, inside, fill, past, into, Chain, below, lastPage, whole, Stand, standIn, Spot, spotAfter, spotBefore, spotIn}
 use Rattle.theory_growth.specs.Chain.{both, before, fill-past, fill-into, hang, hang-past}
 use Rattle.grow_splice.specs.Position.{at, parent}
 use Rattle.grow_locate.specs.declared.Located.{Located}
+use Rattle.grow_locate.specs.declared.Sighted.{Sighted}
 use Rattle.grow_locate.specs.Seek.{seekOf}
-use Rattle.grow_locate.specs.Behind.{behindOf}
+use Rattle.grow_locate.specs.Choose.{sightAt, sightAfter, sightBefore}
 
 -- ── offsets in a record ──
 
@@ -83,14 +83,14 @@ pub record Stands (l : Located) (t : Stand) : Type 0 where
   pub ends : l .past ≡ l .at + size (t .node)
 
 abbrev pub IsStand : Located → Option Stand → Type 0
-IsStand l none = Unit {0}
+IsStand l none = l .found ≡ false
 IsStand l (some t) = Stands l t
 
 -- Node i of a row stands where the code finds it.
 pub stand-hits : (c : Chain) (s : Position) (i : ℕ) (row : Row) {pos par deep : ℕ} → Goes c s row pos par deep
     → IsStand (seekOf pos par deep row i) (standIn c s i [] row)
 unfolding seekOf standIn
-stand-hits c s i nil g = tt
+stand-hits c s i nil g = refl
 stand-hits c s zero (agg h cs rest) g = record { found = refl; goes = g; ends = omega arith }
 stand-hits c s (suc i) (agg h cs rest) g = stand-hits c _ i rest (go-past c s (agg h cs nil) rest (6 + size cs) (omega arith) g)
 stand-hits c s zero (lit h x rest) g = record { found = refl; goes = g; ends = omega arith }
@@ -104,37 +104,28 @@ stand-hits c s i (rec q b r rest) g =
 
 -- ── a new node ──
 
--- The spot behind a node that stands there.
-abbrev behindStand : (parent : Head) → Stand → Spot
-behindStand parent t = record { chain = t .chain; position = past (t .position) (t .node); rest = t .rest; parent = parent }
+-- The code aims at the spot.
+pub record Sights (h : Head) (s : Sighted) (t : Spot) : Type 0 where
+  pub pos : ℕ
+  pub par : ℕ
+  pub deep : ℕ
+  pub is : s ≡ sightAt true pos par deep
+  pub goes : Goes (t .chain) (t .position) (t .rest) pos par deep
+  pub parent : t .parent ≡ h
 
-after-stand : (h : Head) (c : Chain) (s : Position) (i : ℕ) (row : Row) → spotAfter h c s i row ≡ Option·map (behindStand h) (standIn c s i [] row)
-unfolding spotAfter standIn
-after-stand h c s i nil = refl
-after-stand h c s zero (agg l cs rest) = refl
-after-stand h c s (suc i) (agg l cs rest) = after-stand h c (past s (agg l cs nil)) i rest
-after-stand h c s zero (lit l x rest) = refl
-after-stand h c s (suc i) (lit l x rest) = after-stand h c (past s (lit l x nil)) i rest
-after-stand h c s i (rec q b r rest) =
-    let P : Option Spot → Option Stand → Type 0 = λ a b. a ≡ Option·map (behindStand h) b in
-    both P (ltb i (width r))
-    (λ _. rw (and-true (lone r)) (both P (lone r) (λ _. refl) (λ _. after-stand h (below c s q b rest) (here nil) i r)))
-    (λ _. after-stand h c (past s (rec q b r nil)) (i - width r) rest)
+-- After a node that stands there, and before it.
+pub after-sights : (h : Head) (l : Located) (n : Stand) → Stands l n → Sights h (sightAfter l) (spotAfter h n)
+after-sights h l n s = record {
+  pos = l .past;
+  par = l .par;
+  deep = l .deep;
+  is = ap (λ (b : Bool). sightAt b (l .past) (l .par) (l .deep)) (s .found);
+  goes = rw (s .ends) (go-past (n .chain) (n .position) (n .node) (n .rest) (size (n .node)) refl (s .goes));
+  parent = refl;
+}
 
--- The spot of a child of the parent, if there is one, is behind what the code finds.
-abbrev pub Hits : (parent : Head) → Located → Option Spot → Type 0
-Hits h l none = Unit {0}
-Hits h l (some t) = Goes (t .chain) (t .position) (t .rest) (l .past) (l .par) (l .deep) × (t .parent ≡ h)
-
-hits-behind : (h : Head) (l : Located) (o : Option Stand) → IsStand l o → Hits h l (Option·map (behindStand h) o)
-hits-behind h l none s = tt
-hits-behind h l (some t) s = (rw (s .ends) (go-past (t .chain) (t .position) (t .node) (t .rest) (size (t .node)) refl (s .goes)), refl)
-
-pub child-hits : (h : Head) (c : Chain) (s : Position) (k : ℕ) (row : Row) {pos par deep : ℕ} → Goes c s row pos par deep
-    → Hits h (behindOf pos par deep row k) (spotChild h c s k row)
-child-hits h c s zero row g = (g, refl)
-child-hits h c s (suc i) row {pos = pos} {par = par} {deep = deep} g =
-    subst (Hits h (seekOf pos par deep row i)) (sym (after-stand h c s i row)) (hits-behind h _ (standIn c s i [] row) (stand-hits c s i row g))
+pub before-sights : (h : Head) (l : Located) (n : Stand) → Stands l n → Sights h (sightBefore l) (spotBefore h n)
+before-sights h l n s = record { pos = l .at; par = l .par; deep = l .deep; is = refl; goes = s .goes; parent = refl }
 
 -- ── the parent ──
 

@@ -1,23 +1,24 @@
--- Where a node of a row stands, or its proxy: the walk of the code along a row that stands in an image.
+-- Where a node of a row stands, or its proxy, and where the next one is to be sought: the walk of the code along a row that stands in an image.
 use mathlib.Core.Path.{_≡_, refl, sym, ap, _∙_}
 use mathlib.Core.Bool.{Bool, true, false, cond, not, false≢true}
 use mathlib.Core.List.{List}
 use Prim.Native.Nat.{ℕ, zero, suc, _+_, _*_, _-_, _%_, _≤_, _<_}
 use native.Mathlib.Omega.{arith}
 use native.Mathlib.Nat.{sub-zero, suc-sub-suc}
-use borrow.Author.Tests.{lt-ltb, le-ltb, ltb-true, ltb-false, eq-eqb, ne-eqb, not-true, not-false}
+use borrow.Author.Tests.{lt-ltb, le-ltb, ltb-true, ltb-false, eq-eqb, ne-eqb, not-false}
 use lib.ListN.{length, getD}
 use lib.Dec.{ltb, eqb, leb·suc-suc, leb·suc-zero}
-use Rattle.model.specs.Limits.{pageSize}
+use Rattle.model.specs.Limits.{pageSize, capacity}
 use Rattle.model.specs.Row.{Row, nil, agg, lit, rec, size, lone, base}
 use Rattle.model.specs.Tree.{width}
 use Rattle.model.specs.Reading.{sizeAt, nameAt, kindAt}
 use Rattle.theory_rows.specs.Laws.{cond-case}
 use Rattle.theory_row_bytes.specs.RowAt.{kindOf, sizeOf, restOf}
-use Rattle.theory_layout.specs.Here.{view}
+use Rattle.theory_layout.specs.Here.{PageIn, Here, view}
 use Rattle.theory_layout.specs.Widths.{Widths, firstWidth, plain-width}
-use Rattle.read_find.specs.Rowed.{Rowed, Entered, past-first, enter, startOn, endOn}
+use Rattle.read_find.specs.Rowed.{Rowed, Entered, enter, startOn, endOn}
 use Rattle.grow_locate.specs.declared.Located.{Located}
+use Rattle.grow_locate.specs.declared.Run.{Run}
 
 abbrev pub locatedAt : (at past par n : ℕ) → Located
 locatedAt at past par n = record { found = true; at = at; past = past; par = par; deep = n }
@@ -38,9 +39,34 @@ seekOf pos par n (rec p s r rest) k =
     let beyond = seekOf (pos + 8) par n rest (k - width r) in
     cond (ltb k (width r)) (cond (lone r) (locatedAt pos (pos + 8) par n) within) beyond
 
+-- In a run of nodes.
+abbrev pub seekRun : Run → Row → (k : ℕ) → Located
+seekRun r row k = seekOf (r .pos) (r .par) (r .deep) row k
+
+-- Past its first node of n bytes, into the record whose proxy that is, and none.
+abbrev pub pastRun : Run → (n : ℕ) → Run
+pastRun r n = record { pos = r .pos + n; end = r .end; par = r .par; deep = r .deep }
+
+abbrev pub insideRun : (img : List ℕ) → Run → Run
+insideRun img r = let p = nameAt img (r .pos) in record { pos = startOn img p; end = endOn img p; par = 0; deep = r .deep + 1 }
+
+abbrev pub emptyRun : Run → Run
+emptyRun r = record { pos = r .end; end = r .end; par = r .par; deep = r .deep }
+
+-- What follows a node in its row, or, if nothing does, what follows further up.
+abbrev pub closerOf : (next after : Run) → Run
+closerOf next after = cond (ltb (next .pos) (next .end)) next after
+
+pub closer-deep : (next after : Run) (n : ℕ) → next .deep ≤ n → after .deep ≤ n → closerOf next after .deep ≤ n
+closer-deep next after n h k = cond-case (λ (r : Run). r .deep ≤ n) (ltb (next .pos) (next .end)) (λ _. h) (λ _. k)
+
+-- The children of the aggregate at a byte of the image.
+abbrev pub childrenRun : (img : List ℕ) → (parent : ℕ) → Run
+childrenRun img parent = record { pos = parent + 6; end = parent + sizeAt img parent; par = parent % pageSize; deep = 0 }
+
 -- ── it is found exactly if the row shows the node ──
 
-moved : (k a b : ℕ) → a ≤ k → ltb (k - a) b ≡ ltb k (a + b)
+pub moved : (k a b : ℕ) → a ≤ k → ltb (k - a) b ≡ ltb k (a + b)
 moved k a b h = go (ltb k (a + b)) refl
   where
     go : (u : Bool) → ltb k (a + b) ≡ u → ltb (k - a) b ≡ u
@@ -61,6 +87,16 @@ seek-found pos par n (rec p s r rest) k =
     let f : true ≡ ltb k (width r + width rest) = sym (lt-ltb k (width r + width rest) (omega (arith, ltb-true k (width r) e))) in
     cond-case P (lone r) (λ _. f) (λ _. seek-found _ 0 (n + 1) r k ∙ e ∙ f))
     (λ e. seek-found (pos + 8) par n rest (k - width r) ∙ moved k (width r) (width rest) (ltb-false k (width r) e))
+
+pub seek-beyond : (pos par n : ℕ) (row : Row) (k : ℕ) → width row ≤ k → seekOf pos par n row k ≡ nowhere
+unfolding seekOf
+seek-beyond pos par n nil k h = refl
+seek-beyond pos par n (agg l cs rest) zero h = absurd (omega arith)
+seek-beyond pos par n (agg l cs rest) (suc k) h = seek-beyond _ par n rest k (omega arith)
+seek-beyond pos par n (lit l c rest) zero h = absurd (omega arith)
+seek-beyond pos par n (lit l c rest) (suc k) h = seek-beyond _ par n rest k (omega arith)
+seek-beyond pos par n (rec p s r rest) k h =
+    rw (le-ltb k (width r) (omega arith)) (seek-beyond (pos + 8) par n rest (k - width r) (omega arith))
 
 -- The bytes of a node end behind their start.
 pub seek-order : (pos par n : ℕ) (row : Row) (k : ℕ) → seekOf pos par n row k .at ≤ seekOf pos par n row k .past
@@ -96,14 +132,7 @@ plain-helper (agg h cs rest) z = refl
 plain-helper (lit h c rest) z = refl
 plain-helper (rec p s r rest) z = absurd (z refl)
 
-seek-none : (pos par n k : ℕ) (row : Row) → size row ≤ 0 → nowhere ≡ seekOf pos par n row k
-unfolding seekOf
-seek-none pos par n k nil h = refl
-seek-none pos par n k (agg l cs rest) h = absurd (omega arith)
-seek-none pos par n k (lit l c rest) h = absurd (omega arith)
-seek-none pos par n k (rec p s r rest) h = absurd (omega arith)
-
-seek-further : (pos par n k : ℕ) (row : Row) → 0 < size row → firstWidth row ≤ k
+pub seek-further : (pos par n k : ℕ) (row : Row) → 0 < size row → firstWidth row ≤ k
     → seekOf (pos + sizeOf row) par n (restOf row) (k - firstWidth row) ≡ seekOf pos par n row k
 unfolding seekOf
 seek-further pos par n k nil h w = absurd (omega arith)
@@ -113,7 +142,7 @@ seek-further pos par n zero (lit l c rest) h w = absurd (omega arith)
 seek-further pos par n (suc k) (lit l c rest) h w = rw (suc-sub-suc, sub-zero)
 seek-further pos par n k (rec p s r rest) h w = sym (rw (le-ltb k (width r) w))
 
-seek-first : (pos par n k : ℕ) (row : Row) → k < firstWidth row → helperFirst row ≡ false → locatedAt pos (pos + sizeOf row) par n ≡ seekOf pos par n row k
+pub seek-first : (pos par n k : ℕ) (row : Row) → k < firstWidth row → helperFirst row ≡ false → locatedAt pos (pos + sizeOf row) par n ≡ seekOf pos par n row k
 unfolding seekOf
 seek-first pos par n k nil h f = absurd (omega arith)
 seek-first pos par n zero (agg l cs rest) h f = refl
@@ -122,7 +151,7 @@ seek-first pos par n zero (lit l c rest) h f = refl
 seek-first pos par n (suc k) (lit l c rest) h f = absurd (omega arith)
 seek-first pos par n k (rec p s r rest) h f = sym (rw (lt-ltb k (width r) h, not-false (lone r) f))
 
-seek-under : (pos par n k p : ℕ) (s : Bool) (r rest : Row) → k < width r → lone r ≡ false
+pub seek-under : (pos par n k p : ℕ) (s : Bool) (r rest : Row) → k < width r → lone r ≡ false
     → seekOf (pageSize * p + base r) 0 (n + 1) r k ≡ seekOf pos par n (rec p s r rest) k
 unfolding seekOf
 seek-under pos par n k p s r rest h f = sym (rw (lt-ltb k (width r) h, f))
@@ -140,7 +169,7 @@ module _ {img : List ℕ} {pos : ℕ} (w : SomeRow img pos) where
   abbrev row : Row
   row = w .rowed .row
 
-  full : 0 < size row
+  pub full : 0 < size row
   full = omega (arith, w .rowed .ends, w .some)
 
   pub first-long : 6 ≤ sizeAt img pos
@@ -173,53 +202,27 @@ module _ {img : List ℕ} {pos : ℕ} (w : SomeRow img pos) where
         go true z = ap not (eq-eqb (start % pageSize) 0 (omega arith))
         go false z = ap not (ne-eqb (start % pageSize) 0 (λ y. omega arith))
 
--- ── the walk ──
+-- ── in the image ──
 
--- In the row that is left it is node `left`.
-pub record Seeking (img : List ℕ) (i stop depth left par n : ℕ) (t : Located) : Type 0 where
-  pub rest : Rowed img i stop depth
-  pub same : seekOf i par n (rest .row) left ≡ t
+-- A byte of a page of the image, before its trailer.
+pub record WithinPage (img : List ℕ) (pos : ℕ) : Type 0 where
+  pub page : ℕ
+  pub on : PageIn img page
+  pub start : pageSize * page ≤ pos
+  pub before : pos < pageSize * page + capacity
 
-pub seeking : {img : List ℕ} {i stop depth left par n : ℕ} (w : Rowed img i stop depth) → Seeking img i stop depth left par n (seekOf i par n (w .row) left)
-seeking w = record { rest = w; same = refl }
-
-pub seek-deep : {img : List ℕ} {i stop depth deep left par n : ℕ} {t : Located} → depth ≡ deep → Seeking img i stop depth left par n t
-    → Seeking img i stop deep left par n t
-seek-deep e s = rw (← e) s
-
-module _ {img : List ℕ} {i stop depth left par n : ℕ} {t : Located} (s : Seeking img i stop depth left par n t) where
-  pub seek-end : stop ≤ i → nowhere ≡ t
-  seek-end h = seek-none i par n left (s .rest .row) (omega (arith, s .rest .ends)) ∙ s .same
-
-  module _ (some : i < stop) {m : ℕ} (shows : m ≡ firstWidth (s .rest .row)) where
-    abbrev some-left : SomeRow img i
-    some-left = record { end = stop; depth = depth; rowed = s .rest; some = some }
-
-    module _ {len : ℕ} (long : len ≡ sizeAt img i) where
-      len-is : sizeOf (s .rest .row) ≡ len
-      len-is = sym (long ∙ view (s .rest .here) (full some-left) .size-is)
-
-      -- The first node does not show it, and is passed,
-      pub seek-past : m ≤ left → Seeking img (i + len) stop depth (left - m) par n t
-      seek-past h = record {
-        rest = past-first (s .rest) len len-is (full some-left);
-        same = rw (← len-is, shows) (seek-further i par n left (s .rest .row) (full some-left) (omega arith)) ∙ s .same;
-      }
-
-      -- or is what stands there,
-      pub seek-here : left < m → helperFirst (s .rest .row) ≡ false → locatedAt i (i + len) par n ≡ t
-      seek-here h f = rw (← len-is) (seek-first i par n left (s .rest .row) (omega arith) f) ∙ s .same
-
-    -- or is the proxy of a record whose helper shows it.
-    pub seek-inside : left < m → helperFirst (s .rest .row) ≡ true → {p start end : ℕ} → p ≡ nameAt img i → start ≡ startOn img p → end ≡ endOn img p
-        → Seeking img start end (depth - 1) left 0 (n + 1) t
-    seek-inside h f {p} named b e =
-        let a : Entered img i stop depth p (s .rest .row) = proxy-first some-left (helper-first some-left f) named in
-        let r = a .inside .row in
-        let more : left < width r = omega (arith, shows ∙ ap firstWidth (a .is)) in
-        let many : lone r ≡ false = not-true (lone r) (ap helperFirst (sym (a .is)) ∙ f) in
-        rw (b, e) (record {
-          rest = a .inside;
-          same = rw (a .starts) (seek-under i par n left p (a .settled) r (a .after .row) more many)
-              ∙ ap (λ (x : Row). seekOf i par n x left) (sym (a .is)) ∙ s .same;
-        })
+-- What is found stands in one.
+pub seek-on : {img : List ℕ} {page : ℕ} (pos par n : ℕ) (row : Row) (k : ℕ) → Here img page pos row → seekOf pos par n row k .found ≡ true
+    → WithinPage img (seekOf pos par n row k .at)
+unfolding seekOf
+seek-on pos par n nil k h f = absurd (false≢true f)
+seek-on {page = page} pos par n (agg l cs rest) zero h f = record { page = page; on = h .on; start = h .start; before = omega (arith, h .room) }
+seek-on pos par n (agg l cs rest) (suc k) h f = seek-on _ par n rest k (view h (omega arith) .after) f
+seek-on {page = page} pos par n (lit l c rest) zero h f = record { page = page; on = h .on; start = h .start; before = omega (arith, h .room) }
+seek-on pos par n (lit l c rest) (suc k) h f = seek-on _ par n rest k (view h (omega arith) .after) f
+seek-on {img} {page} pos par n (rec p s r rest) k h f =
+    let P : Located → Type 0 = λ l. l .found ≡ true → WithinPage img (l .at) in
+    let v = view h (omega arith) in
+    cond-case P (ltb k (width r))
+    (λ _. cond-case P (lone r) (λ _ _. record { page = page; on = h .on; start = h .start; before = omega (arith, h .room) })
+    (λ _ f. seek-on _ 0 (n + 1) r k (v .under .here) f)) (λ _ f. seek-on (pos + 8) par n rest (k - width r) (v .after) f) f

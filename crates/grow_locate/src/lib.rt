@@ -1,17 +1,22 @@
 // Where a child of a node stands, and where a new one goes, on an image that passes the check.
 use base_layout::name_at;
 use base_layout::size_at;
+use base_layout::used_at;
 use model::Settings;
 use read_find::row_end;
 use read_find::row_start;
 ghost use mathlib.Core.Path.{_≡_};
-ghost use Prim.Native.Nat.{_+_, _%_};
+ghost use mathlib.Core.Bool.{true};
+ghost use Prim.Native.Nat.{suc, _+_, _*_, _/_, _≤_, _<_};
+ghost use lib.ListN.{length};
 ghost use Rattle.model.specs.Limits.{mostPages, pageSize};
-ghost use Rattle.model.specs.Reading.{sizeAt};
+ghost use Rattle.model.specs.Reading.{sizeAt, nameAt};
+ghost use Rattle.theory_layout.specs.Here.{PageIn};
 ghost use Rattle.theory_layout.specs.Widths.{firstWidth, Widths};
 ghost use Rattle.read_find.specs.Rowed.{Rowed};
-ghost use Rattle.grow_locate.specs.Seek.{nowhere, seekOf, helperFirst, SomeRow};
-ghost use Rattle.grow_locate.specs.Behind.{behindOf, sightOf};
+ghost use Rattle.grow_locate.specs.Seek.{nowhere, seekRun, helperFirst, SomeRow, pastRun, insideRun, closerOf, childrenRun, WithinPage};
+ghost use Rattle.grow_locate.specs.Walk.{Finds};
+ghost use Rattle.grow_locate.specs.Choose.{usedAround, rightWins, sightAt, sightFirst, sightBeside, sightChild};
 
 // The page of the record that takes the node, and the bytes of the record where it goes and where its parent stands; 0 if the record does not hold the parent.
 // It is `deep` records down from the one that does, each a helper that shows children of the parent.
@@ -35,6 +40,20 @@ pub struct Located {
     pub past: usize,
     pub par: usize,
     pub deep: usize,
+}
+
+// Nodes that follow one another in a record, from the byte `pos` of the image to `end`; `par` and `deep` as above.
+pub struct Run {
+    pub pos: usize,
+    pub end: usize,
+    pub par: usize,
+    pub deep: usize,
+}
+
+// What a search finds: the node, and nodes of which the first shown is the next one; none if there is no next one.
+pub struct Sought {
+    pub node: Located,
+    pub after: Run,
 }
 
 fn nowhere() -> Located
@@ -73,98 +92,181 @@ fn leads_on(image: &[u8], pos: usize) -> bool
     start % Settings::PAGE != 0
 }
 
-// Node k of those that the row from pos to end shows, or its proxy, if it is a record's root. `par` is the parent's offset in the row's record; `widths` has
-// how many nodes each record shows, so that only records that hold the node are read.
-fn seek(
-    image: &[u8],
-    widths: &[u32; Settings::PAGES],
-    pos: usize,
-    end: usize,
-    k: usize,
-    par: usize,
-    depth: usize,
-) -> Located
-    requires { ⌜ Rowed (now image) pos end depth × Widths (now image) (now widths) ⌝ }
-    ensures { λ r. ⌜ ((w : Rowed (now (image .entry)) pos end depth) → r ≡ seekOf pos par 0 (w .row) k) ⌝ }
+// Past the first node.
+fn past_first(image: &[u8], run: Run) -> Run
+    requires { ⌜ run .pos + 6 ≤ length (now image) ⌝ }
+    ensures { λ r. ⌜ r ≡ pastRun run (sizeAt (now (image .entry)) (run .pos)) ⌝ }
+{
+    Run {
+        pos: run.pos + size_at(image, run.pos),
+        end: run.end,
+        par: run.par,
+        deep: run.deep,
+    }
+}
+
+// Into the record whose proxy is the first node.
+fn enter_first(image: &[u8], run: Run) -> Run
+    requires { ⌜ (run .pos + 8 ≤ length (now image)) × PageIn (now image) (nameAt (now image) (run .pos)) × (run .deep < 65536) ⌝ }
+    ensures { λ r. ⌜ r ≡ insideRun (now (image .entry)) run ⌝ }
+{
+    let p = name_at(image, run.pos);
+    Run {
+        pos: row_start(image, p),
+        end: row_end(image, p),
+        par: 0,
+        deep: run.deep + 1,
+    }
+}
+
+// What follows: `next`, or `after` where `next` is empty.
+fn closer(next: Run, after: Run) -> Run
+    ensures { λ r. ⌜ r ≡ closerOf next after ⌝ }
+{
+    if next.pos < next.end { next } else { after }
+}
+
+// Node k of those that the run shows, or its proxy, if it is a record's root; `widths` has how many nodes each record shows, so that only records that
+// hold the node are read. The next node is the first behind the last node passed on the way down that has one behind it.
+fn seek(image: &[u8], widths: &[u32; Settings::PAGES], from: Run, k: usize) -> Sought
+    requires { ⌜ Rowed (now image) (from .pos) (from .end) mostPages × Widths (now image) (now widths) × (from .deep ≤ mostPages) ⌝ }
+    ensures { λ r. ⌜ Finds (now (image .entry)) from k r ⌝ }
 {
     let mut left = k;
-    let mut i = pos;
-    let mut stop = end;
-    let mut holder = par;
-    let mut deep = 0;
-    while i < stop {
-        let next = i + size_at(image, i);
-        let n = shown_by(image, widths, i);
+    let mut run = from;
+    let mut after = Run {
+        pos: from.end,
+        end: from.end,
+        par: from.par,
+        deep: from.deep,
+    };
+    while run.pos < run.end {
+        let next = past_first(image, run);
+        let n = shown_by(image, widths, run.pos);
         if n <= left {
             left = left - n;
-            i = next;
+            run = next;
         } else {
-            if !leads_on(image, i) {
-                return Located {
+            after = closer(next, after);
+            if !leads_on(image, run.pos) {
+                let node = Located {
                     found: true,
-                    at: i,
-                    past: next,
-                    par: holder,
-                    deep: deep,
+                    at: run.pos,
+                    past: next.pos,
+                    par: run.par,
+                    deep: run.deep,
+                };
+                return Sought {
+                    node: node,
+                    after: after,
                 };
             }
-            let p = name_at(image, i);
-            i = row_start(image, p);
-            stop = row_end(image, p);
-            holder = 0;
-            deep = deep + 1;
+            run = enter_first(image, run);
         }
     }
-    nowhere()
+    let none = nowhere();
+    Sought {
+        node: none,
+        after: after,
+    }
+}
+
+// The children of the aggregate at the byte `parent` of the image.
+fn children(image: &[u8], parent: usize) -> Run
+    requires { ⌜ Rowed (now image) (parent + 6) (parent + sizeAt (now image) parent) mostPages ⌝ }
+    ensures { λ r. ⌜ r ≡ childrenRun (now (image .entry)) parent ⌝ }
+{
+    Run {
+        pos: parent + 6,
+        end: parent + size_at(image, parent),
+        par: parent % Settings::PAGE,
+        deep: 0,
+    }
 }
 
 // Child k of the aggregate at the byte `parent` of the image, or its proxy.
 pub fn seek_child(image: &[u8], widths: &[u32; Settings::PAGES], parent: usize, k: usize) -> Located
     requires { ⌜ Rowed (now image) (parent + 6) (parent + sizeAt (now image) parent) mostPages × Widths (now image) (now widths) ⌝ }
     ensures { λ r. ⌜ ((w : Rowed (now (image .entry)) (parent + 6) (parent + sizeAt (now (image .entry)) parent) mostPages)
-        → r ≡ seekOf (parent + 6) (parent % pageSize) 0 (w .row) k) ⌝ }
+        → r ≡ seekRun (childrenRun (now (image .entry)) parent) (w .row) k) ⌝ }
 {
-    let end = parent + size_at(image, parent);
-    seek(
-        image,
-        widths,
-        parent + 6,
-        end,
-        k,
-        parent % Settings::PAGE,
-        Settings::PAGES,
-    )
+    let s = seek(image, widths, children(image, parent), k);
+    s.node
 }
 
-// The place behind what was found.
-fn sight_past(l: Located) -> Sighted
-    ensures { λ r. ⌜ r ≡ sightOf l ⌝ }
+// The length used by the record in which the byte pos of the image is.
+fn used_around(image: &[u8], pos: usize) -> usize
+    requires { ⌜ pageSize * (pos / pageSize) + pageSize ≤ length (now image) ⌝ }
+    ensures { λ r. ⌜ r ≡ usedAround (now (image .entry)) pos ⌝ }
+{
+    used_at(image, Settings::PAGE * (pos / Settings::PAGE))
+}
+
+// There is a right sibling, and the record around it, or around its proxy, has more bytes unused than the one around the left sibling: it uses fewer.
+fn right_wins(image: &[u8], left: Located, right: Located) -> bool
+    requires { ⌜ (right .found ≡ true → WithinPage (now image) (left .at) × WithinPage (now image) (right .at)) ⌝ }
+    ensures { λ r. ⌜ r ≡ rightWins (now (image .entry)) left right ⌝ }
+{
+    if !right.found {
+        return false;
+    }
+    used_around(image, right.at) < used_around(image, left.at)
+}
+
+// The spot at the byte pos of the image.
+fn sight(found: bool, pos: usize, par: usize, deep: usize) -> Sighted
+    ensures { λ r. ⌜ r ≡ sightAt found pos par deep ⌝ }
 {
     Sighted {
-        found: l.found,
+        found: found,
         receiver: Receiver {
-            page: l.past / Settings::PAGE,
-            at: l.past % Settings::PAGE,
-            par: l.par,
-            deep: l.deep,
+            page: pos / Settings::PAGE,
+            at: pos % Settings::PAGE,
+            par: par,
+            deep: deep,
         },
     }
 }
 
-// Where child k of the aggregate at the byte `parent` of the image goes: behind its left sibling; with none, first in the parent.
+// The first child goes before its right sibling; with none, where the children would stand.
+fn spot_first(image: &[u8], widths: &[u32; Settings::PAGES], run: Run) -> Sighted
+    requires { ⌜ Rowed (now image) (run .pos) (run .end) mostPages × Widths (now image) (now widths) × (run .deep ≤ mostPages) ⌝ }
+    ensures { λ r. ⌜ ((w : Rowed (now (image .entry)) (run .pos) (run .end) mostPages) → r ≡ sightFirst run (seekRun run (w .row) 0)) ⌝ }
+{
+    let s = seek(image, widths, run, 0);
+    let sibling = s.node;
+    if sibling.found {
+        return sight(true, sibling.at, sibling.par, sibling.deep);
+    }
+    sight(true, run.pos, run.par, run.deep)
+}
+
+// A child with left sibling i goes after it or before its right one, whose search begins where the other's ends.
+fn spot_beside(image: &[u8], widths: &[u32; Settings::PAGES], run: Run, i: usize) -> Sighted
+    requires { ⌜ Rowed (now image) (run .pos) (run .end) mostPages × Widths (now image) (now widths) × (run .deep ≡ 0) ⌝ }
+    ensures { λ r. ⌜ ((w : Rowed (now (image .entry)) (run .pos) (run .end) mostPages)
+        → r ≡ sightBeside (now (image .entry)) (seekRun run (w .row) i) (seekRun run (w .row) (suc i))) ⌝ }
+{
+    let s = seek(image, widths, run, i);
+    let left = s.node;
+    let after = s.after;
+    let t = seek(image, widths, after, 0);
+    let right = t.node;
+    if right_wins(image, left, right) {
+        return sight(true, right.at, right.par, right.deep);
+    }
+    sight(left.found, left.past, left.par, left.deep)
+}
+
+// Where child k of the aggregate at the byte `parent` of the image goes.
 pub fn find_spot(image: &[u8], widths: &[u32; Settings::PAGES], parent: usize, k: usize) -> Sighted
     requires { ⌜ Rowed (now image) (parent + 6) (parent + sizeAt (now image) parent) mostPages × Widths (now image) (now widths) ⌝ }
     ensures { λ r. ⌜ ((w : Rowed (now (image .entry)) (parent + 6) (parent + sizeAt (now (image .entry)) parent) mostPages)
-        → r ≡ sightOf (behindOf (parent + 6) (parent % pageSize) 0 (w .row) k)) ⌝ }
+        → r ≡ sightChild (now (image .entry)) (childrenRun (now (image .entry)) parent) (w .row) k) ⌝ }
 {
+    let run = children(image, parent);
     if k == 0 {
-        return sight_past(Located {
-            found: true,
-            at: parent + 6,
-            past: parent + 6,
-            par: parent % Settings::PAGE,
-            deep: 0,
-        });
+        return spot_first(image, widths, run);
     }
-    sight_past(seek_child(image, widths, parent, k - 1))
+    spot_beside(image, widths, run, k - 1)
 }

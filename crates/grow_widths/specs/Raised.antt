@@ -19,7 +19,7 @@ use Rattle.theory_rows.specs.Shows.{nodes-shown}
 use Rattle.theory_rows.specs.Population.{population, width-population}
 use Rattle.theory_growth.specs.Chain.{chain-fits, proxy-beside, along, hang}
 use Rattle.theory_growth.specs.Told.{ToldAlong, along-own, along-same, along-width, population-whole}
-use Rattle.theory_removal.specs.Stand.{Onward}
+use Rattle.theory_growth.specs.Stand.{Onward}
 use Rattle.theory_layout.specs.Here.{OnPage}
 use Rattle.theory_insert_point.specs.Bytes.{chain-page}
 use Rattle.theory_insert_point.specs.Nesting.{chainLength}

@@ -6,7 +6,7 @@ use lib.ListN.{length}
 use Rattle.model.specs.Limits.{pageSize}
 use Rattle.model.specs.Row.{Row, nil, agg, lit, Config, image, inRange, valid}
 use Rattle.model.specs.Tree.{placeAt}
-use Rattle.model.specs.Spot.{spotAfter, spotIn}
+use Rattle.model.specs.Spot.{standIn, spotIn}
 use Rattle.model.specs.Growth.{grow, rise, kept}
 use Rattle.model.specs.Reading.{lengthOk, twoAt, nodesIn, sameBytes, reading}
 use Rattle.model.specs.Answers.{usualSettings, usualMatrix}
@@ -47,7 +47,7 @@ unfolding formatOf formatNumber lengthOk inRange
 formatted-is b e = ap (λ (n : ℕ). accept {A = ℕ × List ℕ} n (0, alone) (n, b) .1) (ap (λ (m : ℕ). formatNumber m settings) e)
 
 filled-is : filled alone ≡ image settings root
-unfolding image inRange valid placeAt twoAt grow spotIn spotAfter rise kept lengthOk nodesIn sameBytes reading insertNumber opened insertOf
+unfolding image inRange valid placeAt twoAt grow standIn spotIn rise kept lengthOk nodesIn sameBytes reading insertNumber opened insertOf
 filled-is = refl
 
 -- Naming this unfolds every definition that the text is made with.

@@ -4,16 +4,16 @@ use mathlib.Core.Logic.{_↔_}
 use mathlib.Core.Bool.{Bool, true, false, _&&_, _||_}
 use mathlib.Core.List.{List, [], _∷_, _++_, map}
 use mathlib.Core.Option.{none, some}
-use Prim.Native.Nat.{ℕ, _+_, _-_, _*_, _%_, _≤_, _<_, max}
+use Prim.Native.Nat.{ℕ, suc, _+_, _-_, _*_, _%_, _≤_, _<_, max}
 use lib.ListN.{length, take, drop}
 use lib.Dec.{ltb, eqb}
 use lib.IntN.{ℤ, pos, negsuc, subℕ}
 use Rattle.model.specs.Limits.{capacity}
 use Rattle.model.specs.Row.{Row, store, size, base, lone, loneRec, Held, records, recordSize, Config, every, isByte, inRange, fits, height, count, valid}
 use Rattle.model.specs.Tree.{Tree, shown, Node, nodes, named, New, insertAt, removeAt, placeOf}
-use Rattle.model.specs.Spot.{fill, lastPage, lastHolder}
-use Rattle.model.specs.Removal.{Stand, standOf, removed}
-use Rattle.model.specs.Growth.{Work, splitPoint, startOfD, rootRow, separator}
+use Rattle.model.specs.Spot.{fill, lastPage, lastHolder, Stand, standOf, Spot, spotAfter, spotBefore, unused, spotOf}
+use Rattle.model.specs.Removal.{removed}
+use Rattle.model.specs.Growth.{Work, splitPoint, startOfD, rootRow, separator, risen, atRest}
 use Rattle.model.specs.Reading.{Reads, lengthOk, reading, pageOf}
 use Rattle.model.specs.BeforeWalk.{allZero, settingsOk, trailerOf, isFree, trailerFits, pageCount, beforeWalk}
 use Rattle.model.specs.Answers.{notPassed, wrongLength, noFreePage}
@@ -56,6 +56,24 @@ pub record BeforeWalkExact (img : List ℕ) : Type 0 where
   pub exactly : (beforeWalk img ≡ true) ↔ PagesKeep img
   pub alone : (other : List ℕ) → AlikeBefore img other → beforeWalk img ≡ beforeWalk other
   pub needed : checkOf img ≡ 0 → beforeWalk img ≡ true
+
+-- ── step 1 ──
+
+-- Between siblings that stand at l and r, children i and i + 1, there are two spots. The one whose record has more bytes unused is taken, the left one if they
+-- have as many; and the tree shown does not depend on it: from either it is the plain tree's insert.
+pub record TwoSpots (st : Config) (root : Row) (path : List ℕ) (i : ℕ) (l r : Stand) (t : Spot) : Type 0 where
+  pub right : unused (spotAfter (t .parent) l) < unused (spotBefore (t .parent) r) → t ≡ spotBefore (t .parent) r
+  pub left : unused (spotBefore (t .parent) r) ≤ unused (spotAfter (t .parent) l) → t ≡ spotAfter (t .parent) l
+  pub after : (x : New) → shown (risen st x (spotAfter (t .parent) l) (atRest st root) .0) ≡ insertAt x (suc i) 0 path (shown root)
+  pub before : (x : New) → shown (risen st x (spotBefore (t .parent) r) (atRest st root) .0) ≡ insertAt x (suc i) 0 path (shown root)
+
+-- The spot t of a child, by the stands of the children that are its siblings: with both, with the left one alone, with the right one alone.
+pub record StepOne (root : Row) (path : List ℕ) (t : Spot) : Type 0 where
+  pub both : (st : Config) (i : ℕ) (l r : Stand) → spotOf root path (suc i) ≡ some t → standOf root (path ++ i ∷ []) ≡ some l
+      → standOf root (path ++ suc i ∷ []) ≡ some r → TwoSpots st root path i l r t
+  pub leftOnly : (i : ℕ) (l : Stand) → spotOf root path (suc i) ≡ some t → standOf root (path ++ i ∷ []) ≡ some l
+      → standOf root (path ++ suc i ∷ []) ≡ none → t ≡ spotAfter (t .parent) l
+  pub rightOnly : (r : Stand) → spotOf root path 0 ≡ some t → standOf root (path ++ 0 ∷ []) ≡ some r → t ≡ spotBefore (t .parent) r
 
 -- ── growth ──
 

@@ -1,10 +1,11 @@
--- Chains of records and positions in them, and step 1 of growth: where the new node goes.
-use mathlib.Core.Bool.{Bool, cond}
+-- Chains of records and positions in them, where a node stands, and step 1 of growth: where the new node goes.
+use mathlib.Core.Bool.{Bool, true, false, cond, _&&_}
 use mathlib.Core.List.{List, [], _∷_}
 use mathlib.Core.Option.{Option, none, some}
 use Prim.Native.Nat.{ℕ, zero, suc, _-_}
 use lib.Dec.{ltb}
-use Rattle.model.specs.Row.{Head, Row, nil, agg, lit, rec, _⊹_, lone}
+use Rattle.model.specs.Limits.{capacity}
+use Rattle.model.specs.Row.{Head, Row, nil, agg, lit, rec, _⊹_, lone, recordSize}
 use Rattle.model.specs.Tree.{width}
 
 -- ── in one record ──
@@ -51,7 +52,43 @@ abbrev pub whole : Chain → (row : Row) → Row
 whole top row = row
 whole (below c s q b rest) row = whole c (fill s (rec q b row rest))
 
--- ── the spot ──
+-- ── where a node stands ──
+
+-- The node, or its proxy if the node is a record's root, alone in its row; the records down to the one that holds it, the position there, and the row that
+-- follows it.
+pub record Stand : Type 0 where
+  pub chain : Chain
+  pub position : Position
+  pub node : Row
+  pub rest : Row
+
+abbrev pub standAt : Chain → Position → (node rest : Row) → Option Stand
+standAt c s node rest = some (record { chain = c; position = s; node = node; rest = rest })
+
+abbrev pub isEmpty : List ℕ → Bool
+isEmpty [] = true
+isEmpty (j ∷ path) = false
+
+-- The node that the path names from node i of a row; the row goes on at position s of the last record of c.
+unfoldable pub standIn : Chain → Position → (i : ℕ) → (path : List ℕ) → Row → Option Stand
+standIn c s i path nil = none
+standIn c s zero [] (agg h cs rest) = standAt c s (agg h cs nil) rest
+standIn c s zero (j ∷ path) (agg h cs rest) = standIn c (into s h rest) j path cs
+standIn c s (suc i) path (agg h cs rest) = standIn c (past s (agg h cs nil)) i path rest
+standIn c s zero [] (lit h x rest) = standAt c s (lit h x nil) rest
+standIn c s zero (j ∷ path) (lit h x rest) = none
+standIn c s (suc i) path (lit h x rest) = standIn c (past s (lit h x nil)) i path rest
+standIn c s i path (rec q b r rest) =
+    let itself = standAt c s (rec q b r nil) rest in
+    let within = standIn (below c s q b rest) (here nil) i path r in
+    let beyond = standIn c (past s (rec q b r nil)) (i - width r) path rest in
+    cond (ltb i (width r)) (cond (lone r && isEmpty path) itself within) beyond
+
+-- In the tree that a root record shows.
+abbrev pub standOf : (root : Row) → (path : List ℕ) → Option Stand
+standOf root path = standIn top (here nil) 0 path root
+
+-- ── the spot (step 1) ──
 
 -- Where a new node goes: the records down to the one that takes it, the position in that record, the row that follows it there, and the header of the logical
 -- parent.
@@ -61,26 +98,37 @@ pub record Spot : Type 0 where
   pub rest : Row
   pub parent : Head
 
-abbrev pub spotAt : (parent : Head) → Chain → Position → (rest : Row) → Option Spot
-spotAt parent c s rest = some (record { chain = c; position = s; rest = rest; parent = parent })
+-- Directly after a sibling, or after its proxy if the sibling is a record's root,
+abbrev pub spotAfter : (parent : Head) → Stand → Spot
+spotAfter parent n = record { chain = n .chain; position = past (n .position) (n .node); rest = n .rest; parent = parent }
 
--- Directly after node i of a row, or after its proxy if the node is a record's root; the row goes on at position s of the last record of c.
-unfoldable pub spotAfter : (parent : Head) → Chain → Position → (i : ℕ) → Row → Option Spot
-spotAfter parent c s i nil = none
-spotAfter parent c s zero (agg h cs rest) = spotAt parent c (past s (agg h cs nil)) rest
-spotAfter parent c s (suc i) (agg h cs rest) = spotAfter parent c (past s (agg h cs nil)) i rest
-spotAfter parent c s zero (lit h x rest) = spotAt parent c (past s (lit h x nil)) rest
-spotAfter parent c s (suc i) (lit h x rest) = spotAfter parent c (past s (lit h x nil)) i rest
-spotAfter parent c s i (rec q b r rest) =
-    let beside = spotAt parent c (past s (rec q b r nil)) rest in
-    let within = spotAfter parent (below c s q b rest) (here nil) i r in
-    let beyond = spotAfter parent c (past s (rec q b r nil)) (i - width r) rest in
-    cond (ltb i (width r)) (cond (lone r) beside within) beyond
+-- and directly before it, or before its proxy.
+abbrev pub spotBefore : (parent : Head) → Stand → Spot
+spotBefore parent n = record { chain = n .chain; position = n .position; rest = n .node ⊹ n .rest; parent = parent }
 
--- Child k among the children `row`: after its left sibling; with none, first in the parent.
+-- The unused bytes of the record that would take the node: 4,080 less the length used, before the insert.
+abbrev pub unused : Spot → ℕ
+unused t = capacity - recordSize (fill (t .position) (t .rest))
+
+-- The larger wins, equal goes left.
+abbrev pub emptier : (left right : Spot) → Spot
+emptier l r = cond (ltb (unused l) (unused r)) r l
+
+-- With a left sibling: if there is a right one too, the two spots are compared; else the left one decides.
+abbrev pub spotBeside : (parent : Head) → (left right : Option Stand) → Option Spot
+spotBeside parent none right = none
+spotBeside parent (some l) none = some (spotAfter parent l)
+spotBeside parent (some l) (some r) = some (emptier (spotAfter parent l) (spotBefore parent r))
+
+-- Without: the right one decides; with none, the parent's own record.
+abbrev pub spotFirst : (own : Spot) → (right : Option Stand) → Spot
+spotFirst own none = own
+spotFirst own (some r) = spotBefore (own .parent) r
+
+-- Child k among the children `row`, which go on at position s of the last record of c.
 abbrev pub spotChild : (parent : Head) → Chain → Position → (k : ℕ) → Row → Option Spot
-spotChild parent c s zero row = spotAt parent c s row
-spotChild parent c s (suc i) row = spotAfter parent c s i row
+spotChild parent c s zero row = some (spotFirst (record { chain = c; position = s; rest = row; parent = parent }) (standIn c s 0 [] row))
+spotChild parent c s (suc i) row = spotBeside parent (standIn c s i [] row) (standIn c s (suc i) [] row)
 
 -- Child k of the aggregate that the path names from node i of a row.
 unfoldable pub spotIn : (k : ℕ) → Chain → Position → (i : ℕ) → (path : List ℕ) → Row → Option Spot

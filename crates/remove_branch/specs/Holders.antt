@@ -11,8 +11,7 @@ use Rattle.model.specs.Limits.{pageSize}
 use Rattle.model.specs.Row.{Row, nil, agg, lit, rec, _⊹_, recordOn, count, Config}
 use Rattle.model.specs.Tree.{Tree}
 use Rattle.model.specs.Reading.{Reads, pageOf, backAt}
-use Rattle.model.specs.Spot.{fill, Chain, top, below, lastPage, whole, lastHolder}
-use Rattle.model.specs.Removal.{Stand}
+use Rattle.model.specs.Spot.{fill, Chain, top, below, lastPage, whole, lastHolder, Stand}
 use Rattle.theory_rows.specs.Fits.{Fits, Valid}
 use Rattle.theory_rows.specs.Image.{Stored}
 use Rattle.theory_rows.specs.Pages.{bit}

@@ -12,8 +12,7 @@ use Rattle.model.specs.Limits.{mostPages, pageSize}
 use Rattle.model.specs.Row.{Row, rec, count, Config}
 use Rattle.model.specs.Tree.{Tree}
 use Rattle.model.specs.Reading.{Reads, backAt}
-use Rattle.model.specs.Spot.{Position, fill, Chain, top, below, lastPage, whole}
-use Rattle.model.specs.Removal.{Stand}
+use Rattle.model.specs.Spot.{Position, fill, Chain, top, below, lastPage, whole, Stand}
 use Rattle.theory_rows.specs.Laws.{cond-case}
 use Rattle.theory_layout.specs.Here.{PageIn, nesting, root-nesting}
 use Rattle.theory_growth.specs.Chain.{count-chain, count-refill}

@@ -1,22 +1,22 @@
 -- What the code finds: the record that a node leaves, the bytes of it that go, and the node's parent there.
 use mathlib.Core.Path.{_≡_, refl, ap, subst, _∙_}
-use mathlib.Core.Bool.{true, false, and-false}
+use mathlib.Core.Bool.{true}
 use mathlib.Core.List.{List, [], _∷_, _++_}
 use mathlib.Core.Option.{Option, some}
 use Prim.Native.Nat.{ℕ, _+_, _*_, _-_, _/_, _%_}
 use native.Mathlib.Omega.{arith}
 use lib.Dec.{ltb}
 use Rattle.model.specs.Limits.{mostPages, pageSize}
-use Rattle.model.specs.Row.{Row, nil, agg, _⊹_, size, lone, base, Config}
+use Rattle.model.specs.Row.{Row, nil, agg, _⊹_, size, base, Config}
 use Rattle.model.specs.Tree.{shown, width, removeAt, placeOf}
 use Rattle.model.specs.declared.Place.{Place}
 use Rattle.model.specs.Reading.{Reads, sizeAt}
-use Rattle.model.specs.Spot.{Position, here, fill, into, Chain, top, lastPage}
-use Rattle.model.specs.Removal.{Stand, isEmpty, standIn, standOf}
+use Rattle.model.specs.Spot.{Position, here, fill, into, Chain, top, lastPage, Stand, standIn, standOf}
 use Rattle.theory_decoding.specs.Reading.{reads-valid}
 use Rattle.theory_places.specs.Order.{lone-root}
 use Rattle.theory_layout.specs.Here.{Here}
 use Rattle.theory_growth.specs.Chain.{before, hang}
+use Rattle.theory_growth.specs.Stand.{stand-below}
 use Rattle.theory_removal.specs.Stand.{Leaves, stand-leaves}
 use Rattle.theory_insert_point.specs.Bytes.{chain-fill}
 use Rattle.read_find.specs.Rowed.{Rowed}
@@ -70,12 +70,8 @@ stand-along k = record {
   down = λ c s j path h cs rest. refl;
   after-agg = λ c s i path h cs rest. refl;
   after-lit = λ c s i path h x rest. refl;
-  at-rec = λ c s i path q b r rest. rw (some-path path, and-false (lone r));
+  at-rec = λ c s i path q b r rest. stand-below c s i path k q b r rest;
 }
-  where
-    some-path : (path : List ℕ) → isEmpty (path ++ k ∷ []) ≡ false
-    some-path [] = refl
-    some-path (j ∷ path) = refl
 
 -- ── what the code finds ──
 

@@ -10,7 +10,8 @@ use Rattle.model.specs.Limits.{longestPath}
 use Rattle.model.specs.Row.{Row, Config, image, valid}
 use Rattle.model.specs.Tree.{Tree, shown}
 use Rattle.model.specs.Reading.{Reads}
-use Rattle.model.specs.Removal.{standOf, without, removed}
+use Rattle.model.specs.Spot.{standOf}
+use Rattle.model.specs.Removal.{without, removed}
 use Rattle.model.specs.Common.{namedBy, pathOf, isNone}
 use Rattle.model.specs.Calls.Remove.{removeNumber, removeOf}
 use Rattle.theory_layout.specs.Widths.{Widths, widths}

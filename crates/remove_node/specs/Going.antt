@@ -11,8 +11,7 @@ use Rattle.model.specs.Limits.{mostPages, pageSize, capacity}
 use Rattle.model.specs.Row.{Row, rec, store, _⊹_, size, base, nodeCount, lone, recordPage, recordOn, count, Config}
 use Rattle.model.specs.Tree.{Tree}
 use Rattle.model.specs.Reading.{Reads, pageOf, settledAt, backAt}
-use Rattle.model.specs.Spot.{Position, here, inside, fill, Chain, top, below, lastPage, whole, lastHolder}
-use Rattle.model.specs.Removal.{Stand}
+use Rattle.model.specs.Spot.{Position, here, inside, fill, Chain, top, below, lastPage, whole, lastHolder, Stand}
 use Rattle.theory_rows.specs.Fits.{Valid, Fits, Shape, one, more}
 use Rattle.theory_rows.specs.Bound.{fits-parts}
 use Rattle.theory_rows.specs.Laws.{size-⊹}
@@ -24,7 +23,8 @@ use Rattle.theory_row_bytes.specs.RowAt.{byte-on, row-split}
 use Rattle.theory_layout.specs.Here.{PageIn, Here, OnPage}
 use Rattle.theory_growth.specs.Chain.{before, lastSettled, chain-fits, beside, along}
 use Rattle.theory_insert_point.specs.Bytes.{lastHeld, chain-page, chain-bytes, chain-fill}
-use Rattle.theory_removal.specs.Stand.{Leaves, Onward, stand-names, stand-once}
+use Rattle.theory_growth.specs.Stand.{Onward}
+use Rattle.theory_removal.specs.Stand.{Leaves, stand-names, stand-once}
 use Rattle.theory_page_memory.specs.Links.{stored-parted}
 use Rattle.theory_page_memory.specs.Removing.{own-apart}
 use Rattle.grow_widths.specs.Raised.{Raising, hang-length, entryAnew, lowered, changed-long, changed-other}

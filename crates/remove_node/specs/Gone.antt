@@ -12,8 +12,8 @@ use Rattle.model.specs.Limits.{pageSize, capacity}
 use Rattle.model.specs.Row as rows
 use Rattle.model.specs.Row.{Row, rec, store, _⊹_, loneRec, recordSize, recordBytes, recordPage, recordOn, count}
 use Rattle.model.specs.Reading.{pageOf, settledAt, backAt}
-use Rattle.model.specs.Spot.{Position, fill, Chain, top, below, lastPage, whole, lastHolder}
-use Rattle.model.specs.Removal.{Stand, without}
+use Rattle.model.specs.Spot.{Position, fill, Chain, top, below, lastPage, whole, lastHolder, Stand}
+use Rattle.model.specs.Removal.{without}
 use Rattle.theory_rows.specs.Fits.{Fits}
 use Rattle.theory_rows.specs.Image.{once, length-record, length-recordPage}
 use Rattle.theory_rows.specs.Laws.{width-⊹}

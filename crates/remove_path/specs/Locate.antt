@@ -12,7 +12,7 @@ use Rattle.model.specs.Limits.{mostPages, pageSize, longestPath, longestParent}
 use Rattle.model.specs.Row.{Row, Config}
 use Rattle.model.specs.Tree.{Node, shown, named, placeOf}
 use Rattle.model.specs.Reading.{Reads, kindAt, sizeAt}
-use Rattle.model.specs.Removal.{Stand, standOf}
+use Rattle.model.specs.Spot.{Stand, standOf}
 use Rattle.model.specs.Common.{namedIf, namedBy, orEmpty, pathOf, isNone}
 use Rattle.model.specs.Calls.Find.{findOf}
 use Rattle.model.specs.declared.Place.{Place}

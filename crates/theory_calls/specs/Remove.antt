@@ -12,7 +12,8 @@ use Rattle.model.specs.Limits.{longestPath}
 use Rattle.model.specs.Row.{Row, Config, image, valid}
 use Rattle.model.specs.Tree.{Tree, shown, Node, named, removeAt}
 use Rattle.model.specs.Reading.{Reads}
-use Rattle.model.specs.Removal.{Stand, standOf, removed}
+use Rattle.model.specs.Spot.{Stand, standOf}
+use Rattle.model.specs.Removal.{removed}
 use Rattle.model.specs.Common.{entries, namedIf, namedBy, orEmpty, pathOf, isNone}
 use Rattle.model.specs.Claims.{Matches, CallHolds, Removal}
 use Rattle.model.specs.Calls.Remove.{removeNumber, removeOf, removeCall}

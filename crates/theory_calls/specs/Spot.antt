@@ -4,11 +4,11 @@ use mathlib.Core.Logic.{_≢_}
 use mathlib.Core.Bool.{Bool, false, true≢false}
 use mathlib.Core.List.{List, [], _∷_}
 use mathlib.Core.Option.{Option, none, some, Option·map, Option·some-injective, Option·none-ne-some}
-use Prim.Native.Nat.{ℕ, zero, suc, _-_, _≤_, _<_}
+use Prim.Native.Nat.{ℕ, zero, suc, _-_, _≤_}
 use native.Mathlib.Omega.{arith}
 use borrow.Author.Tests.{ltb-true, ltb-false, eqb-false}
 use lib.Dec.{ltb}
-use Rattle.model.specs.Row.{Head, Row, nil, agg, lit, rec, lone}
+use Rattle.model.specs.Row.{Head, Row, nil, agg, lit, rec}
 use Rattle.model.specs.Tree.{_⊞_, shown, width, Node, branchNode, leafNode, below as lower, further, nodeAt, named, New}
 use Rattle.model.specs.Common.{entries, namedIf, orEmpty, pathOf, isNone}
 use Rattle.model.specs.Calls.Insert.{isLiteral, childrenBelow}
@@ -16,26 +16,20 @@ use Rattle.theory_rows.specs.Laws.{cond-case, breadth-shown}
 use Rattle.theory_places.specs.Order.{nodeAt-left, nodeAt-right}
 use Rattle.theory_places.specs.Named.{unmap}
 use Rattle.theory_calls.specs.Tests.{Accepted}
-use Rattle.model.specs.Spot.{Position, here, past, into, Chain, top, below, Spot, spotAfter, spotChild, spotIn, spotOf}
+use Rattle.model.specs.Spot.{Position, here, past, into, Chain, top, below, Stand, standIn, Spot, spotBeside, spotChild, spotIn, spotOf}
+use Rattle.theory_removal.specs.Found.{HasStand, row-found}
 
 abbrev HasSpot : Option Spot → Type 0
 HasSpot o = (t : Spot) × (o ≡ some t)
 
-after-found : (parent : Head) (c : Chain) (s : Position) (i : ℕ) (row : Row) → i < width row → HasSpot (spotAfter parent c s i row)
-unfolding spotAfter
-after-found parent c s i nil z = absurd (omega arith)
-after-found parent c s zero (agg h cs rest) z = (_, refl)
-after-found parent c s (suc i) (agg h cs rest) z = after-found parent c (past s (agg h cs nil)) i rest (omega arith)
-after-found parent c s zero (lit h x rest) z = (_, refl)
-after-found parent c s (suc i) (lit h x rest) z = after-found parent c (past s (lit h x nil)) i rest (omega arith)
-after-found parent c s i (rec q b r rest) z =
-    cond-case HasSpot (ltb i (width r))
-    (λ e. cond-case HasSpot (lone r) (λ _. (_, refl)) (λ _. after-found parent (below c s q b rest) (here nil) i r (ltb-true i (width r) e)))
-    (λ e. after-found parent c (past s (rec q b r nil)) (i - width r) rest (omega (arith, ltb-false i (width r) e)))
+beside-found : (parent : Head) (l r : Option Stand) → HasStand l → HasSpot (spotBeside parent l r)
+beside-found parent none r (t, e) = absurd (Option·none-ne-some t e)
+beside-found parent (some l) none h = (_, refl)
+beside-found parent (some l) (some r) h = (_, refl)
 
 child-found : (parent : Head) (c : Chain) (s : Position) (k : ℕ) (row : Row) → k ≤ width row → HasSpot (spotChild parent c s k row)
 child-found parent c s zero row z = (_, refl)
-child-found parent c s (suc i) row z = after-found parent c s i row z
+child-found parent c s (suc i) row z = beside-found parent (standIn c s i [] row) (standIn c s (suc i) [] row) (row-found c s i row z)
 
 -- No literal, and with k children or more.
 record Open (k : ℕ) (n : Node) : Type 0 where

@@ -1,20 +1,20 @@
 -- The spots of a gap: wherever of them the new node goes, the tree shown is the plain tree's insert. Step 1 gives one of them.
 use mathlib.Core.Path.{_≡_, refl, sym, ap, subst, _∙_}
-use mathlib.Core.Bool.{Bool, false}
-use mathlib.Core.List.{List, [], _∷_}
-use mathlib.Core.Option.{Option, some, Option·some-injective, Option·none-ne-some}
+use mathlib.Core.Bool.{Bool, true, false, cond}
+use mathlib.Core.List.{List, [], _∷_, _++_}
+use mathlib.Core.Option.{Option, none, some, Option·some-injective, Option·none-ne-some}
 use Prim.Native.Nat.{ℕ, zero, suc, _-_, _<_, _≤_}
 use native.Mathlib.Omega.{arith}
-use borrow.Author.Tests.{ltb-true}
 use lib.Dec.{ltb}
 use Rattle.model.specs.Row.{Head, Row, nil, agg, lit, rec, _⊹_, nodeCount, lone}
-use Rattle.model.specs.Tree.{Tree, branch, _⊞_, shown, width, New, newNode, putAt, insertAt}
-use Rattle.model.specs.Spot.{Position, here, inside, fill, past, into, Chain, top, below, Spot, spotAt, spotAfter, spotChild, spotIn, spotOf, whole}
-use Rattle.theory_rows.specs.Laws.{cond-case, ⊹-assoc, ⊞-end, breadth-shown, within, beyond}
-use Rattle.theory_rows.specs.Laws.{putAt-left, putAt-right, putAt-lone, insertAt-left, insertAt-right}
+use Rattle.model.specs.Tree.{Tree, end, branch, leaf, _⊞_, shown, width, breadth, New, newNode, putAt, insertAt}
+use Rattle.model.specs.Spot.{Position, here, inside, fill, past, into, Chain, top, below, whole, Stand, standIn}
+use Rattle.model.specs.Spot.{Spot, spotAfter, spotBefore, unused, spotBeside, spotFirst, spotChild, spotIn, spotOf}
+use Rattle.theory_rows.specs.Laws.{cond-case, ⊹-assoc, ⊞-assoc, shown-⊹, breadth-shown, within, beyond, newNode-⊞, insertAt-left, insertAt-right}
 use Rattle.theory_rows.specs.Keeps.{nodeCount-⊹}
 use Rattle.theory_growth.specs.Chain.{wholeOf, fill-past, fill-into, two-nodes, lone-inside}
-use Rattle.theory_growth.specs.Shown.{around, above, around-past, around-into}
+use Rattle.theory_growth.specs.Shown.{around, above, around-past, around-record, around-into}
+use Rattle.theory_growth.specs.Stand.{Edit, editAt, Onward, onward-into, Stood, stood-in, stand-within, stand-below}
 
 -- A position in an aggregate, or in a record with a helper: never beside a record's only node.
 abbrev pub Steady : Position → (rest : Row) → Type 0
@@ -36,122 +36,186 @@ pub steady-lone : (s : Position) (x y : Row) → nodeCount x < nodeCount y → S
 steady-lone (here left) x y e o = two-nodes (left ⊹ y) (omega (arith, nodeCount-⊹ left x, nodeCount-⊹ left y)) ∙ sym (o .1)
 steady-lone (inside left h right s) x y e o = lone-inside left h right (fill s y) (fill s x)
 
--- ── step 1 ──
+-- the same said of the root record in other words
+pub takes-same : {root root′ : Row} {new new′ : New → Tree} (t : Spot) → root ≡ root′ → ((x : New) → new x ≡ new′ x) → Takes root new t → Takes root′ new′ t
+takes-same t a b f = record { held = f .held ∙ a; shows = λ x. f .shows x ∙ b x; steady = f .steady }
 
--- The row goes on at the position, in an aggregate or in a record with a helper.
-abbrev Onward : Position → Row → Type 0
-Onward (here left) row = lone (left ⊹ row) ≡ false
-Onward (inside left h rest s) row = Unit {0}
+-- ── beside a node ──
 
-onward-past : (s : Position) (one rest : Row) → Onward s (one ⊹ rest) → Onward (past s one) rest
-onward-past (here left) one rest o = ap lone (⊹-assoc left one rest) ∙ o
-onward-past (inside left h right s) one rest o = tt
+-- The new node directly after a node, and directly before it.
+abbrev putAfter : New → Edit
+putAfter x = record {
+  makes = λ one rest. one ⊞ newNode x rest;
+  local = λ one rest more. ⊞-assoc one (newNode x rest) more ∙ ap (_⊞_ one) (sym (newNode-⊞ x rest more));
+}
 
-onward-into : (s : Position) (h : Head) (rest row : Row) → Onward (into s h rest) row
-onward-into (here left) h rest row = tt
-onward-into (inside left g right s) h rest row = tt
+abbrev putBefore : New → Edit
+putBefore x = record {
+  makes = λ one rest. newNode x (one ⊞ rest);
+  local = λ one rest more. sym (newNode-⊞ x (one ⊞ rest) more) ∙ ap (newNode x) (⊞-assoc one rest more);
+}
 
-steady-past : (s : Position) (one rest : Row) → 1 ≤ nodeCount one → Onward s (one ⊹ rest) → Steady (past s one) rest
-steady-past (here left) one rest e o = (omega (arith, nodeCount-⊹ (left ⊹ one) rest, nodeCount-⊹ left one), ap lone (⊹-assoc left one rest) ∙ o)
-steady-past (inside left h right s) one rest e o = tt
+put-after : (x : New) (i : ℕ) (t : Tree) → editAt (putAfter x) i [] t ≡ putAt x (suc i) t
+put-after x i end = refl
+put-after x zero (branch h cs rest) = refl
+put-after x (suc i) (branch h cs rest) = ap (branch h cs) (put-after x i rest)
+put-after x zero (leaf h c rest) = refl
+put-after x (suc i) (leaf h c rest) = ap (leaf h c) (put-after x i rest)
+
+put-before : (x : New) (i : ℕ) (t : Tree) → i < breadth t → editAt (putBefore x) i [] t ≡ putAt x i t
+put-before x i end k = absurd (omega arith)
+put-before x zero (branch h cs rest) k = refl
+put-before x (suc i) (branch h cs rest) k = ap (branch h cs) (put-before x i rest (omega arith))
+put-before x zero (leaf h c rest) k = refl
+put-before x (suc i) (leaf h c rest) k = ap (leaf h c) (put-before x i rest (omega arith))
+
+steady-at : (s : Position) (one rest : Row) → nodeCount one ≡ 1 → Onward s (one ⊹ rest) → Steady s (one ⊹ rest)
+steady-at (here left) one rest e o = (omega (arith, nodeCount-⊹ left (one ⊹ rest), nodeCount-⊹ one rest), o)
+steady-at (inside left h right s) one rest e o = tt
+
+steady-past : (s : Position) (one rest : Row) → Steady s (one ⊹ rest) → Steady (past s one) rest
+steady-past (here left) one rest f = rw (⊹-assoc left one rest) f
+steady-past (inside left h right s) one rest f = tt
 
 steady-into : (s : Position) (h : Head) (rest row : Row) → Steady (into s h rest) row
 steady-into (here left) h rest row = tt
 steady-into (inside left g right s) h rest row = tt
 
-module _ (t : Spot) where
-  -- The spot is one of a row that goes on at a position, and with the new node there the row shows `new`.
-  abbrev From : Chain → Position → (row : Row) → (new : New → Tree) → Type 0
-  From c s row new = Takes (whole c (fill s row)) (λ x. above c (around s (new x))) t
+-- The two spots beside node i of a row that goes on at position s of the last record of c.
+module _ (h : Head) (c : Chain) (s : Position) (i : ℕ) (row : Row) (n : Stand) (e : standIn c s i [] row ≡ some n) (o : Onward s row) where
+  abbrev node : Stood (whole c (fill s row)) (λ e. above c (around s (editAt e i [] (shown row)))) n
+  node = stood-in n c s i [] row e o
 
-  -- the same tree
-  same-tree : (c : Chain) (s : Position) (row : Row) (old new : New → Tree) → ((x : New) → old x ≡ new x) → From c s row old → From c s row new
-  same-tree c s row old new e f =
-      record { held = f .held; shows = λ x. f .shows x ∙ ap (λ (u : Tree). above c (around s u)) (e x); steady = f .steady }
+  steady : Steady (n .position) (n .node ⊹ n .rest)
+  steady = steady-at (n .position) (n .node) (n .rest) (node .one) (node .onward)
 
-  -- a node is passed
-  past-from : (c : Chain) (s : Position) (one rest : Row) (new : New → Tree) → From c (past s one) rest new
-      → From c s (one ⊹ rest) (λ x. shown one ⊞ new x)
-  past-from c s one rest new f = record {
-    held = f .held ∙ ap (whole c) (fill-past s one rest);
-    shows = λ x. f .shows x ∙ ap (above c) (around-past s one (new x));
-    steady = f .steady;
+  pub after-takes : Takes (whole c (fill s row)) (λ x. above c (around s (putAt x (suc i) (shown row)))) (spotAfter h n)
+  after-takes = record {
+    held = ap (whole (n .chain)) (fill-past (n .position) (n .node) (n .rest)) ∙ node .held;
+    shows = λ x. ap (above (n .chain)) (around-past (n .position) (n .node) (newNode x (shown (n .rest)))) ∙ node .shows (putAfter x)
+        ∙ ap (λ (u : Tree). above c (around s u)) (put-after x i (shown row));
+    steady = steady-past (n .position) (n .node) (n .rest) steady;
   }
 
-  past-rec : (c : Chain) (s : Position) (q : ℕ) (b : Bool) (r rest : Row) (new : New → Tree) → From c (past s (rec q b r nil)) rest new
-      → From c s (rec q b r rest) (λ x. shown r ⊞ new x)
-  past-rec c s q b r rest new f =
-      same-tree c s (rec q b r rest) _ _ (λ x. ap (λ (u : Tree). u ⊞ new x) (⊞-end (shown r))) (past-from c s (rec q b r nil) rest new f)
-
-  -- an aggregate is entered
-  into-from : (c : Chain) (s : Position) (h : Head) (cs rest : Row) (new : New → Tree) → From c (into s h rest) cs new
-      → From c s (agg h cs rest) (λ x. branch h (new x) (shown rest))
-  into-from c s h cs rest new f = record {
-    held = f .held ∙ ap (whole c) (fill-into s h rest cs);
-    shows = λ x. f .shows x ∙ ap (above c) (around-into s h rest (new x));
-    steady = f .steady;
+  pub before-takes : Takes (whole c (fill s row)) (λ x. above c (around s (putAt x i (shown row)))) (spotBefore h n)
+  before-takes = record {
+    held = node .held;
+    shows = λ x. ap (λ (u : Tree). above (n .chain) (around (n .position) (newNode x u))) (shown-⊹ (n .node) (n .rest)) ∙ node .shows (putBefore x)
+        ∙ ap (λ (u : Tree). above c (around s u)) (put-before x i (shown row) (rw (breadth-shown row) (stand-within c s i [] row n e)));
+    steady = steady;
   }
 
-  -- the spot is here
-  at-from : (parent : Head) (c : Chain) (s : Position) (rest : Row) → spotAt parent c s rest ≡ some t → Steady s rest
-      → From c s rest (λ x. newNode x (shown rest))
-  at-from parent c s rest e o =
-      subst (Takes (whole c (fill s rest)) (λ x. above c (around s (newNode x (shown rest))))) (Option·some-injective _ t e)
-      (record { held = refl; shows = λ x. refl; steady = o })
+-- ── the aggregate that a path names ──
 
-  -- or behind a node
-  at-past : (parent : Head) (c : Chain) (s : Position) (one rest : Row) → 1 ≤ nodeCount one → spotAt parent c (past s one) rest ≡ some t
-      → Onward s (one ⊹ rest) → From c (past s one) rest (λ x. newNode x (shown rest))
-  at-past parent c s one rest k e o = at-from parent c (past s one) rest e (steady-past s one rest k o)
+-- From node i of a row, it stands at a position of the last record of a chain. The spot is that of child k, the children stand where the path and their number
+-- say, and what is put among them is put in the row.
+pub record Among (k : ℕ) (c : Chain) (s : Position) (i : ℕ) (path : List ℕ) (row : Row) (t : Spot) : Type 0 where
+  pub chain : Chain
+  pub position : Position
+  pub head : Head
+  pub children : Row
+  pub rest : Row
+  pub spot : spotChild head chain (into position head rest) k children ≡ some t
+  pub stands : (j : ℕ) → standIn c s i (path ++ j ∷ []) row ≡ standIn chain (into position head rest) j [] children
+  pub held : whole chain (fill (into position head rest) children) ≡ whole c (fill s row)
+  pub shows : (x : New) → above chain (around (into position head rest) (putAt x k (shown children))) ≡ above c (around s (insertAt x k i path (shown row)))
 
-  after-from : (parent : Head) (c : Chain) (s : Position) (i : ℕ) (row : Row) → spotAfter parent c s i row ≡ some t → Onward s row
-      → From c s row (λ x. putAt x (suc i) (shown row))
-  unfolding spotAfter
-  after-from parent c s i nil e o = absurd (Option·none-ne-some t e)
-  after-from parent c s zero (agg h cs rest) e o = past-from c s (agg h cs nil) rest _ (at-past parent c s (agg h cs nil) rest (omega arith) e o)
-  after-from parent c s (suc i) (agg h cs rest) e o =
-      past-from c s (agg h cs nil) rest _ (after-from parent c _ i rest e (onward-past s (agg h cs nil) rest o))
-  after-from parent c s zero (lit h b rest) e o = past-from c s (lit h b nil) rest _ (at-past parent c s (lit h b nil) rest (omega arith) e o)
-  after-from parent c s (suc i) (lit h b rest) e o =
-      past-from c s (lit h b nil) rest _ (after-from parent c _ i rest e (onward-past s (lit h b nil) rest o))
-  after-from parent c s i (rec q b r rest) e o =
-      let one : Row = rec q b r nil in
-      let new : New → Tree = λ x. putAt x (suc i) (shown r ⊞ shown rest) in
-      let P : Option Spot → Type 0 = λ p. p ≡ some t → From c s (rec q b r rest) new in
-      cond-case P (ltb i (width r))
-      (λ m. cond-case P (lone r)
-      (λ l e. same-tree c s (rec q b r rest) _ new (λ x. sym (putAt-lone x i r (shown rest) l (ltb-true i (width r) m)))
-      (past-rec c s q b r rest _ (at-past parent c s one rest (omega arith) e o)))
-      (λ l e. same-tree c s (rec q b r rest) _ new (λ x. sym (putAt-left x i (shown r) (shown rest) (within r i m)))
-      (after-from parent (below c s q b rest) (here nil) i r e l)))
-      (λ m e. same-tree c s (rec q b r rest) _ new (λ x. sym (rw (← breadth-shown r) (putAt-right x i (shown r) (shown rest) (beyond r i m))))
-      (past-rec c s q b r rest _ (after-from parent c (past s one) (i - width r) rest e (onward-past s one rest o)))) e
+-- the same aggregate from another row
+among-same : {k : ℕ} {c c′ : Chain} {s s′ : Position} {i i′ : ℕ} {path path′ : List ℕ} {row row′ : Row} {t : Spot}
+    → ((j : ℕ) → standIn c′ s′ i′ (path′ ++ j ∷ []) row′ ≡ standIn c s i (path ++ j ∷ []) row) → whole c (fill s row) ≡ whole c′ (fill s′ row′)
+    → ((x : New) → above c (around s (insertAt x k i path (shown row))) ≡ above c′ (around s′ (insertAt x k i′ path′ (shown row′))))
+    → Among k c s i path row t → Among k c′ s′ i′ path′ row′ t
+among-same a b d w = record {
+  chain = w .chain;
+  position = w .position;
+  head = w .head;
+  children = w .children;
+  rest = w .rest;
+  spot = w .spot;
+  stands = λ j. a j ∙ w .stands j;
+  held = w .held ∙ b;
+  shows = λ x. w .shows x ∙ d x;
+}
 
-  child-from : (h : Head) (c : Chain) (s : Position) (rest : Row) (k : ℕ) (row : Row) → spotChild h c (into s h rest) k row ≡ some t
-      → From c (into s h rest) row (λ x. putAt x k (shown row))
-  child-from h c s rest zero row e = at-from h c (into s h rest) row e (steady-into s h rest row)
-  child-from h c s rest (suc i) row e = after-from h c (into s h rest) i row e (onward-into s h rest row)
+-- The spot of child k is among the children of the aggregate that the path names.
+pub among : (k : ℕ) (c : Chain) (s : Position) (i : ℕ) (path : List ℕ) (row : Row) (t : Spot) → spotIn k c s i path row ≡ some t → Among k c s i path row t
+unfolding spotIn standIn
+among k c s i path nil t e = absurd (Option·none-ne-some t e)
+among k c s zero [] (agg h cs rest) t e = record {
+  chain = c;
+  position = s;
+  head = h;
+  children = cs;
+  rest = rest;
+  spot = e;
+  stands = λ j. refl;
+  held = ap (whole c) (fill-into s h rest cs);
+  shows = λ x. ap (above c) (around-into s h rest (putAt x k (shown cs)));
+}
+among k c s zero (j ∷ path) (agg h cs rest) t e =
+    among-same (λ n. refl) (ap (whole c) (fill-into s h rest cs)) (λ x. ap (above c) (around-into s h rest (insertAt x k j path (shown cs))))
+    (among k c (into s h rest) j path cs t e)
+among k c s (suc i) path (agg h cs rest) t e =
+    let one : Row = agg h cs nil in
+    among-same (λ n. refl) (ap (whole c) (fill-past s one rest)) (λ x. ap (above c) (around-past s one (insertAt x k i path (shown rest))))
+    (among k c (past s one) i path rest t e)
+among k c s zero path (lit h b rest) t e = absurd (Option·none-ne-some t e)
+among k c s (suc i) path (lit h b rest) t e =
+    let one : Row = lit h b nil in
+    among-same (λ n. refl) (ap (whole c) (fill-past s one rest)) (λ x. ap (above c) (around-past s one (insertAt x k i path (shown rest))))
+    (among k c (past s one) i path rest t e)
+among k c s i path (rec q b r rest) t e =
+    let one : Row = rec q b r nil in
+    let step : (u : Bool) → ltb i (width r) ≡ u → (j : ℕ) → standIn c s i (path ++ j ∷ []) (rec q b r rest)
+    ≡ cond u (standIn (below c s q b rest) (here nil) i (path ++ j ∷ []) r) (standIn c (past s one) (i - width r) (path ++ j ∷ []) rest) =
+    λ u m j. rw (← m) (stand-below c s i path j q b r rest) in
+    cond-case (λ (p : Option Spot). p ≡ some t → Among k c s i path (rec q b r rest) t) (ltb i (width r))
+    (λ m e. among-same (step true m) refl
+    (λ x. ap (λ (u : Tree). above c (around s u)) (sym (insertAt-left x k i path (shown r) (shown rest) (within r i m))))
+    (among k (below c s q b rest) (here nil) i path r t e))
+    (λ m e. among-same (step false m) (ap (whole c) (fill-past s one rest))
+    (λ x. ap (above c) (around-record s q b r (insertAt x k (i - width r) path (shown rest))
+    ∙ ap (around s) (sym (rw (← breadth-shown r) (insertAt-right x k i path (shown r) (shown rest) (beyond r i m))))))
+    (among k c (past s one) (i - width r) path rest t e)) e
 
-  in-from : (k : ℕ) (c : Chain) (s : Position) (i : ℕ) (path : List ℕ) (row : Row) → spotIn k c s i path row ≡ some t
-      → From c s row (λ x. insertAt x k i path (shown row))
-  unfolding spotIn
-  in-from k c s i path nil e = absurd (Option·none-ne-some t e)
-  in-from k c s zero [] (agg h cs rest) e = into-from c s h cs rest _ (child-from h c s rest k cs e)
-  in-from k c s zero (j ∷ path) (agg h cs rest) e = into-from c s h cs rest _ (in-from k c (into s h rest) j path cs e)
-  in-from k c s (suc i) path (agg h cs rest) e = past-from c s (agg h cs nil) rest _ (in-from k c (past s (agg h cs nil)) i path rest e)
-  in-from k c s zero path (lit h b rest) e = absurd (Option·none-ne-some t e)
-  in-from k c s (suc i) path (lit h b rest) e = past-from c s (lit h b nil) rest _ (in-from k c (past s (lit h b nil)) i path rest e)
-  in-from k c s i path (rec q b r rest) e =
-      let new : New → Tree = λ x. insertAt x k i path (shown r ⊞ shown rest) in
-      cond-case (λ (p : Option Spot). p ≡ some t → From c s (rec q b r rest) new) (ltb i (width r))
-      (λ m e. same-tree c s (rec q b r rest) _ new (λ x. sym (insertAt-left x k i path (shown r) (shown rest) (within r i m)))
-      (in-from k (below c s q b rest) (here nil) i path r e))
-      (λ m e. same-tree c s (rec q b r rest) _ new (λ x. sym (rw (← breadth-shown r) (insertAt-right x k i path (shown r) (shown rest) (beyond r i m))))
-      (past-rec c s q b r rest _ (in-from k c (past s (rec q b r nil)) (i - width r) path rest e))) e
+-- ── step 1 ──
+
+-- The children `row` of an aggregate at position s of the last record of c.
+module _ (h : Head) (c : Chain) (s : Position) (rest row : Row) where
+  abbrev p : Position
+  p = into s h rest
+
+  -- The spot takes child k of them.
+  abbrev TakesChild : (k : ℕ) → Spot → Type 0
+  TakesChild k = Takes (whole c (fill p row)) (λ x. above c (around p (putAt x k (shown row))))
+
+  after-child : (i : ℕ) (n : Stand) → standIn c p i [] row ≡ some n → TakesChild (suc i) (spotAfter h n)
+  after-child i n e = after-takes h c p i row n e (onward-into s h rest row)
+
+  before-child : (i : ℕ) (n : Stand) → standIn c p i [] row ≡ some n → TakesChild i (spotBefore h n)
+  before-child i n e = before-takes h c p i row n e (onward-into s h rest row)
+
+  first-child : (o : Option Stand) → standIn c p 0 [] row ≡ o → TakesChild 0 (spotFirst (record { chain = c; position = p; rest = row; parent = h }) o)
+  first-child none e = record { held = refl; shows = λ x. refl; steady = steady-into s h rest row }
+  first-child (some n) e = before-child 0 n e
+
+  later-child : (i : ℕ) (t : Spot) (l r : Option Stand) → standIn c p i [] row ≡ l → standIn c p (suc i) [] row ≡ r → spotBeside h l r ≡ some t
+      → TakesChild (suc i) t
+  later-child i t none r a b e = absurd (Option·none-ne-some t e)
+  later-child i t (some l) none a b e = subst (TakesChild (suc i)) (Option·some-injective _ t e) (after-child i l a)
+  later-child i t (some l) (some r) a b e =
+      subst (TakesChild (suc i)) (Option·some-injective _ t e)
+      (cond-case (TakesChild (suc i)) (ltb (unused (spotAfter h l)) (unused (spotBefore h r))) (λ _. before-child (suc i) r b) (λ _. after-child i l a))
+
+  child-takes : (k : ℕ) (t : Spot) → spotChild h c p k row ≡ some t → TakesChild k t
+  child-takes zero t e = subst (TakesChild 0) (Option·some-injective _ t e) (first-child (standIn c p 0 [] row) refl)
+  child-takes (suc i) t e = later-child i t (standIn c p i [] row) (standIn c p (suc i) [] row) refl refl e
 
 -- The spot that step 1 gives is in the gap.
 pub spot-gap : (root : Row) (path : List ℕ) (k : ℕ) (t : Spot) → spotOf root path k ≡ some t → Gap root path k t
-spot-gap root path k t e = in-from t k top (here nil) 0 path root e
+spot-gap root path k t e =
+    let w = among k top (here nil) 0 path root t e in
+    takes-same t (w .held) (w .shows) (child-takes (w .head) (w .chain) (w .position) (w .rest) (w .children) k t (w .spot))
 
 -- The root record is what stands around the spot, with the row that follows it.
 pub spot-whole : (root : Row) (path : List ℕ) (k : ℕ) (t : Spot) → spotOf root path k ≡ some t → wholeOf t ≡ root

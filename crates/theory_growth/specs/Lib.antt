@@ -4,6 +4,8 @@ pub mod Shown
 pub mod Pages
 pub mod Full
 pub mod Keeps
+pub mod Stand
 pub mod Gap
 pub mod Store
+pub mod Choice
 pub mod Told

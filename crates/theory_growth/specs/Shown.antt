@@ -2,11 +2,11 @@
 use mathlib.Core.Path.{_≡_, refl, sym, ap, _∙_}
 use mathlib.Core.Bool.{Bool}
 use Prim.Native.Nat.{ℕ}
-use Rattle.model.specs.Row.{Head, Row, agg, rec, height, Config}
+use Rattle.model.specs.Row.{Head, Row, nil, agg, rec, height, Config}
 use Rattle.model.specs.Tree.{Tree, branch, _⊞_, shown}
 use Rattle.model.specs.Spot.{Position, here, inside, fill, past, into, Chain, top, below, whole}
 use Rattle.model.specs.Growth.{Out, onRow, close, rise}
-use Rattle.theory_rows.specs.Laws.{⊞-assoc, shown-⊹}
+use Rattle.theory_rows.specs.Laws.{⊞-end, ⊞-assoc, shown-⊹}
 use Rattle.theory_rows.specs.Shows.{shown-kept, shown-close}
 use Rattle.theory_rows.specs.Keeps.{height-shown, levels}
 use Rattle.theory_rows.specs.Population.{population, treePopulation, population-shown}
@@ -33,6 +33,9 @@ shown-whole (below c s q b rest) x = shown-whole c (fill s (rec q b x rest)) ∙
 pub around-past : (s : Position) (more : Row) (t : Tree) → around (past s more) t ≡ around s (shown more ⊞ t)
 around-past (here left) more t = ap (λ (u : Tree). u ⊞ t) (shown-⊹ left more) ∙ ⊞-assoc (shown left) (shown more) t
 around-past (inside left h rest s) more t = ap (λ (u : Tree). shown left ⊞ branch h u (shown rest)) (around-past s more t)
+
+pub around-record : (s : Position) (q : ℕ) (b : Bool) (r : Row) (t : Tree) → around (past s (rec q b r nil)) t ≡ around s (shown r ⊞ t)
+around-record s q b r t = around-past s (rec q b r nil) t ∙ ap (λ (u : Tree). around s (u ⊞ t)) (⊞-end (shown r))
 
 pub around-into : (s : Position) (h : Head) (rest : Row) (t : Tree) → around (into s h rest) t ≡ around s (branch h t (shown rest))
 around-into (here left) h rest t = refl

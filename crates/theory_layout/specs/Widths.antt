@@ -55,7 +55,7 @@ plain-width (agg l cs rest) h k = refl
 plain-width (lit l c rest) h k = refl
 plain-width (rec p s r rest) h k = absurd (k refl)
 
-none-width : (r : Row) → 0 ≡ size r → 0 ≡ width r
+pub none-width : (r : Row) → 0 ≡ size r → 0 ≡ width r
 none-width nil e = refl
 none-width (agg h cs rest) e = absurd (omega arith)
 none-width (lit h c rest) e = absurd (omega arith)

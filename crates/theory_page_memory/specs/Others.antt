@@ -13,8 +13,8 @@ use Rattle.model.specs.Limits.{capacity, pageSize}
 use Rattle.model.specs.Row.{Row, nil, rec, store, loneRec, two, recordPage, recordOn, count, image, Config}
 use Rattle.model.specs.Reading.{Reads, pageOf}
 use Rattle.model.specs.Tree.{Tree}
-use Rattle.model.specs.Spot.{Position, fill, Chain, top, below, lastPage, lastHolder}
-use Rattle.model.specs.Removal.{Stand, standOf, without, removed}
+use Rattle.model.specs.Spot.{Position, fill, Chain, top, below, lastPage, lastHolder, Stand, standOf}
+use Rattle.model.specs.Removal.{without, removed}
 use Rattle.model.specs.Claims.{SameButLink, OthersStay, touched}
 use Rattle.model.specs.Calls.Remove.{removeOf}
 use Rattle.theory_rows.specs.Fits.{Valid, Fits}

@@ -12,8 +12,8 @@ use Rattle.model.specs.Row.{Row, nil, rec, store, _⊹_, loneRec, recordPage, r
 use Rattle.model.specs.Reading.{Reads, pageOf}
 use Rattle.model.specs.Tree.{Tree}
 use Rattle.model.specs.Growth.{atRest}
-use Rattle.model.specs.Spot.{Position, fill, Chain, top, below, lastPage, whole, lastHolder}
-use Rattle.model.specs.Removal.{Stand, replaced, lost, without}
+use Rattle.model.specs.Spot.{Position, fill, Chain, top, below, lastPage, whole, lastHolder, Stand}
+use Rattle.model.specs.Removal.{replaced, lost, without}
 use Rattle.theory_rows.specs.Fits.{Valid, Fits}
 use Rattle.theory_rows.specs.Bound.{fits-parts}
 use Rattle.theory_rows.specs.Image.{Stored}

@@ -1,16 +1,15 @@
 -- A node that the tree shows stands in the records.
-use mathlib.Core.Path.{_≡_, refl, sym, _∙_}
+use mathlib.Core.Path.{_≡_, refl, sym, ap, _∙_}
 use mathlib.Core.Bool.{_&&_}
 use mathlib.Core.List.{List, [], _∷_}
 use mathlib.Core.Option.{Option, some, Option·map, Option·none-ne-some}
-use Prim.Native.Nat.{ℕ, zero, suc, _-_}
+use Prim.Native.Nat.{ℕ, zero, suc, _-_, _<_}
 use native.Mathlib.Omega.{arith}
 use borrow.Author.Tests.{ltb-true, ltb-false}
 use lib.Dec.{ltb}
 use Rattle.model.specs.Row.{Row, nil, agg, lit, rec, lone}
-use Rattle.model.specs.Tree.{_⊞_, shown, width, Node, below as lower, further, nodeAt, named}
-use Rattle.model.specs.Spot.{Position, here, past, into, Chain, top, below}
-use Rattle.model.specs.Removal.{Stand, isEmpty, standIn, standOf}
+use Rattle.model.specs.Tree.{Tree, end, branch, leaf, _⊞_, shown, width, breadth, Node, below as lower, further, nodeAt, named}
+use Rattle.model.specs.Spot.{Position, here, past, into, Chain, top, below, Stand, isEmpty, standIn, standOf}
 use Rattle.theory_rows.specs.Laws.{cond-case, breadth-shown}
 use Rattle.theory_places.specs.Order.{nodeAt-left, nodeAt-right}
 use Rattle.theory_places.specs.Named.{unmap}
@@ -45,3 +44,14 @@ in-found c s i path (rec q b r rest) n e =
 
 pub stand-found : (root : Row) (path : List ℕ) (n : Node) → named (shown root) path ≡ some n → HasStand (standOf root path)
 stand-found root path n e = in-found top (here nil) 0 path root n e
+
+-- A node of the row by its number alone.
+node-found : (i : ℕ) (t : Tree) → i < breadth t → (n : Node) × (nodeAt i [] t ≡ some n)
+node-found i end h = absurd (omega arith)
+node-found zero (branch l cs rest) h = (_, refl)
+node-found (suc i) (branch l cs rest) h = let (n, e) = node-found i rest (omega arith) in (_, ap (Option·map (further 1)) e)
+node-found zero (leaf l c rest) h = (_, refl)
+node-found (suc i) (leaf l c rest) h = let (n, e) = node-found i rest (omega arith) in (_, ap (Option·map (further 1)) e)
+
+pub row-found : (c : Chain) (s : Position) (i : ℕ) (row : Row) → i < width row → HasStand (standIn c s i [] row)
+row-found c s i row h = let (n, e) = node-found i (shown row) (rw (breadth-shown row) h) in in-found c s i [] row n e

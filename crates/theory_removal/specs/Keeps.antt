@@ -9,8 +9,8 @@ use borrow.Author.Tests.{leb-true, leb-false}
 use lib.Dec.{leb, eqb}
 use Rattle.model.specs.Row.{Row, nil, agg, lit, rec, store, _⊹_, size, lone, loneRec, nodeCount, base, count, Config}
 use Rattle.model.specs.Tree.{Tree, end, branch, leaf, _⊞_, shown, removeAt}
-use Rattle.model.specs.Spot.{Position, here, inside, fill, Chain, top, below, whole}
-use Rattle.model.specs.Removal.{Stand, standOf, replaced, lost, without, removed, fromStand}
+use Rattle.model.specs.Spot.{Position, here, inside, fill, Chain, top, below, whole, Stand, standOf}
+use Rattle.model.specs.Removal.{replaced, lost, without, removed, fromStand}
 use Rattle.theory_rows.specs.Fits.{Fits, RecordFits, Shape, one, more, Valid}
 use Rattle.theory_rows.specs.Laws.{cond-case, size-⊹, shown-⊹, isNil-nil}
 use Rattle.theory_rows.specs.Bound.{Fits-⊹, fits-parts}
@@ -19,9 +19,10 @@ use Rattle.theory_rows.specs.Keeps.{nodeCount-⊹, height-shown, levels, shape-
 use Rattle.theory_growth.specs.Chain.{size-fill, nodes-fill, fits-fill, fits-refill, chain-fits, lastSettled, lone-inside, lone-proxy, count-refill}
 use Rattle.theory_growth.specs.Chain.{count-chain}
 use Rattle.theory_growth.specs.Shown.{around, above, shown-fill, shown-whole}
+use Rattle.theory_growth.specs.Stand.{Onward}
 use Rattle.theory_growth.specs.Store.{settled-lone, isBranch, agg-branch}
 use Rattle.theory_removal.specs.Laws.{levels-removeAt}
-use Rattle.theory_removal.specs.Stand.{Onward, Leaves, stand-leaves, stand-names}
+use Rattle.theory_removal.specs.Stand.{Leaves, stand-leaves, stand-names}
 
 -- ── one proxy ──
 

@@ -1,41 +1,26 @@
 -- Laws of the plain tree's removal.
 use mathlib.Core.Path.{_≡_, refl, ap}
-use mathlib.Core.Bool.{true, false≢true}
 use mathlib.Core.List.{List, [], _∷_}
-use Prim.Native.Nat.{ℕ, zero, suc, _-_, _≤_, _<_}
+use Prim.Native.Nat.{ℕ, zero, suc, _≤_}
 use native.Mathlib.Omega.{arith}
-use native.Mathlib.Nat.{sub-zero, suc-sub-suc}
-use Rattle.model.specs.Row.{Row, nil, agg, lit, rec, lone}
-use Rattle.model.specs.Tree.{Tree, end, branch, leaf, _⊞_, shown, width, breadth, removeAt}
-use Rattle.theory_rows.specs.Laws.{isNil-nil}
+use Rattle.model.specs.Tree.{Tree, end, branch, leaf, removeAt}
 use Rattle.theory_rows.specs.Keeps.{levels}
+use Rattle.theory_growth.specs.Stand.{Edit, editAt}
 
--- ── in a row that is two rows joined ──
+-- ── an edit ──
 
-pub removeAt-left : (i : ℕ) (path : List ℕ) (a b : Tree) → i < breadth a → removeAt i path (a ⊞ b) ≡ removeAt i path a ⊞ b
-removeAt-left i path end b h = absurd (omega arith)
-removeAt-left zero [] (branch l cs rest) b h = refl
-removeAt-left zero (j ∷ path) (branch l cs rest) b h = refl
-removeAt-left (suc i) path (branch l cs rest) b h = ap (branch l cs) (removeAt-left i path rest b (omega arith))
-removeAt-left zero [] (leaf l c rest) b h = refl
-removeAt-left zero (j ∷ path) (leaf l c rest) b h = refl
-removeAt-left (suc i) path (leaf l c rest) b h = ap (leaf l c) (removeAt-left i path rest b (omega arith))
+-- Of a node and what follows it, what follows it is left.
+abbrev pub drops : Edit
+drops = record { makes = λ one rest. rest; local = λ one rest more. refl }
 
-pub removeAt-right : (i : ℕ) (path : List ℕ) (a b : Tree) → breadth a ≤ i → removeAt i path (a ⊞ b) ≡ a ⊞ removeAt (i - breadth a) path b
-removeAt-right i path end b h = rw sub-zero
-removeAt-right zero path (branch l cs rest) b h = absurd (omega arith)
-removeAt-right (suc i) path (branch l cs rest) b h = rw suc-sub-suc (ap (branch l cs) (removeAt-right i path rest b (omega arith)))
-removeAt-right zero path (leaf l c rest) b h = absurd (omega arith)
-removeAt-right (suc i) path (leaf l c rest) b h = rw suc-sub-suc (ap (leaf l c) (removeAt-right i path rest b (omega arith)))
-
--- The root of a record is all that the record shows.
-pub removeAt-lone : (i : ℕ) (r : Row) (t : Tree) → lone r ≡ true → i < width r → removeAt i [] (shown r ⊞ t) ≡ t
-removeAt-lone i nil t e h = absurd (false≢true e)
-removeAt-lone zero (agg l cs rest) t e h = rw (isNil-nil rest e)
-removeAt-lone (suc i) (agg l cs rest) t e h = absurd (omega (arith, ap width (isNil-nil rest e)))
-removeAt-lone zero (lit l c rest) t e h = rw (isNil-nil rest e)
-removeAt-lone (suc i) (lit l c rest) t e h = absurd (omega (arith, ap width (isNil-nil rest e)))
-removeAt-lone i (rec p s r rest) t e h = absurd (false≢true e)
+pub removeAt-edit : (i : ℕ) (path : List ℕ) (t : Tree) → editAt drops i path t ≡ removeAt i path t
+removeAt-edit i path end = refl
+removeAt-edit zero [] (branch l cs rest) = refl
+removeAt-edit zero (j ∷ path) (branch l cs rest) = ap (λ (u : Tree). branch l u rest) (removeAt-edit j path cs)
+removeAt-edit (suc i) path (branch l cs rest) = ap (branch l cs) (removeAt-edit i path rest)
+removeAt-edit zero [] (leaf l c rest) = refl
+removeAt-edit zero (j ∷ path) (leaf l c rest) = refl
+removeAt-edit (suc i) path (leaf l c rest) = ap (leaf l c) (removeAt-edit i path rest)
 
 -- ── levels ──
 

@@ -9,8 +9,8 @@ use lib.ListN.{length, getD}
 use lib.Dec.{leb, eqb}
 use Rattle.model.specs.Row.{Row, nil, rec, store, _⊹_, count, Config}
 use Rattle.model.specs.Tree.{Tree, width}
-use Rattle.model.specs.Spot.{Position, fill, Chain, below, whole}
-use Rattle.model.specs.Removal.{Stand, without}
+use Rattle.model.specs.Spot.{Position, fill, Chain, below, whole, Stand}
+use Rattle.model.specs.Removal.{without}
 use Rattle.theory_rows.specs.Fits.{Valid}
 use Rattle.theory_rows.specs.Pages.{bit}
 use Rattle.theory_places.specs.Widths.{Told, Table, told-same}

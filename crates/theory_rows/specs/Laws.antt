@@ -8,8 +8,8 @@ use native.Mathlib.Nat.{sub-zero, suc-sub-suc}
 use borrow.Author.Tests.{ltb-true, ltb-false}
 use lib.ListN.{length, length-append}
 use lib.Dec.{ltb, eqb}
-use Rattle.model.specs.Row.{Row, nil, agg, lit, rec, _⊹_, size, nodeCount, isNil, lone, bytes}
-use Rattle.model.specs.Tree.{Tree, end, branch, leaf, _⊞_, shown, width, breadth, New, newNode, putAt, insertAt}
+use Rattle.model.specs.Row.{Row, nil, agg, lit, rec, _⊹_, size, nodeCount, isNil, bytes, lone}
+use Rattle.model.specs.Tree.{Tree, end, branch, leaf, _⊞_, shown, width, breadth, New, newNode, insertAt}
 
 -- ── bytes ──
 
@@ -86,7 +86,6 @@ cond-case P false f g = g refl
 
 -- ── the plain tree's insert ──
 
--- a place in a row that is two rows joined
 pub newNode-⊞ : (x : New) (a b : Tree) → newNode x (a ⊞ b) ≡ newNode x a ⊞ b
 newNode-⊞ x a b = go (eqb (x .kind) 1)
   where
@@ -95,20 +94,7 @@ newNode-⊞ x a b = go (eqb (x .kind) 1)
     go true = refl
     go false = refl
 
-pub putAt-left : (x : New) (i : ℕ) (a b : Tree) → i < breadth a → putAt x (suc i) (a ⊞ b) ≡ putAt x (suc i) a ⊞ b
-putAt-left x i end b h = absurd (omega arith)
-putAt-left x zero (branch l cs rest) b h = ap (branch l cs) (newNode-⊞ x rest b)
-putAt-left x (suc i) (branch l cs rest) b h = ap (branch l cs) (putAt-left x i rest b (omega arith))
-putAt-left x zero (leaf l c rest) b h = ap (leaf l c) (newNode-⊞ x rest b)
-putAt-left x (suc i) (leaf l c rest) b h = ap (leaf l c) (putAt-left x i rest b (omega arith))
-
-pub putAt-right : (x : New) (i : ℕ) (a b : Tree) → breadth a ≤ i → putAt x (suc i) (a ⊞ b) ≡ a ⊞ putAt x (suc (i - breadth a)) b
-putAt-right x i end b h = rw sub-zero
-putAt-right x zero (branch l cs rest) b h = absurd (omega arith)
-putAt-right x (suc i) (branch l cs rest) b h = rw suc-sub-suc (ap (branch l cs) (putAt-right x i rest b (omega arith)))
-putAt-right x zero (leaf l c rest) b h = absurd (omega arith)
-putAt-right x (suc i) (leaf l c rest) b h = rw suc-sub-suc (ap (leaf l c) (putAt-right x i rest b (omega arith)))
-
+-- a place in a row that is two rows joined
 pub insertAt-left : (x : New) (k i : ℕ) (path : List ℕ) (a b : Tree) → i < breadth a → insertAt x k i path (a ⊞ b) ≡ insertAt x k i path a ⊞ b
 insertAt-left x k i path end b h = absurd (omega arith)
 insertAt-left x k zero [] (branch l cs rest) b h = refl
@@ -130,22 +116,20 @@ within r i e = rw (breadth-shown r) (ltb-true i (width r) e)
 pub beyond : (r : Row) (i : ℕ) → ltb i (width r) ≡ false → breadth (shown r) ≤ i
 beyond r i e = rw (breadth-shown r) (ltb-false i (width r) e)
 
--- after the root of a record is after its proxy
+-- ── rows of few nodes ──
+
 pub isNil-nil : (r : Row) → isNil r ≡ true → r ≡ nil
 isNil-nil nil e = refl
 isNil-nil (agg l cs rest) e = absurd (false≢true e)
 isNil-nil (lit l c rest) e = absurd (false≢true e)
 isNil-nil (rec p s r rest) e = absurd (false≢true e)
 
-pub putAt-lone : (x : New) (i : ℕ) (r : Row) (t : Tree) → lone r ≡ true → i < width r → putAt x (suc i) (shown r ⊞ t) ≡ shown r ⊞ newNode x t
-putAt-lone x i nil t e h = absurd (false≢true e)
-putAt-lone x zero (agg l cs rest) t e h = rw (isNil-nil rest e)
-putAt-lone x (suc i) (agg l cs rest) t e h = absurd (omega (arith, ap width (isNil-nil rest e)))
-putAt-lone x zero (lit l c rest) t e h = rw (isNil-nil rest e)
-putAt-lone x (suc i) (lit l c rest) t e h = absurd (omega (arith, ap width (isNil-nil rest e)))
-putAt-lone x i (rec p s r rest) t e h = absurd (false≢true e)
-
--- ── rows of few nodes ──
+-- A record of one aggregate or literal shows one node.
+pub lone-width : (r : Row) → lone r ≡ true → width r ≡ 1
+lone-width nil e = absurd (false≢true e)
+lone-width (agg l cs rest) e = omega (arith, ap width (isNil-nil rest e))
+lone-width (lit l c rest) e = omega (arith, ap width (isNil-nil rest e))
+lone-width (rec p s r rest) e = absurd (false≢true e)
 
 pub nodes-nil : (r : Row) → nodeCount r ≡ 0 → r ≡ nil
 nodes-nil nil e = refl

@@ -1,46 +1,61 @@
-use mathlib.Core.Path.{_≡_, sym, ap, _∙_}
-use Prim.Native.Nat.{ℕ, suc, _+_, _-_, _%_}
+use mathlib.Core.Path.{_≡_, refl, sym, ap, subst, _∙_}
+use Prim.Native.Nat.{suc, _-_, _≤_}
 use native.Mathlib.Omega.{arith}
 use borrow.Author.Needs.{needs}
-use Rattle.model.specs.Limits.{pageSize}
-use Rattle.grow_locate.specs.Behind.{behindOf, sightOf}
+use Rattle.model.specs.Limits.{mostPages}
+use Rattle.theory_layout.specs.Widths.{Widths}
+use Rattle.read_find.specs.Rowed.{Rowed}
+use Rattle.grow_locate.specs.declared.Run.{Run}
+use Rattle.grow_locate.specs.Seek.{seekRun, childrenRun}
+use Rattle.grow_locate.specs.Choose.{sightFirst, sightBeside, sightChild}
 use Rattle.grow_locate.proofs.find_spot.Statement.{statement}
 use Rattle.grow_locate.proofs.find_spot.Tie as tie
 
-add-t6 : tie.Need-add-t6
-add-t6 c = search needs
+children-requires : tie.Need-children-requires
+children-requires c κs = search needs
 
-add-t7 : tie.Need-add-t7
-add-t7 c = search needs
-
-sight-past-requires : tie.Need-sight-past-requires
-sight-past-requires c κs = search needs
+spot-first-requires : tie.Need-spot-first-requires
+spot-first-requires c κs =
+    let s = c .before .before .before in
+    subst (λ (r : Run). Rowed (s .args .image .now) (r .pos) (r .end) mostPages × Widths (s .args .image .now) (s .args .widths .now) × (r .deep ≤ mostPages))
+    (sym (c .before .children .ensures)) (s .pre .0, s .pre .1, omega arith)
 
 returns : tie.Need-returns
 returns c =
-    λ w.
-    let a = c .before .before .before .args in
-    c .sight-past .ensures ∙ ap (λ (k : ℕ). sightOf (behindOf (a .parent + 6) (a .parent % pageSize) 0 (w .row) k)) (sym (c .before .if1 .taken))
+    let x = c .before .before in
+    let a = x .before .before .args in
+    let run = childrenRun (a .image .now) (a .parent) in
+    let P : Run → Type 0 = λ r. (w : Rowed (a .image .now) (r .pos) (r .end) mostPages) → c .spot-first .result ≡ sightFirst r (seekRun r (w .row) 0) in
+    λ w. subst P (x .children .ensures) (c .spot-first .ensures) w ∙ ap (sightChild (a .image .now) run (w .row)) (sym (c .before .if1 .taken))
 
-sub-seek-child : tie.Need-sub-seek-child
-sub-seek-child c = search needs
+sub-spot-beside : tie.Need-sub-spot-beside
+sub-spot-beside c = search needs
 
-seek-child-requires : tie.Need-seek-child-requires
-seek-child-requires c κs = search needs
-
-sight-past-requires-2 : tie.Need-sight-past-requires-2
-sight-past-requires-2 c κs = search needs
+spot-beside-requires : tie.Need-spot-beside-requires
+spot-beside-requires c κs =
+    let s = c .before .before .before in
+    subst (λ (r : Run). Rowed (s .args .image .now) (r .pos) (r .end) mostPages × Widths (s .args .image .now) (s .args .widths .now) × (r .deep ≡ 0))
+    (sym (c .before .children .ensures)) (s .pre .0, s .pre .1, refl)
 
 returns-2 : tie.Need-returns-2
 returns-2 c =
-    λ w.
-    let e = c .before .before in
-    let a = e .before .before .args in
-    let z : suc (a .k - 1) ≡ a .k = omega (arith, e .if1 .left) in
-    c .sight-past2 .ensures ∙ ap sightOf (c .before .seek-child .ensures w)
-    ∙ ap (λ (k : ℕ). sightOf (behindOf (a .parent + 6) (a .parent % pageSize) 0 (w .row) k)) z
+    let x = c .before .before in
+    let a = x .before .before .args in
+    let img = a .image .now in
+    let run = childrenRun img (a .parent) in
+    let i = a .k - 1 in
+    let z : suc i ≡ a .k = omega (arith, c .before .if1 .left) in
+    let P : Run → Type 0 = λ r. (w : Rowed img (r .pos) (r .end) mostPages)
+    → c .spot-beside .result ≡ sightBeside img (seekRun r (w .row) i) (seekRun r (w .row) (suc i)) in
+    λ w. subst P (x .children .ensures) (c .spot-beside .ensures) w ∙ ap (sightChild img run (w .row)) z
 
 pub find-spot-spec : {M : Type 1} → statement M
 find-spot-spec =
     tie.close
-    (tie.spec add-t6 add-t7 sight-past-requires returns sub-seek-child seek-child-requires sight-past-requires-2 returns-2)
+    (tie.spec
+    children-requires
+    spot-first-requires
+    returns
+    sub-spot-beside
+    spot-beside-requires
+    returns-2)

@@ -1,132 +1,181 @@
 -- `grow_locate::seek`: the loop goes along the row, past nodes that do not show the one sought, and into the record whose helper shows it; in what is left it
--- stays the same. Into a record the depth falls.
-use mathlib.Core.Path.{_≡_, sym, _∙_}
+-- stays the same, and so does the one after it, there or in what follows. Into a record the depth falls.
+use mathlib.Core.Path.{_≡_, refl, sym, ap, subst, _∙_}
 use mathlib.Core.Bool.{true}
-use Prim.Native.Nat.{_+_, _*_, _-_, _≤_, _<_}
+use Prim.Native.Nat.{ℕ, suc, _+_, _*_, _-_, _≤_, _<_}
 use native.Mathlib.Omega.{arith}
-use lib.ListN.{length}
 use borrow.Author.Tests.{not-true, not-false}
-use Rattle.model.specs.Limits.{pageSize, mostBytes}
+use Rattle.model.specs.Limits.{mostPages, pageSize}
+use Rattle.model.specs.Reading.{sizeAt, nameAt}
 use Rattle.read_find.specs.Rowed.{Rowed, Entered, short, room}
 use Rattle.grow_locate.specs.declared.Located.{Located}
-use Rattle.grow_locate.specs.Seek.{helperFirst, SomeRow, first-long, helper-first, proxy-first}
-use Rattle.grow_locate.specs.Seek.{Seeking, seeking, seek-deep, seek-end, seek-past, seek-here, seek-inside}
+use Rattle.grow_locate.specs.declared.Run.{Run}
+use Rattle.grow_locate.specs.Seek.{helperFirst, SomeRow, first-long, helper-first, proxy-first, locatedAt, seekRun}
+use Rattle.grow_locate.specs.Seek.{pastRun, insideRun, emptyRun, closerOf, closer-deep}
+use Rattle.grow_locate.specs.Walk.{Follows, Seeking, seeking, seek-deep, seek-end, seek-past, seek-here, seek-inside}
 use Rattle.grow_locate.proofs.seek.Statement.{statement}
 use Rattle.grow_locate.proofs.seek.Tie as tie
 
 abbrev Inv-loop : tie.InvT-loop
-Inv-loop image widths pos end k par depth left₀ i₀ stop₀ holder₀ deep₀ left i stop holder deep =
-    ((t : Located) → Seeking image pos end depth k par 0 t → Seeking image i stop (depth - deep) left holder deep t) × (deep ≤ depth)
+Inv-loop image widths k left₀ run₀ after₀ left run after =
+    ((t u : Located) → Seeking image run₀ (emptyRun run₀) mostPages k t u → Seeking image run after (mostPages - (run .deep - run₀ .deep)) left t u)
+    × (run₀ .deep ≤ run .deep) × (run .deep ≤ run₀ .deep + mostPages) × (after .deep ≤ run₀ .deep + mostPages)
 
 abbrev μ-loop : tie.MeasureT-loop
-μ-loop image widths pos end k par depth left₀ i₀ stop₀ holder₀ deep₀ left i stop holder deep = pageSize * (depth - deep) + (stop - i)
+μ-loop image widths k left₀ run₀ after₀ left run after = pageSize * (mostPages - (run .deep - run₀ .deep)) + (run .end - run .pos)
 
--- The row that is left at the loop's head, and its room.
-seen : (c : tie.At-loop Inv-loop μ-loop) → let a = c .before .before .args in
-    Rowed (a .image .now) (c .loop .i) (c .loop .stop) (a .depth - c .loop .deep)
-seen c = c .loop .inv .0 _ (seeking (c .before .before .pre .0)) .rest
+-- The row that is left in the loop is not empty, and has room.
+abbrev depth : tie.Then1 Inv-loop μ-loop → ℕ
+depth c = let l = c .before .before in mostPages - (l .loop .run .deep - l .before .before .args .from .deep)
 
-in-room : (c : tie.At-loop Inv-loop μ-loop) → (c .loop .stop + 16 ≤ length (c .before .before .args .image .now)) × (c .loop .stop < mostBytes)
-in-room c = room _ _ _ _ (seen c)
+seen : (c : tie.Then1 Inv-loop μ-loop) → let l = c .before .before in
+    Rowed (l .before .before .args .image .now) (l .loop .run .pos) (l .loop .run .end) (depth c)
+seen c = let l = c .before .before in l .loop .inv .0 _ _ (seeking (l .before .before .pre .0)) .rest
 
--- A row that is left is not empty in the loop.
-abbrev some : (c : tie.In-loop Inv-loop μ-loop) → let l = c .before in let a = l .before .before .args in
-    Rowed (a .image .now) (l .loop .i) (l .loop .stop) (a .depth - l .loop .deep) → SomeRow (a .image .now) (l .loop .i)
-some c w = record { end = _; depth = _; rowed = w; some = c .loop-test .taken }
+abbrev some : (c : tie.Then1 Inv-loop μ-loop) → let l = c .before .before in
+    Rowed (l .before .before .args .image .now) (l .loop .run .pos) (l .loop .run .end) (depth c) → SomeRow (l .before .before .args .image .now) (l .loop .run .pos)
+some c w = record { end = _; depth = _; rowed = w; some = c .if1 .taken }
 
 loop-holds : tie.Need-loop-holds Inv-loop μ-loop
-loop-holds c = (λ t s. seek-deep (omega arith) s, omega arith)
+loop-holds c = (λ t u s. seek-deep (omega arith) s, omega arith, omega arith, omega arith)
 
-size-at-requires : tie.Need-size-at-requires Inv-loop μ-loop
-size-at-requires c κs = omega (arith, in-room (c .before), c .loop-test .taken)
-
-add-next : tie.Need-add-next Inv-loop μ-loop
-add-next c = omega (arith, in-room (c .before .before), c .before .loop-test .taken, c .size-at .ensures .1)
+past-first-requires : tie.Need-past-first-requires Inv-loop μ-loop
+past-first-requires c κs = omega (arith, room _ _ _ _ (seen c), c .if1 .taken)
 
 shown-by-requires : tie.Need-shown-by-requires Inv-loop μ-loop
-shown-by-requires c κs = let i = c .before in (some i (seen (i .before)), i .before .before .before .pre .1)
+shown-by-requires c κs = let i = c .before in (some i (seen i), i .before .before .before .before .pre .1)
 
 loop-less : tie.Need-loop-less Inv-loop μ-loop
 loop-less c =
     let i = c .before .before .before in
-    omega (arith, first-long (some i (seen (i .before))), c .before .before .size-at .ensures .0, i .loop-test .taken)
+    let e = c .before .before .past-first .ensures in
+    let p = ap (λ (r : Run). r .pos) e in
+    let q = ap (λ (r : Run). r .end) e in
+    let d = ap (λ (r : Run). r .deep) e in
+    omega (arith, first-long (some i (seen i)), i .if1 .taken)
 
 loop-again : tie.Need-loop-again Inv-loop μ-loop
 loop-again c =
     let i = c .before .before .before in
-    let l = i .before in (
-      λ t s.
-          let w = l .loop .inv .0 t s in
-          seek-past w (i .loop-test .taken) (c .before .shown-by .ensures (some i (w .rest))) (c .before .before .size-at .ensures .0) (c .if1 .taken),
+    let l = i .before .before in
+    let a = l .before .before .args in
+    let P : Run → Type 0 = λ r. Inv-loop (a .image .now) (a .widths .now) (a .k) (a .k) (a .from) (emptyRun (a .from)) (l .loop .left - c .before .shown-by .result) r
+    (l .loop .after) in
+    subst P (sym (c .before .before .past-first .ensures)) (
+      λ t u s.
+          let w = l .loop .inv .0 t u s in
+          seek-past w (i .if1 .taken) (c .before .shown-by .ensures (some i (w .rest))) (c .if2 .taken),
       l .loop .inv .1,
+      l .loop .inv .2,
+      l .loop .inv .3,
     )
 
+-- What follows the first node, or else what followed before.
+closes : (c : tie.After-closer Inv-loop μ-loop) → let l = c .before .before .before .before .before .before in
+    c .closer .result ≡ closerOf (pastRun (l .loop .run) (sizeAt (l .before .before .args .image .now) (l .loop .run .pos))) (l .loop .after)
+closes c =
+    let l = c .before .before .before .before .before .before in
+    c .closer .ensures ∙ ap (λ (r : Run). closerOf r (l .loop .after)) (c .before .before .before .past-first .ensures)
+
+closes-deep : (c : tie.After-closer Inv-loop μ-loop) → let a = c .before .before .before .before .before .before .before .before .args in
+    c .closer .result .deep ≤ a .from .deep + mostPages
+closes-deep c =
+    let l = c .before .before .before .before .before .before in
+    let a = l .before .before .args in
+    let n = a .from .deep + mostPages in
+    let next = pastRun (l .loop .run) (sizeAt (a .image .now) (l .loop .run .pos)) in
+    subst (λ (r : Run). r .deep ≤ n) (sym (closes c)) (closer-deep next (l .loop .after) n (l .loop .inv .2) (l .loop .inv .3))
+
+closer-requires : tie.Need-closer-requires Inv-loop μ-loop
+closer-requires c κs = tt
+
 leads-on-requires : tie.Need-leads-on-requires Inv-loop μ-loop
-leads-on-requires c κs = let i = c .before .before .before in some i (seen (i .before))
+leads-on-requires c κs = let i = c .before .before .before .before in some i (seen i)
 
 returns : tie.Need-returns Inv-loop μ-loop
 returns c =
-    let x = c .before .before in
+    let x = c .before .before .before in
     let i = x .before .before .before in
+    let l = i .before .before in
     λ w.
-    let s = i .before .loop .inv .0 _ (seeking w) in
+    let s = l .loop .inv .0 _ _ (seeking w) in
     let o = some i (s .rest) in
-    seek-here s (i .loop-test .taken) (x .before .shown-by .ensures o) (x .before .before .size-at .ensures .0) (x .if1 .left)
-    (sym (c .before .leads-on .ensures o) ∙ not-true _ (c .if2 .taken))
-
-name-at-requires : tie.Need-name-at-requires Inv-loop μ-loop
-name-at-requires c κs = let i = c .before .before .before .before .before in omega (arith, in-room (i .before), i .loop-test .taken)
+    let h = seek-here s (i .if1 .taken) (x .before .shown-by .ensures o) (omega arith) (x .if2 .left)
+    (sym (c .before .leads-on .ensures o) ∙ not-true _ (c .if3 .taken)) in
+    let run = l .loop .run in
+    let a = l .before .before .args in (
+      ap (λ (r : Run). locatedAt (run .pos) (r .pos) (run .par) (run .deep)) (x .before .before .past-first .ensures) ∙ h .0,
+      subst (λ (r : Run). Follows (a .image .now) r (seekRun (a .from) (w .row) (suc (a .k)))) (sym (closes (c .before .before))) (h .1),
+      closes-deep (c .before .before),
+    )
 
 -- What leads on is the proxy of a record whose helper shows the node.
-leads : (c : tie.Else2 Inv-loop μ-loop) → let i = c .before .before .before .before .before in let l = i .before in let a = l .before .before .args in
-    (w : Rowed (a .image .now) (l .loop .i) (l .loop .stop) (a .depth - l .loop .deep)) → helperFirst (w .row) ≡ true
-leads c w = sym (c .before .leads-on .ensures (some (c .before .before .before .before .before) w)) ∙ not-false _ (c .if2 .left)
+leads : (c : tie.Else3 Inv-loop μ-loop) → let i = c .before .before .before .before .before .before in let l = i .before .before in
+    (w : Rowed (l .before .before .args .image .now) (l .loop .run .pos) (l .loop .run .end) (depth i)) → helperFirst (w .row) ≡ true
+leads c w = sym (c .before .leads-on .ensures (some (c .before .before .before .before .before .before) w)) ∙ not-false _ (c .if3 .left)
 
-under : (x : tie.After-name-at Inv-loop μ-loop) → let l = x .before .before .before .before .before .before .before in let a = l .before .before .args in
-    Entered (a .image .now) (l .loop .i) (l .loop .stop) (a .depth - l .loop .deep) (x .name-at .result) (seen l .row)
-under x =
-    let i = x .before .before .before .before .before .before in
-    let w = seen (i .before) in
-    proxy-first (some i w) (helper-first (some i w) (leads (x .before) w)) (x .name-at .ensures .0)
+under : (c : tie.Else3 Inv-loop μ-loop) → let i = c .before .before .before .before .before .before in let l = i .before .before in
+    let img = l .before .before .args .image .now in
+    Entered img (l .loop .run .pos) (l .loop .run .end) (depth i) (nameAt img (l .loop .run .pos)) (seen i .row)
+under c =
+    let i = c .before .before .before .before .before .before in
+    let w = seen i in
+    proxy-first (some i w) (helper-first (some i w) (leads c w)) refl
 
-row-start-requires : tie.Need-row-start-requires Inv-loop μ-loop
-row-start-requires c κs = under c .on
+enter-first-requires : tie.Need-enter-first-requires Inv-loop μ-loop
+enter-first-requires c κs =
+    let i = c .before .before .before .before .before .before in
+    let l = i .before .before in
+    (omega (arith, room _ _ _ _ (seen i), i .if1 .taken), under c .on, omega (arith, l .loop .inv .2, l .before .before .pre .2))
 
-row-end-requires : tie.Need-row-end-requires Inv-loop μ-loop
-row-end-requires c κs = under (c .before) .on
+one-deeper : (d n : ℕ) → d ≤ n → 1 ≤ mostPages - (n - d) → mostPages - (n + 1 - d) + 1 ≡ mostPages - (n - d)
+one-deeper d n h k = omega arith
 
-add-deep : tie.Need-add-deep Inv-loop μ-loop
-add-deep c =
-    let x = c .before .before in
-    let l = x .before .before .before .before .before .before .before in
-    omega (arith, l .loop .inv .1, under x .below, l .before .before .fits)
+fewer : (x y g h : ℕ) → y + 1 ≡ x → g < pageSize → pageSize * y + g < pageSize * x + h
+fewer x y g h e k = omega arith
 
 loop-less-2 : tie.Need-loop-less-2 Inv-loop μ-loop
 loop-less-2 c =
-    let a = under (c .before .before) in
-    omega (arith, short _ _ _ _ (a .inside), a .below, c .before .row-start .ensures, c .row-end .ensures)
+    let l = c .before .before .before .before .before .before .before .before .before in
+    let a = under (c .before) in
+    let run = l .loop .run in
+    let d = l .before .before .args .from .deep in
+    subst (λ (r : Run). pageSize * (mostPages - (r .deep - d)) + (r .end - r .pos) < pageSize * (mostPages - (run .deep - d)) + (run .end - run .pos))
+    (sym (c .enter-first .ensures)) (fewer _ _ _ _ (one-deeper d (run .deep) (l .loop .inv .1) (a .below)) (short _ _ _ _ (a .inside)))
 
 loop-again-2 : tie.Need-loop-again-2 Inv-loop μ-loop
 loop-again-2 c =
-    let x = c .before .before in
-    let e = x .before .before .before in
-    let i = e .before .before .before in
-    let l = i .before in (
-      λ t s.
-          let w = l .loop .inv .0 t s in
-          seek-deep (omega (arith, under x .below))
-          (seek-inside w (i .loop-test .taken) (e .before .shown-by .ensures (some i (w .rest))) (e .if1 .left) (leads (x .before) (w .rest))
-          (x .name-at .ensures .0) (c .before .row-start .ensures) (c .row-end .ensures)),
-      omega (arith, l .loop .inv .1, under x .below),
+    let x = c .before .before .before .before in
+    let i = x .before .before .before in
+    let l = i .before .before in
+    let a = l .before .before .args in
+    let img = a .image .now in
+    let I : Run → Run → Type 0 = λ run after. Inv-loop img (a .widths .now) (a .k) (a .k) (a .from) (emptyRun (a .from)) (l .loop .left) run after in
+    let z = closes (c .before .before .before) in
+    let deep : depth i - 1 ≡ mostPages - (l .loop .run .deep + 1 - a .from .deep) = omega (arith, under (c .before) .below, l .loop .inv .1) in
+    subst (λ (r : Run). I r (c .before .before .before .closer .result)) (sym (c .enter-first .ensures)) (
+      λ t u s.
+          let w = l .loop .inv .0 t u s in
+          let o = some i (w .rest) in
+          seek-deep deep
+          (subst (λ (r : Run). Seeking img (insideRun img (l .loop .run)) r (depth i - 1) (l .loop .left) t u) (sym z)
+          (seek-inside w (i .if1 .taken) (x .before .shown-by .ensures o) (omega arith) (x .if2 .left) (leads (c .before) (w .rest)))),
+      omega (arith, l .loop .inv .1),
+      omega (arith, l .loop .inv .1, under (c .before) .below),
+      closes-deep (c .before .before .before),
     )
 
 nowhere-requires : tie.Need-nowhere-requires Inv-loop μ-loop
 nowhere-requires c κs = tt
 
 returns-2 : tie.Need-returns-2 Inv-loop μ-loop
-returns-2 c = λ w. c .nowhere .ensures ∙ seek-end (c .before .before .loop .inv .0 _ (seeking w)) (c .before .loop-test .left)
+returns-2 c =
+    let l = c .before .before .before in
+    λ w.
+    let e = seek-end (l .loop .inv .0 _ _ (seeking w)) (c .before .if1 .left) in
+    (c .nowhere .ensures ∙ e .0, e .1, l .loop .inv .3)
 
 pub seek-spec : {M : Type 1} → statement M
 seek-spec =
-    tie.close (tie.spec Inv-loop μ-loop loop-holds size-at-requires add-next shown-by-requires loop-less loop-again leads-on-requires returns name-at-requires
-    row-start-requires row-end-requires add-deep loop-less-2 loop-again-2 nowhere-requires returns-2)
+    tie.close (tie.spec Inv-loop μ-loop loop-holds past-first-requires shown-by-requires loop-less loop-again closer-requires leads-on-requires returns
+    enter-first-requires loop-less-2 loop-again-2 nowhere-requires returns-2)

@@ -1,0 +1,69 @@
+-- Which of its siblings a new node goes to, by what the code finds and reads.
+use mathlib.Core.Path.{_≡_, sym, ap, subst, _∙_}
+use mathlib.Core.Bool.{Bool, true, cond, _&&_}
+use mathlib.Core.List.{List}
+use Prim.Native.Nat.{ℕ, zero, suc, _*_, _/_, _%_, _<_}
+use native.Mathlib.Omega.{arith}
+use borrow.Author.Tests.{le-leb, lt-ltb, ltb-true}
+use lib.Dec.{leb, ltb, leb·zero}
+use Rattle.model.specs.Limits.{pageSize}
+use Rattle.model.specs.Row.{Row}
+use Rattle.model.specs.Tree.{width}
+use Rattle.model.specs.Reading.{usedAt}
+use Rattle.theory_rows.specs.Laws.{cond-case}
+use Rattle.theory_decoding.specs.Valid.{both}
+use Rattle.read_find.specs.Rowed.{Rowed}
+use Rattle.grow_locate.specs.declared.Located.{Located}
+use Rattle.grow_locate.specs.declared.Run.{Run}
+use Rattle.grow_locate.specs.declared.Sighted.{Sighted}
+use Rattle.grow_locate.specs.Seek.{seekRun, seek-found, seek-on, WithinPage}
+
+-- The length used by the record in which a byte of the image is.
+abbrev pub usedAround : (img : List ℕ) → (pos : ℕ) → ℕ
+usedAround img pos = usedAt img (pageSize * (pos / pageSize))
+
+-- There is a right sibling, and fewer bytes are used around it, so more are unused.
+abbrev pub rightWins : (img : List ℕ) → (left right : Located) → Bool
+rightWins img l r = r .found && ltb (usedAround img (r .at)) (usedAround img (l .at))
+
+abbrev pub sightAt : (found : Bool) → (pos par deep : ℕ) → Sighted
+sightAt f pos par n = record { found = f; receiver = record { page = pos / pageSize; at = pos % pageSize; par = par; deep = n } }
+
+abbrev pub sightAfter : Located → Sighted
+sightAfter l = sightAt (l .found) (l .past) (l .par) (l .deep)
+
+abbrev pub sightBefore : Located → Sighted
+sightBefore l = sightAt true (l .at) (l .par) (l .deep)
+
+abbrev pub sightBeside : (img : List ℕ) → (left right : Located) → Sighted
+sightBeside img l r = cond (rightWins img l r) (sightBefore r) (sightAfter l)
+
+abbrev pub sightFirst : Run → (right : Located) → Sighted
+sightFirst run r = cond (r .found) (sightBefore r) (sightAt true (run .pos) (run .par) (run .deep))
+
+-- Where the new node goes as node k of those that the run shows.
+abbrev pub sightChild : (img : List ℕ) → Run → Row → (k : ℕ) → Sighted
+sightChild img run row zero = sightFirst run (seekRun run row 0)
+sightChild img run row (suc i) = sightBeside img (seekRun run row i) (seekRun run row (suc i))
+
+pub sight-found : (img : List ℕ) (run : Run) (row : Row) (k : ℕ) → sightChild img run row k .found ≡ leb k (width row)
+sight-found img run row zero =
+    cond-case (λ (s : Sighted). s .found ≡ leb 0 (width row)) (seekRun run row 0 .found) (λ _. sym (leb·zero (width row))) (λ _. sym (leb·zero (width row)))
+sight-found img run row (suc i) =
+    let l = seekRun run row i in
+    let r = seekRun run row (suc i) in
+    cond-case (λ (s : Sighted). s .found ≡ leb (suc i) (width row)) (rightWins img l r)
+    (λ e.
+    let more : suc i < width row = ltb-true (suc i) (width row) (sym (seek-found _ _ _ row (suc i)) ∙ both (r .found) _ e .0) in
+    sym (le-leb (suc i) (width row) (omega arith))) (λ _. seek-found _ _ _ row i)
+
+-- Both siblings stand in pages of the image.
+pub both-on : {img : List ℕ} {most : ℕ} (run : Run) (w : Rowed img (run .pos) (run .end) most) (i : ℕ) (l r : Located) → l ≡ seekRun run (w .row) i
+    → r ≡ seekRun run (w .row) (suc i) → r .found ≡ true → WithinPage img (l .at) × WithinPage img (r .at)
+both-on {img} run w i l r a b f =
+    let found : seekRun run (w .row) (suc i) .found ≡ true = sym (ap (λ (l : Located). l .found) b) ∙ f in
+    let more : suc i < width (w .row) = ltb-true (suc i) (width (w .row)) (sym (seek-found _ _ _ (w .row) (suc i)) ∙ found) in
+    let left : seekRun run (w .row) i .found ≡ true = seek-found _ _ _ (w .row) i ∙ lt-ltb i (width (w .row)) (omega arith) in (
+      subst (λ (l : Located). WithinPage img (l .at)) (sym a) (seek-on _ _ _ (w .row) i (w .here) left),
+      subst (λ (l : Located). WithinPage img (l .at)) (sym b) (seek-on _ _ _ (w .row) (suc i) (w .here) found),
+    )
