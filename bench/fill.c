@@ -109,8 +109,20 @@ static unsigned measure(const uint8_t *image, double *fill) {
     return n;
 }
 
+/* How many records are nested in one another below page 1, at most: a call's stack grows with it. */
+static unsigned nested(const uint8_t *image) {
+    unsigned most = 0;
+    for (unsigned page = 2; page < PAGES; page++) {
+        unsigned n = 0;
+        for (unsigned p = page; image[4096u * p + 4080] && p > 1; p = get16(image + 4096u * p + 4084)) n++;
+        if (n > most) most = n;
+    }
+    return most;
+}
+
 static void row(const struct way *way, uint8_t *image) {
     double pages[2] = {0}, fill[2] = {0}, least = 9, most = 0;
+    unsigned deep[2] = {0};
     for (uint32_t tree = 1; tree <= TREES; tree++) {
         unsigned n[2];
         for (int now = 0; now < 2; now++) {
@@ -118,19 +130,20 @@ static void row(const struct way *way, uint8_t *image) {
             grow(image, way, tree);
             n[now] = measure(image, &fill[now]);
             pages[now] += (double)n[now] / TREES;
+            if (nested(image) > deep[now]) deep[now] = nested(image);
         }
         double ratio = (double)n[1] / n[0];
         if (ratio < least) least = ratio;
         if (ratio > most) most = ratio;
     }
-    printf("%-28s %6.0f %6.0f %11.2f   %4.2f to %4.2f %12.2f %5.2f %11.2f\n", way->name, pages[0], pages[1], pages[1] / pages[0], least, most, fill[0], fill[1],
-           fill[1] / fill[0]);
+    printf("%-28s %6.0f %6.0f %11.2f   %4.2f to %4.2f %12.2f %5.2f %11.2f %14u %5u\n", way->name, pages[0], pages[1], pages[1] / pages[0], least, most,
+           fill[0], fill[1], fill[1] / fill[0], deep[0], deep[1]);
 }
 
 int main(void) {
     uint8_t *image = malloc(LEN), *twin = malloc(LEN);
     if (!image || !twin) return 2;
-    puts("20,000 inserts         pages before    now  now/before  of one tree    fill before   now  now/before");
+    puts("20,000 inserts         pages before    now  now/before  of one tree    fill before   now  now/before  nested before   now");
     for (size_t w = 0; w < WAYS; w++) row(&ways[w], image);
     /* the last tree of the last row */
     by_library = 1;

@@ -48,7 +48,8 @@ module _ {img : List ℕ} {st : Config} {root : Row} (reads : Reads img st root)
   wins-more h x y l r a b c d =
       let u = used-there x l a c in
       let v = used-there y r b d in
-      rw (b .found, u .0, v .0, fill-past (l .position) (l .node) (l .rest)) (fewer-used (recordSize (around-it l)) (recordSize (around-it r)) capacity (u .1) (v .1))
+      rw (b .found, u .0, v .0, fill-past (l .position) (l .node) (l .rest))
+      (fewer-used (recordSize (around-it l)) (recordSize (around-it r)) capacity (u .1) (v .1))
 
   beside-sights : (h : Head) (x y : Located) (lo ro : Option Stand) (t : Spot) → IsStand x lo → IsStand y ro
       → ((n : Stand) → lo ≡ some n → rootOf n ≡ root) → ((n : Stand) → ro ≡ some n → rootOf n ≡ root) → spotBeside h lo ro ≡ some t

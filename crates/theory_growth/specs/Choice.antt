@@ -7,7 +7,9 @@ use Prim.Native.Nat.{ℕ, suc}
 use borrow.Author.Tests.{lt-ltb, le-ltb}
 use lib.Dec.{ltb}
 use Rattle.model.specs.Row.{Head, Row, nil, Config}
-use Rattle.model.specs.Spot.{here, into, top, Stand, standOf, Spot, spotAfter, spotBefore, unused, emptier, spotBeside, spotFirst, spotOf}
+use Rattle.model.specs.Spot.{here, into, top, lastPage, Stand, standOf, Spot, spotAfter, spotBefore, unused, emptier, spotBeside, spotFirst, spotOf}
+use Rattle.model.specs.Tree.{placeOf}
+use Rattle.model.specs.declared.Place.{Place}
 use Rattle.model.specs.Claims.{TwoSpots, StepOne}
 use Rattle.theory_rows.specs.Laws.{cond-case}
 use Rattle.theory_growth.specs.Stand.{onward-into}
@@ -51,12 +53,21 @@ module _ (root : Row) (path : List ℕ) (t : Spot) where
       let w = among (suc i) top (here nil) 0 path root t e in
       subst (λ (u : Spot). u ≡ spotAfter (u .parent) l) (Option·some-injective _ t (by-siblings root path i l none t w a b)) refl
 
+  -- In front of all children of the aggregate that the path names.
+  abbrev ownSpot : Among 0 top (here nil) 0 path root t → Spot
+  ownSpot w = record { chain = w .chain; position = into (w .position) (w .head) (w .rest); rest = w .children; parent = w .head }
+
   one-right : (r : Stand) → spotOf root path 0 ≡ some t → standOf root (path ++ 0 ∷ []) ≡ some r → t ≡ spotBefore (t .parent) r
   one-right r e a =
       let w = among 0 top (here nil) 0 path root t e in
-      let own : Spot = record { chain = w .chain; position = into (w .position) (w .head) (w .rest); rest = w .children; parent = w .head } in
       subst (λ (u : Spot). u ≡ spotBefore (u .parent) r)
-      (Option·some-injective _ t (ap (λ (o : Option Stand). some (spotFirst own o)) (sym a ∙ w .stands 0) ∙ w .spot)) refl
+      (Option·some-injective _ t (ap (λ (o : Option Stand). some (spotFirst (ownSpot w) o)) (sym a ∙ w .stands 0) ∙ w .spot)) refl
+
+  none-beside : (y : Place) → spotOf root path 0 ≡ some t → standOf root (path ++ 0 ∷ []) ≡ none → placeOf root path ≡ some y → lastPage (t .chain) ≡ y .page
+  none-beside y e a f =
+      let w = among 0 top (here nil) 0 path root t e in
+      subst (λ (u : Spot). lastPage (u .chain) ≡ y .page)
+      (Option·some-injective _ t (ap (λ (o : Option Stand). some (spotFirst (ownSpot w) o)) (sym a ∙ w .stands 0) ∙ w .spot)) (w .page 0 y f)
 
   pub step-one : StepOne root path t
-  step-one = record { both = two-spots; leftOnly = one-left; rightOnly = one-right }
+  step-one = record { both = two-spots; leftOnly = one-left; rightOnly = one-right; alone = none-beside }

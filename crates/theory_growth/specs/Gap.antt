@@ -3,12 +3,13 @@ use mathlib.Core.Path.{_≡_, refl, sym, ap, subst, _∙_}
 use mathlib.Core.Bool.{Bool, true, false, cond}
 use mathlib.Core.List.{List, [], _∷_, _++_}
 use mathlib.Core.Option.{Option, none, some, Option·some-injective, Option·none-ne-some}
-use Prim.Native.Nat.{ℕ, zero, suc, _-_, _<_, _≤_}
+use Prim.Native.Nat.{ℕ, zero, suc, _+_, _-_, _<_, _≤_}
 use native.Mathlib.Omega.{arith}
 use lib.Dec.{ltb}
-use Rattle.model.specs.Row.{Head, Row, nil, agg, lit, rec, _⊹_, nodeCount, lone}
-use Rattle.model.specs.Tree.{Tree, end, branch, leaf, _⊞_, shown, width, breadth, New, newNode, putAt, insertAt}
-use Rattle.model.specs.Spot.{Position, here, inside, fill, past, into, Chain, top, below, whole, Stand, standIn}
+use Rattle.model.specs.Row.{Head, Row, nil, agg, lit, rec, _⊹_, nodeCount, lone, base}
+use Rattle.model.specs.Tree.{Tree, end, branch, leaf, _⊞_, shown, width, breadth, New, newNode, putAt, insertAt, placeAt}
+use Rattle.model.specs.declared.Place.{Place}
+use Rattle.model.specs.Spot.{lastPage, Position, here, inside, fill, past, into, Chain, top, below, whole, Stand, standIn}
 use Rattle.model.specs.Spot.{Spot, spotAfter, spotBefore, unused, spotBeside, spotFirst, spotChild, spotIn, spotOf}
 use Rattle.theory_rows.specs.Laws.{cond-case, ⊹-assoc, ⊞-assoc, shown-⊹, breadth-shown, within, beyond, newNode-⊞, insertAt-left, insertAt-right}
 use Rattle.theory_rows.specs.Keeps.{nodeCount-⊹}
@@ -119,13 +120,15 @@ pub record Among (k : ℕ) (c : Chain) (s : Position) (i : ℕ) (path : List ℕ
   pub stands : (j : ℕ) → standIn c s i (path ++ j ∷ []) row ≡ standIn chain (into position head rest) j [] children
   pub held : whole chain (fill (into position head rest) children) ≡ whole c (fill s row)
   pub shows : (x : New) → above chain (around (into position head rest) (putAt x k (shown children))) ≡ above c (around s (insertAt x k i path (shown row)))
+  pub page : (at : ℕ) (y : Place) → placeAt (lastPage c) at i path row ≡ some y → lastPage chain ≡ y .page
 
 -- the same aggregate from another row
 among-same : {k : ℕ} {c c′ : Chain} {s s′ : Position} {i i′ : ℕ} {path path′ : List ℕ} {row row′ : Row} {t : Spot}
     → ((j : ℕ) → standIn c′ s′ i′ (path′ ++ j ∷ []) row′ ≡ standIn c s i (path ++ j ∷ []) row) → whole c (fill s row) ≡ whole c′ (fill s′ row′)
     → ((x : New) → above c (around s (insertAt x k i path (shown row))) ≡ above c′ (around s′ (insertAt x k i′ path′ (shown row′))))
+    → ((at : ℕ) (y : Place) → placeAt (lastPage c′) at i′ path′ row′ ≡ some y → (n : ℕ) × (placeAt (lastPage c) n i path row ≡ some y))
     → Among k c s i path row t → Among k c′ s′ i′ path′ row′ t
-among-same a b d w = record {
+among-same a b d f w = record {
   chain = w .chain;
   position = w .position;
   head = w .head;
@@ -135,11 +138,12 @@ among-same a b d w = record {
   stands = λ j. a j ∙ w .stands j;
   held = w .held ∙ b;
   shows = λ x. w .shows x ∙ d x;
+  page = λ at y e. w .page (f at y e .0) y (f at y e .1);
 }
 
 -- The spot of child k is among the children of the aggregate that the path names.
 pub among : (k : ℕ) (c : Chain) (s : Position) (i : ℕ) (path : List ℕ) (row : Row) (t : Spot) → spotIn k c s i path row ≡ some t → Among k c s i path row t
-unfolding spotIn standIn
+unfolding spotIn standIn placeAt
 among k c s i path nil t e = absurd (Option·none-ne-some t e)
 among k c s zero [] (agg h cs rest) t e = record {
   chain = c;
@@ -151,19 +155,20 @@ among k c s zero [] (agg h cs rest) t e = record {
   stands = λ j. refl;
   held = ap (whole c) (fill-into s h rest cs);
   shows = λ x. ap (above c) (around-into s h rest (putAt x k (shown cs)));
+  page = λ at y e. ap (λ (y : Place). y .page) (Option·some-injective _ y e);
 }
 among k c s zero (j ∷ path) (agg h cs rest) t e =
     among-same (λ n. refl) (ap (whole c) (fill-into s h rest cs)) (λ x. ap (above c) (around-into s h rest (insertAt x k j path (shown cs))))
-    (among k c (into s h rest) j path cs t e)
+    (λ at y e. (_, e)) (among k c (into s h rest) j path cs t e)
 among k c s (suc i) path (agg h cs rest) t e =
     let one : Row = agg h cs nil in
     among-same (λ n. refl) (ap (whole c) (fill-past s one rest)) (λ x. ap (above c) (around-past s one (insertAt x k i path (shown rest))))
-    (among k c (past s one) i path rest t e)
+    (λ at y e. (_, e)) (among k c (past s one) i path rest t e)
 among k c s zero path (lit h b rest) t e = absurd (Option·none-ne-some t e)
 among k c s (suc i) path (lit h b rest) t e =
     let one : Row = lit h b nil in
     among-same (λ n. refl) (ap (whole c) (fill-past s one rest)) (λ x. ap (above c) (around-past s one (insertAt x k i path (shown rest))))
-    (among k c (past s one) i path rest t e)
+    (λ at y e. (_, e)) (among k c (past s one) i path rest t e)
 among k c s i path (rec q b r rest) t e =
     let one : Row = rec q b r nil in
     let step : (u : Bool) → ltb i (width r) ≡ u → (j : ℕ) → standIn c s i (path ++ j ∷ []) (rec q b r rest)
@@ -171,11 +176,11 @@ among k c s i path (rec q b r rest) t e =
     λ u m j. rw (← m) (stand-below c s i path j q b r rest) in
     cond-case (λ (p : Option Spot). p ≡ some t → Among k c s i path (rec q b r rest) t) (ltb i (width r))
     (λ m e. among-same (step true m) refl
-    (λ x. ap (λ (u : Tree). above c (around s u)) (sym (insertAt-left x k i path (shown r) (shown rest) (within r i m))))
+    (λ x. ap (λ (u : Tree). above c (around s u)) (sym (insertAt-left x k i path (shown r) (shown rest) (within r i m)))) (λ at y g. (base r, rw m at g))
     (among k (below c s q b rest) (here nil) i path r t e))
     (λ m e. among-same (step false m) (ap (whole c) (fill-past s one rest))
     (λ x. ap (above c) (around-record s q b r (insertAt x k (i - width r) path (shown rest))
-    ∙ ap (around s) (sym (rw (← breadth-shown r) (insertAt-right x k i path (shown r) (shown rest) (beyond r i m))))))
+    ∙ ap (around s) (sym (rw (← breadth-shown r) (insertAt-right x k i path (shown r) (shown rest) (beyond r i m)))))) (λ at y g. (at + 8, rw m at g))
     (among k c (past s one) (i - width r) path rest t e)) e
 
 -- ── step 1 ──

@@ -32,8 +32,8 @@ seen : (c : tie.Then1 Inv-loop μ-loop) → let l = c .before .before in
     Rowed (l .before .before .args .image .now) (l .loop .run .pos) (l .loop .run .end) (depth c)
 seen c = let l = c .before .before in l .loop .inv .0 _ _ (seeking (l .before .before .pre .0)) .rest
 
-abbrev some : (c : tie.Then1 Inv-loop μ-loop) → let l = c .before .before in
-    Rowed (l .before .before .args .image .now) (l .loop .run .pos) (l .loop .run .end) (depth c) → SomeRow (l .before .before .args .image .now) (l .loop .run .pos)
+abbrev some : (c : tie.Then1 Inv-loop μ-loop) → let l = c .before .before in let img = l .before .before .args .image .now in
+    Rowed img (l .loop .run .pos) (l .loop .run .end) (depth c) → SomeRow img (l .loop .run .pos)
 some c w = record { end = _; depth = _; rowed = w; some = c .if1 .taken }
 
 loop-holds : tie.Need-loop-holds Inv-loop μ-loop
@@ -59,8 +59,8 @@ loop-again c =
     let i = c .before .before .before in
     let l = i .before .before in
     let a = l .before .before .args in
-    let P : Run → Type 0 = λ r. Inv-loop (a .image .now) (a .widths .now) (a .k) (a .k) (a .from) (emptyRun (a .from)) (l .loop .left - c .before .shown-by .result) r
-    (l .loop .after) in
+    let left = l .loop .left - c .before .shown-by .result in
+    let P : Run → Type 0 = λ r. Inv-loop (a .image .now) (a .widths .now) (a .k) (a .k) (a .from) (emptyRun (a .from)) left r (l .loop .after) in
     subst P (sym (c .before .before .past-first .ensures)) (
       λ t u s.
           let w = l .loop .inv .0 t u s in
