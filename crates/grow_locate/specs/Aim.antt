@@ -20,8 +20,8 @@ use Rattle.theory_growth.specs.Chain.{fill-into, hang}
 use Rattle.theory_insert_point.specs.Bytes.{spot-here}
 use Rattle.grow_locate.specs.declared.Receiver.{Receiver}
 use Rattle.grow_locate.specs.declared.Sighted.{Sighted}
-use Rattle.grow_locate.specs.declared.Run.{Run}
-use Rattle.grow_locate.specs.Seek.{childrenRun}
+use Rattle.grow_locate.specs.declared.Span.{Span}
+use Rattle.grow_locate.specs.Seek.{childrenSpan}
 use Rattle.grow_locate.specs.Choose.{sightChild}
 use Rattle.grow_locate.specs.Parent.{offsetIn, holderIn, Sights, Parent, spot-along, in-parent}
 use Rattle.grow_locate.specs.Children.{parent-here, kids, kids-go}
@@ -59,17 +59,17 @@ module _ {img : List ℕ} {above k : ℕ} (w : Aimed img above k) where
       in-parent (spotIn k) (spot-along k) (w .root) (w .t) (w .y) top (here nil) 0 0 (w .path) (w .root) refl (rw (lone-root (w .st) (w .root) v)) (w .taken)
       (w .names)
 
-  abbrev run : Run
-  run = childrenRun img above
+  abbrev span : Span
+  span = childrenSpan img above
 
-  aims : Sights (found .0 .head) (sightChild img run (found .0 .children) k) (w .t)
+  aims : Sights (found .0 .head) (sightChild img span (found .0 .children) k) (w .t)
   unfolding spotIn
   aims =
       let p = found .0 in
       let held = ap (whole (p .chain)) (fill-into (p .position) (p .head) (p .rest) (p .children)) ∙ p .is in
-      child-sights (w .reads) (p .head) (p .chain) (p .position) (p .rest) k (p .children) (w .t) run held (kids-go (w .reads) p (w .at)) (found .1)
+      child-sights (w .reads) (p .head) (p .chain) (p .position) (p .rest) k (p .children) (w .t) span held (kids-go (w .reads) p (w .at)) (found .1)
 
-  pub received : (s : Sighted) → ((r : Rowed img (above + 6) (above + sizeAt img above) mostPages) → s ≡ sightChild img run (r .row) k)
+  pub received : (s : Sighted) → ((r : Rowed img (above + 6) (above + sizeAt img above) mostPages) → s ≡ sightChild img span (r .row) k)
       → s .receiver ≡ receiverOf (w .t)
   received s f =
       let t = w .t in

@@ -14,9 +14,9 @@ use Rattle.theory_rows.specs.Laws.{cond-case}
 use Rattle.theory_decoding.specs.Valid.{both}
 use Rattle.read_find.specs.Rowed.{Rowed}
 use Rattle.grow_locate.specs.declared.Located.{Located}
-use Rattle.grow_locate.specs.declared.Run.{Run}
+use Rattle.grow_locate.specs.declared.Span.{Span}
 use Rattle.grow_locate.specs.declared.Sighted.{Sighted}
-use Rattle.grow_locate.specs.Seek.{seekRun, seek-found, seek-on, WithinPage}
+use Rattle.grow_locate.specs.Seek.{seekSpan, seek-found, seek-on, WithinPage}
 
 -- The length used by the record in which a byte of the image is.
 abbrev pub usedAround : (img : List ℕ) → (pos : ℕ) → ℕ
@@ -38,32 +38,32 @@ sightBefore l = sightAt true (l .at) (l .par) (l .deep)
 abbrev pub sightBeside : (img : List ℕ) → (left right : Located) → Sighted
 sightBeside img l r = cond (rightWins img l r) (sightBefore r) (sightAfter l)
 
-abbrev pub sightFirst : Run → (right : Located) → Sighted
-sightFirst run r = cond (r .found) (sightBefore r) (sightAt true (run .pos) (run .par) (run .deep))
+abbrev pub sightFirst : Span → (right : Located) → Sighted
+sightFirst span r = cond (r .found) (sightBefore r) (sightAt true (span .pos) (span .par) (span .deep))
 
--- Where the new node goes as node k of those that the run shows.
-abbrev pub sightChild : (img : List ℕ) → Run → Row → (k : ℕ) → Sighted
-sightChild img run row zero = sightFirst run (seekRun run row 0)
-sightChild img run row (suc i) = sightBeside img (seekRun run row i) (seekRun run row (suc i))
+-- Where the new node goes as node k of those that the span shows.
+abbrev pub sightChild : (img : List ℕ) → Span → Row → (k : ℕ) → Sighted
+sightChild img span row zero = sightFirst span (seekSpan span row 0)
+sightChild img span row (suc i) = sightBeside img (seekSpan span row i) (seekSpan span row (suc i))
 
-pub sight-found : (img : List ℕ) (run : Run) (row : Row) (k : ℕ) → sightChild img run row k .found ≡ leb k (width row)
-sight-found img run row zero =
-    cond-case (λ (s : Sighted). s .found ≡ leb 0 (width row)) (seekRun run row 0 .found) (λ _. sym (leb·zero (width row))) (λ _. sym (leb·zero (width row)))
-sight-found img run row (suc i) =
-    let l = seekRun run row i in
-    let r = seekRun run row (suc i) in
+pub sight-found : (img : List ℕ) (span : Span) (row : Row) (k : ℕ) → sightChild img span row k .found ≡ leb k (width row)
+sight-found img span row zero =
+    cond-case (λ (s : Sighted). s .found ≡ leb 0 (width row)) (seekSpan span row 0 .found) (λ _. sym (leb·zero (width row))) (λ _. sym (leb·zero (width row)))
+sight-found img span row (suc i) =
+    let l = seekSpan span row i in
+    let r = seekSpan span row (suc i) in
     cond-case (λ (s : Sighted). s .found ≡ leb (suc i) (width row)) (rightWins img l r)
     (λ e.
     let more : suc i < width row = ltb-true (suc i) (width row) (sym (seek-found _ _ _ row (suc i)) ∙ both (r .found) _ e .0) in
     sym (le-leb (suc i) (width row) (omega arith))) (λ _. seek-found _ _ _ row i)
 
 -- Both siblings stand in pages of the image.
-pub both-on : {img : List ℕ} {most : ℕ} (run : Run) (w : Rowed img (run .pos) (run .end) most) (i : ℕ) (l r : Located) → l ≡ seekRun run (w .row) i
-    → r ≡ seekRun run (w .row) (suc i) → r .found ≡ true → WithinPage img (l .at) × WithinPage img (r .at)
-both-on {img} run w i l r a b f =
-    let found : seekRun run (w .row) (suc i) .found ≡ true = sym (ap (λ (l : Located). l .found) b) ∙ f in
+pub both-on : {img : List ℕ} {most : ℕ} (span : Span) (w : Rowed img (span .pos) (span .end) most) (i : ℕ) (l r : Located) → l ≡ seekSpan span (w .row) i
+    → r ≡ seekSpan span (w .row) (suc i) → r .found ≡ true → WithinPage img (l .at) × WithinPage img (r .at)
+both-on {img} span w i l r a b f =
+    let found : seekSpan span (w .row) (suc i) .found ≡ true = sym (ap (λ (l : Located). l .found) b) ∙ f in
     let more : suc i < width (w .row) = ltb-true (suc i) (width (w .row)) (sym (seek-found _ _ _ (w .row) (suc i)) ∙ found) in
-    let left : seekRun run (w .row) i .found ≡ true = seek-found _ _ _ (w .row) i ∙ lt-ltb i (width (w .row)) (omega arith) in (
+    let left : seekSpan span (w .row) i .found ≡ true = seek-found _ _ _ (w .row) i ∙ lt-ltb i (width (w .row)) (omega arith) in (
       subst (λ (l : Located). WithinPage img (l .at)) (sym a) (seek-on _ _ _ (w .row) i (w .here) left),
       subst (λ (l : Located). WithinPage img (l .at)) (sym b) (seek-on _ _ _ (w .row) (suc i) (w .here) found),
     )

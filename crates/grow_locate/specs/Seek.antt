@@ -18,7 +18,7 @@ use Rattle.theory_layout.specs.Here.{PageIn, Here, view}
 use Rattle.theory_layout.specs.Widths.{Widths, firstWidth, plain-width}
 use Rattle.read_find.specs.Rowed.{Rowed, Entered, enter, startOn, endOn}
 use Rattle.grow_locate.specs.declared.Located.{Located}
-use Rattle.grow_locate.specs.declared.Run.{Run}
+use Rattle.grow_locate.specs.declared.Span.{Span}
 
 abbrev pub locatedAt : (at past par n : ℕ) → Located
 locatedAt at past par n = record { found = true; at = at; past = past; par = par; deep = n }
@@ -39,30 +39,30 @@ seekOf pos par n (rec p s r rest) k =
     let beyond = seekOf (pos + 8) par n rest (k - width r) in
     cond (ltb k (width r)) (cond (lone r) (locatedAt pos (pos + 8) par n) within) beyond
 
--- In a run of nodes.
-abbrev pub seekRun : Run → Row → (k : ℕ) → Located
-seekRun r row k = seekOf (r .pos) (r .par) (r .deep) row k
+-- In a span of nodes.
+abbrev pub seekSpan : Span → Row → (k : ℕ) → Located
+seekSpan r row k = seekOf (r .pos) (r .par) (r .deep) row k
 
 -- Past its first node of n bytes, into the record whose proxy that is, and none.
-abbrev pub pastRun : Run → (n : ℕ) → Run
-pastRun r n = record { pos = r .pos + n; end = r .end; par = r .par; deep = r .deep }
+abbrev pub pastSpan : Span → (n : ℕ) → Span
+pastSpan r n = record { pos = r .pos + n; end = r .end; par = r .par; deep = r .deep }
 
-abbrev pub insideRun : (img : List ℕ) → Run → Run
-insideRun img r = let p = nameAt img (r .pos) in record { pos = startOn img p; end = endOn img p; par = 0; deep = r .deep + 1 }
+abbrev pub insideSpan : (img : List ℕ) → Span → Span
+insideSpan img r = let p = nameAt img (r .pos) in record { pos = startOn img p; end = endOn img p; par = 0; deep = r .deep + 1 }
 
-abbrev pub emptyRun : Run → Run
-emptyRun r = record { pos = r .end; end = r .end; par = r .par; deep = r .deep }
+abbrev pub emptySpan : Span → Span
+emptySpan r = record { pos = r .end; end = r .end; par = r .par; deep = r .deep }
 
 -- What follows a node in its row, or, if nothing does, what follows further up.
-abbrev pub closerOf : (next after : Run) → Run
+abbrev pub closerOf : (next after : Span) → Span
 closerOf next after = cond (ltb (next .pos) (next .end)) next after
 
-pub closer-deep : (next after : Run) (n : ℕ) → next .deep ≤ n → after .deep ≤ n → closerOf next after .deep ≤ n
-closer-deep next after n h k = cond-case (λ (r : Run). r .deep ≤ n) (ltb (next .pos) (next .end)) (λ _. h) (λ _. k)
+pub closer-deep : (next after : Span) (n : ℕ) → next .deep ≤ n → after .deep ≤ n → closerOf next after .deep ≤ n
+closer-deep next after n h k = cond-case (λ (r : Span). r .deep ≤ n) (ltb (next .pos) (next .end)) (λ _. h) (λ _. k)
 
 -- The children of the aggregate at a byte of the image.
-abbrev pub childrenRun : (img : List ℕ) → (parent : ℕ) → Run
-childrenRun img parent = record { pos = parent + 6; end = parent + sizeAt img parent; par = parent % pageSize; deep = 0 }
+abbrev pub childrenSpan : (img : List ℕ) → (parent : ℕ) → Span
+childrenSpan img parent = record { pos = parent + 6; end = parent + sizeAt img parent; par = parent % pageSize; deep = 0 }
 
 -- ── it is found exactly if the row shows the node ──
 

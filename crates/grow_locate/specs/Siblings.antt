@@ -16,8 +16,8 @@ use Rattle.theory_growth.specs.Chain.{both, fill-past}
 use Rattle.theory_growth.specs.Stand.{onward-into, rootOf, stood-in}
 use Rattle.theory_insert_point.specs.Bytes.{chain-page, chain-fill}
 use Rattle.grow_locate.specs.declared.Located.{Located}
-use Rattle.grow_locate.specs.declared.Run.{Run}
-use Rattle.grow_locate.specs.Seek.{seekRun}
+use Rattle.grow_locate.specs.declared.Span.{Span}
+use Rattle.grow_locate.specs.Seek.{seekSpan}
 use Rattle.grow_locate.specs.Choose.{usedAround, rightWins, sightBeside, sightFirst, sightChild}
 use Rattle.grow_locate.specs.Parent.{Goes, Stands, IsStand, stand-hits, Sights, after-sights, before-sights}
 
@@ -62,21 +62,21 @@ module _ {img : List ℕ} {st : Config} {root : Row} (reads : Reads img st root)
       subst (Sights h (sightBeside img x y)) (Option·some-injective _ t e)
       (rw z (both (Sights h) (ltb (unused (spotAfter h l)) (unused (spotBefore h r))) (λ _. before-sights h y r b) (λ _. after-sights h x l a)))
 
-  first-sights : (own : Spot) (run : Run) (y : Located) (ro : Option Stand) (t : Spot) → IsStand y ro
-      → Goes (own .chain) (own .position) (own .rest) (run .pos) (run .par) (run .deep) → spotFirst own ro ≡ t → Sights (own .parent) (sightFirst run y) t
-  first-sights own run y none t b g e =
-      subst (Sights (own .parent) (sightFirst run y)) e
-      (rw b (record { pos = run .pos; par = run .par; deep = run .deep; is = refl; goes = g; parent = refl }))
-  first-sights own run y (some r) t b g e = subst (Sights (own .parent) (sightFirst run y)) e (rw (b .found) (before-sights (own .parent) y r b))
+  first-sights : (own : Spot) (span : Span) (y : Located) (ro : Option Stand) (t : Spot) → IsStand y ro
+      → Goes (own .chain) (own .position) (own .rest) (span .pos) (span .par) (span .deep) → spotFirst own ro ≡ t → Sights (own .parent) (sightFirst span y) t
+  first-sights own span y none t b g e =
+      subst (Sights (own .parent) (sightFirst span y)) e
+      (rw b (record { pos = span .pos; par = span .par; deep = span .deep; is = refl; goes = g; parent = refl }))
+  first-sights own span y (some r) t b g e = subst (Sights (own .parent) (sightFirst span y)) e (rw (b .found) (before-sights (own .parent) y r b))
 
-  -- Of a child of the aggregate whose children are the run.
-  pub child-sights : (h : Head) (c : Chain) (s : Position) (rest : Row) (k : ℕ) (row : Row) (t : Spot) (run : Run) → whole c (fill (into s h rest) row) ≡ root
-      → Goes c (into s h rest) row (run .pos) (run .par) (run .deep) → spotChild h c (into s h rest) k row ≡ some t → Sights h (sightChild img run row k) t
-  child-sights h c s rest zero row t run w g e =
-      first-sights (record { chain = c; position = into s h rest; rest = row; parent = h }) run (seekRun run row 0) (standIn c (into s h rest) 0 [] row) t
+  -- Of a child of the aggregate whose children are the span.
+  pub child-sights : (h : Head) (c : Chain) (s : Position) (rest : Row) (k : ℕ) (row : Row) (t : Spot) (span : Span) → whole c (fill (into s h rest) row) ≡ root
+      → Goes c (into s h rest) row (span .pos) (span .par) (span .deep) → spotChild h c (into s h rest) k row ≡ some t → Sights h (sightChild img span row k) t
+  child-sights h c s rest zero row t span w g e =
+      first-sights (record { chain = c; position = into s h rest; rest = row; parent = h }) span (seekSpan span row 0) (standIn c (into s h rest) 0 [] row) t
       (stand-hits c (into s h rest) 0 row g) g (Option·some-injective _ t e)
-  child-sights h c s rest (suc i) row t run w g e =
+  child-sights h c s rest (suc i) row t span w g e =
       let held : (j : ℕ) (n : Stand) → standIn c (into s h rest) j [] row ≡ some n → rootOf n ≡ root =
       λ j n f. stood-in n c (into s h rest) j [] row f (onward-into s h rest row) .held ∙ w in
-      beside-sights h (seekRun run row i) (seekRun run row (suc i)) (standIn c (into s h rest) i [] row) (standIn c (into s h rest) (suc i) [] row) t
+      beside-sights h (seekSpan span row i) (seekSpan span row (suc i)) (standIn c (into s h rest) i [] row) (standIn c (into s h rest) (suc i) [] row) t
       (stand-hits c (into s h rest) i row g) (stand-hits c (into s h rest) (suc i) row g) (held i) (held (suc i)) e

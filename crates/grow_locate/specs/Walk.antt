@@ -19,28 +19,28 @@ use Rattle.theory_layout.specs.Widths.{firstWidth, width-first, none-width}
 use Rattle.theory_insert_point.specs.Bytes.{here-⊹}
 use Rattle.read_find.specs.Rowed.{Rowed, Entered, past-first}
 use Rattle.grow_locate.specs.declared.Located.{Located}
-use Rattle.grow_locate.specs.declared.Run.{Run}
+use Rattle.grow_locate.specs.declared.Span.{Span}
 use Rattle.grow_locate.specs.declared.Sought.{Sought}
-use Rattle.grow_locate.specs.Seek.{locatedAt, nowhere, seekOf, seekRun, pastRun, insideRun, emptyRun, closerOf, moved, seek-beyond}
+use Rattle.grow_locate.specs.Seek.{locatedAt, nowhere, seekOf, seekSpan, pastSpan, insideSpan, emptySpan, closerOf, moved, seek-beyond}
 use Rattle.grow_locate.specs.Seek.{helperFirst, seek-further, seek-first, seek-under, SomeRow, full, helper-first, proxy-first}
 
--- The node after the one sought is the first that the run shows.
-pub record Follows (img : List ℕ) (run : Run) (t : Located) : Type 0 where
-  pub rowed : Rowed img (run .pos) (run .end) mostPages
-  pub first : seekRun run (rowed .row) 0 ≡ t
+-- The node after the one sought is the first that the span shows.
+pub record Follows (img : List ℕ) (span : Span) (t : Located) : Type 0 where
+  pub rowed : Rowed img (span .pos) (span .end) mostPages
+  pub first : seekSpan span (rowed .row) 0 ≡ t
 
--- What a search for node k of a run finds.
-abbrev pub Finds : (img : List ℕ) → Run → (k : ℕ) → Sought → Type 0
-Finds img run k s =
-    (w : Rowed img (run .pos) (run .end) mostPages)
-    → (s .node ≡ seekRun run (w .row) k) × Follows img (s .after) (seekRun run (w .row) (suc k)) × (s .after .deep ≤ run .deep + mostPages)
+-- What a search for node k of a span finds.
+abbrev pub Finds : (img : List ℕ) → Span → (k : ℕ) → Sought → Type 0
+Finds img span k s =
+    (w : Rowed img (span .pos) (span .end) mostPages)
+    → (s .node ≡ seekSpan span (w .row) k) × Follows img (s .after) (seekSpan span (w .row) (suc k)) × (s .after .deep ≤ span .deep + mostPages)
 
 -- In the row that is left the node sought is node `left`; the next one is there too, or else the first of what follows.
-pub record Seeking (img : List ℕ) (run after : Run) (depth left : ℕ) (t u : Located) : Type 0 where
-  pub rest : Rowed img (run .pos) (run .end) depth
-  pub same : seekRun run (rest .row) left ≡ t
+pub record Seeking (img : List ℕ) (span after : Span) (depth left : ℕ) (t u : Located) : Type 0 where
+  pub rest : Rowed img (span .pos) (span .end) depth
+  pub same : seekSpan span (rest .row) left ≡ t
   pub next : Rowed img (after .pos) (after .end) mostPages
-  pub then : cond (ltb (suc left) (width (rest .row))) (seekRun run (rest .row) (suc left)) (seekRun after (next .row) 0) ≡ u
+  pub then : cond (ltb (suc left) (width (rest .row))) (seekSpan span (rest .row) (suc left)) (seekSpan after (next .row) 0) ≡ u
 
 abbrev no-row : {img : List ℕ} {pos end depth : ℕ} → Rowed img pos end depth → Rowed img end end depth
 no-row {img} {pos} w = record {
@@ -54,23 +54,23 @@ no-row {img} {pos} w = record {
   few = omega arith;
 }
 
-pub seeking : {img : List ℕ} {run : Run} {k : ℕ} (w : Rowed img (run .pos) (run .end) mostPages)
-    → Seeking img run (emptyRun run) mostPages k (seekRun run (w .row) k) (seekRun run (w .row) (suc k))
+pub seeking : {img : List ℕ} {span : Span} {k : ℕ} (w : Rowed img (span .pos) (span .end) mostPages)
+    → Seeking img span (emptySpan span) mostPages k (seekSpan span (w .row) k) (seekSpan span (w .row) (suc k))
 unfolding seekOf
-seeking {run = run} {k = k} w = record {
+seeking {span = span} {k = k} w = record {
   rest = w;
   same = refl;
   next = no-row w;
   then =
-      cond-case (λ (l : Located). l ≡ seekRun run (w .row) (suc k)) (ltb (suc k) (width (w .row))) (λ _. refl)
-      (λ e. sym (seek-beyond (run .pos) (run .par) (run .deep) (w .row) (suc k) (ltb-false (suc k) (width (w .row)) e)));
+      cond-case (λ (l : Located). l ≡ seekSpan span (w .row) (suc k)) (ltb (suc k) (width (w .row))) (λ _. refl)
+      (λ e. sym (seek-beyond (span .pos) (span .par) (span .deep) (w .row) (suc k) (ltb-false (suc k) (width (w .row)) e)));
 }
 
 abbrev deeper : {img : List ℕ} {pos end depth most : ℕ} → depth ≤ most → Rowed img pos end depth → Rowed img pos end most
 deeper h w = record { page = w .page; row = w .row; here = w .here; ends = w .ends; deep = omega (arith, w .deep); few = w .few }
 
-pub seek-deep : {img : List ℕ} {run after : Run} {depth deep left : ℕ} {t u : Located} → depth ≡ deep → Seeking img run after depth left t u
-    → Seeking img run after deep left t u
+pub seek-deep : {img : List ℕ} {span after : Span} {depth deep left : ℕ} {t u : Located} → depth ≡ deep → Seeking img span after depth left t u
+    → Seeking img span after deep left t u
 seek-deep e s = rw (← e) s
 
 some-shown : (row : Row) → Fits row → 0 < size row → 1 ≤ width row
@@ -91,39 +91,39 @@ cond-swap : (b : Bool) (x y z : Located) → (b ≡ true → x ≡ y) → cond b
 cond-swap true x y z f = f refl
 cond-swap false x y z f = refl
 
-module _ {img : List ℕ} {run after : Run} {depth left : ℕ} {t u : Located} (s : Seeking img run after depth left t u) where
+module _ {img : List ℕ} {span after : Span} {depth left : ℕ} {t u : Located} (s : Seeking img span after depth left t u) where
   abbrev row-left : Row
   row-left = s .rest .row
 
   abbrev after-it : Located
-  after-it = seekRun after (s .next .row) 0
+  after-it = seekSpan after (s .next .row) 0
 
-  pub seek-end : run .end ≤ run .pos → (nowhere ≡ t) × Follows img after u
+  pub seek-end : span .end ≤ span .pos → (nowhere ≡ t) × Follows img after u
   seek-end h =
       let e : 0 ≡ size row-left = omega (arith, s .rest .ends) in
       let none = none-width row-left e in
       let z : ltb (suc left) (width row-left) ≡ false = le-ltb (suc left) (width row-left) (omega arith) in
-      (sym (seek-beyond (run .pos) (run .par) (run .deep) row-left left (omega arith)) ∙ s .same, record { rowed = s .next; first = rw z at (s .then) })
+      (sym (seek-beyond (span .pos) (span .par) (span .deep) row-left left (omega arith)) ∙ s .same, record { rowed = s .next; first = rw z at (s .then) })
 
-  module _ (some : run .pos < run .end) {m : ℕ} (shows : m ≡ firstWidth (s .rest .row)) where
-    abbrev some-left : SomeRow img (run .pos)
-    some-left = record { end = run .end; depth = depth; rowed = s .rest; some = some }
+  module _ (some : span .pos < span .end) {m : ℕ} (shows : m ≡ firstWidth (s .rest .row)) where
+    abbrev some-left : SomeRow img (span .pos)
+    some-left = record { end = span .end; depth = depth; rowed = s .rest; some = some }
 
-    abbrev next-run : Run
-    next-run = pastRun run (sizeAt img (run .pos))
+    abbrev next-span : Span
+    next-span = pastSpan span (sizeAt img (span .pos))
 
-    len-is : sizeOf row-left ≡ sizeAt img (run .pos)
+    len-is : sizeOf row-left ≡ sizeAt img (span .pos)
     len-is = sym (view (s .rest .here) (full some-left) .size-is)
 
     -- The nodes behind the first.
-    abbrev behind : Rowed img (next-run .pos) (next-run .end) depth
-    behind = past-first (s .rest) (sizeAt img (run .pos)) len-is (full some-left)
+    abbrev behind : Rowed img (next-span .pos) (next-span .end) depth
+    behind = past-first (s .rest) (sizeAt img (span .pos)) len-is (full some-left)
 
-    further : (k : ℕ) → firstWidth row-left ≤ k → seekRun next-run (restOf row-left) (k - firstWidth row-left) ≡ seekRun run row-left k
-    further k h = rw (← len-is) (seek-further (run .pos) (run .par) (run .deep) k row-left (full some-left) h)
+    further : (k : ℕ) → firstWidth row-left ≤ k → seekSpan next-span (restOf row-left) (k - firstWidth row-left) ≡ seekSpan span row-left k
+    further k h = rw (← len-is) (seek-further (span .pos) (span .par) (span .deep) k row-left (full some-left) h)
 
     -- The first node does not show it, and is passed,
-    pub seek-past : m ≤ left → Seeking img next-run after depth (left - m) t u
+    pub seek-past : m ≤ left → Seeking img next-span after depth (left - m) t u
     seek-past h =
         let w = firstWidth row-left in
         let low : w ≤ left = omega (arith, shows) in
@@ -132,37 +132,37 @@ module _ {img : List ℕ} {run after : Run} {depth left : ℕ} {t u : Located} (
         let q : ltb (suc (left - m)) (width (restOf row-left)) ≡ ltb (suc left) (width row-left) =
         ap (λ (n : ℕ). ltb n (width (restOf row-left))) e ∙ moved (suc left) w (width (restOf row-left)) (omega arith)
         ∙ ap (ltb (suc left)) (sym (width-first row-left)) in
-        let f : seekRun next-run (restOf row-left) (suc (left - m)) ≡ seekRun run row-left (suc left) =
-        ap (seekRun next-run (restOf row-left)) e ∙ further (suc left) (omega arith) in
+        let f : seekSpan next-span (restOf row-left) (suc (left - m)) ≡ seekSpan span row-left (suc left) =
+        ap (seekSpan next-span (restOf row-left)) e ∙ further (suc left) (omega arith) in
         record {
           rest = behind;
-          same = ap (seekRun next-run (restOf row-left)) a ∙ further left low ∙ s .same;
+          same = ap (seekSpan next-span (restOf row-left)) a ∙ further left low ∙ s .same;
           next = s .next;
           then = (λ i. cond (q i) (f i) after-it) ∙ s .then;
         }
 
     module _ (most : depth ≤ mostPages) (within : left < m) where
-      abbrev closer-run : Run
-      closer-run = closerOf next-run after
+      abbrev closer-span : Span
+      closer-span = closerOf next-span after
 
       abbrev next-one : Located
-      next-one = seekRun run row-left (suc left)
+      next-one = seekSpan span row-left (suc left)
 
       -- The first node shows it. The next one is shown there too, or else it is the first of what follows.
-      pub turn : (n : Rowed img (closer-run .pos) (closer-run .end) mostPages)
-          × (cond (ltb (suc left) (firstWidth row-left)) next-one (seekRun closer-run (n .row) 0) ≡ u)
+      pub turn : (n : Rowed img (closer-span .pos) (closer-span .end) mostPages)
+          × (cond (ltb (suc left) (firstWidth row-left)) next-one (seekSpan closer-span (n .row) 0) ≡ u)
       turn =
-          cond-case P (ltb (next-run .pos) (next-run .end)) (λ e. (deeper most behind, there (ltb-true (next-run .pos) (next-run .end) e) ∙ s .then))
-          (λ e. (s .next, nowhere-else (ltb-false (next-run .pos) (next-run .end) e) ∙ s .then))
+          cond-case P (ltb (next-span .pos) (next-span .end)) (λ e. (deeper most behind, there (ltb-true (next-span .pos) (next-span .end) e) ∙ s .then))
+          (λ e. (s .next, nowhere-else (ltb-false (next-span .pos) (next-span .end) e) ∙ s .then))
         where
           w : ℕ
           w = firstWidth row-left
 
-          P : Run → Type 0
-          P r = (n : Rowed img (r .pos) (r .end) mostPages) × (cond (ltb (suc left) w) next-one (seekRun r (n .row) 0) ≡ u)
+          P : Span → Type 0
+          P r = (n : Rowed img (r .pos) (r .end) mostPages) × (cond (ltb (suc left) w) next-one (seekSpan r (n .row) 0) ≡ u)
 
-          there : next-run .pos < next-run .end
-              → cond (ltb (suc left) w) next-one (seekRun next-run (restOf row-left) 0) ≡ cond (ltb (suc left) (width row-left)) next-one after-it
+          there : next-span .pos < next-span .end
+              → cond (ltb (suc left) w) next-one (seekSpan next-span (restOf row-left) 0) ≡ cond (ltb (suc left) (width row-left)) next-one after-it
           there h =
               let more = some-shown (restOf row-left) (behind .here .fits) (omega (arith, behind .ends)) in
               let z : next-one ≡ cond (ltb (suc left) (width row-left)) next-one after-it =
@@ -171,38 +171,38 @@ module _ {img : List ℕ} {run after : Run} {depth left : ℕ} {t u : Located} (
               (λ f.
               let low : w ≤ suc left = ltb-false (suc left) w f in
               let e : 0 ≡ suc left - w = omega (arith, shows) in
-              ap (seekRun next-run (restOf row-left)) e ∙ further (suc left) low ∙ z)
+              ap (seekSpan next-span (restOf row-left)) e ∙ further (suc left) low ∙ z)
 
-          nowhere-else : next-run .end ≤ next-run .pos → cond (ltb (suc left) w) next-one after-it ≡ cond (ltb (suc left) (width row-left)) next-one after-it
+          nowhere-else : next-span .end ≤ next-span .pos → cond (ltb (suc left) w) next-one after-it ≡ cond (ltb (suc left) (width row-left)) next-one after-it
           nowhere-else h =
               let e : w ≡ width row-left = omega (arith, width-first row-left, none-width (restOf row-left) (omega (arith, behind .ends))) in
               ap (λ (n : ℕ). cond (ltb (suc left) n) next-one after-it) e
 
       -- It is what stands there,
-      pub seek-here : helperFirst row-left ≡ false → (locatedAt (run .pos) (next-run .pos) (run .par) (run .deep) ≡ t) × Follows img closer-run u
+      pub seek-here : helperFirst row-left ≡ false → (locatedAt (span .pos) (next-span .pos) (span .par) (span .deep) ≡ t) × Follows img closer-span u
       seek-here f =
           let z : ltb (suc left) (firstWidth row-left) ≡ false =
           le-ltb (suc left) (firstWidth row-left) (omega (arith, one-shown row-left (full some-left) f)) in (
-            rw (← len-is) (seek-first (run .pos) (run .par) (run .deep) left row-left (omega (arith, shows)) f) ∙ s .same,
-            record { rowed = turn .0; first = ap (λ (b : Bool). cond b next-one (seekRun closer-run (turn .0 .row) 0)) (sym z) ∙ turn .1 },
+            rw (← len-is) (seek-first (span .pos) (span .par) (span .deep) left row-left (omega (arith, shows)) f) ∙ s .same,
+            record { rowed = turn .0; first = ap (λ (b : Bool). cond b next-one (seekSpan closer-span (turn .0 .row) 0)) (sym z) ∙ turn .1 },
           )
 
       -- or is the proxy of a record whose helper shows it.
-      pub seek-inside : helperFirst row-left ≡ true → Seeking img (insideRun img run) closer-run (depth - 1) left t u
+      pub seek-inside : helperFirst row-left ≡ true → Seeking img (insideSpan img span) closer-span (depth - 1) left t u
       seek-inside f =
-          let p = nameAt img (run .pos) in
-          let a : Entered img (run .pos) (run .end) depth p row-left = proxy-first some-left (helper-first some-left f) refl in
+          let p = nameAt img (span .pos) in
+          let a : Entered img (span .pos) (span .end) depth p row-left = proxy-first some-left (helper-first some-left f) refl in
           let r = a .inside .row in
           let wide : firstWidth row-left ≡ width r = ap firstWidth (a .is) in
           let many : lone r ≡ false = not-true (lone r) (ap helperFirst (sym (a .is)) ∙ f) in
-          let under : (k : ℕ) → k < width r → seekRun (insideRun img run) r k ≡ seekRun run row-left k =
-          λ k h. rw (a .starts) (seek-under (run .pos) (run .par) (run .deep) k p (a .settled) r (a .after .row) h many)
-          ∙ ap (λ (x : Row). seekRun run x k) (sym (a .is)) in
+          let under : (k : ℕ) → k < width r → seekSpan (insideSpan img span) r k ≡ seekSpan span row-left k =
+          λ k h. rw (a .starts) (seek-under (span .pos) (span .par) (span .deep) k p (a .settled) r (a .after .row) h many)
+          ∙ ap (λ (x : Row). seekSpan span x k) (sym (a .is)) in
           record {
             rest = a .inside;
             same = under left (omega (arith, shows)) ∙ s .same;
             next = turn .0;
             then =
                 cond-swap (ltb (suc left) (width r)) _ next-one _ (λ e. under (suc left) (ltb-true (suc left) (width r) e))
-                ∙ ap (λ (n : ℕ). cond (ltb (suc left) n) next-one (seekRun closer-run (turn .0 .row) 0)) (sym wide) ∙ turn .1;
+                ∙ ap (λ (n : ℕ). cond (ltb (suc left) n) next-one (seekSpan closer-span (turn .0 .row) 0)) (sym wide) ∙ turn .1;
           }

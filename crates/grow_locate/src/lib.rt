@@ -14,7 +14,7 @@ ghost use Rattle.model.specs.Reading.{sizeAt, nameAt};
 ghost use Rattle.theory_layout.specs.Here.{PageIn};
 ghost use Rattle.theory_layout.specs.Widths.{firstWidth, Widths};
 ghost use Rattle.read_find.specs.Rowed.{Rowed};
-ghost use Rattle.grow_locate.specs.Seek.{nowhere, seekRun, helperFirst, SomeRow, pastRun, insideRun, closerOf, childrenRun, WithinPage};
+ghost use Rattle.grow_locate.specs.Seek.{locatedAt, nowhere, seekSpan, helperFirst, SomeRow, pastSpan, insideSpan, closerOf, childrenSpan, WithinPage};
 ghost use Rattle.grow_locate.specs.Walk.{Finds};
 ghost use Rattle.grow_locate.specs.Choose.{usedAround, rightWins, sightAt, sightFirst, sightBeside, sightChild};
 
@@ -43,7 +43,7 @@ pub struct Located {
 }
 
 // Nodes that follow one another in a record, from the byte `pos` of the image to `end`; `par` and `deep` as above.
-pub struct Run {
+pub struct Span {
     pub pos: usize,
     pub end: usize,
     pub par: usize,
@@ -51,9 +51,9 @@ pub struct Run {
 }
 
 // What a search finds: the node, and nodes of which the first shown is the next one; none if there is no next one.
-pub struct Sought {
-    pub node: Located,
-    pub after: Run,
+struct Sought {
+    node: Located,
+    after: Span,
 }
 
 fn nowhere() -> Located
@@ -92,91 +92,96 @@ fn leads_on(image: &[u8], pos: usize) -> bool
     start % Settings::PAGE != 0
 }
 
-// Past the first node.
-fn past_first(image: &[u8], run: Run) -> Run
-    requires { ⌜ run .pos + 6 ≤ length (now image) ⌝ }
-    ensures { λ r. ⌜ r ≡ pastRun run (sizeAt (now (image .entry)) (run .pos)) ⌝ }
+// The first node, up to the byte `past`.
+fn first_node(span: Span, past: usize) -> Located
+    ensures { λ r. ⌜ r ≡ locatedAt (span .pos) past (span .par) (span .deep) ⌝ }
 {
-    Run {
-        pos: run.pos + size_at(image, run.pos),
-        end: run.end,
-        par: run.par,
-        deep: run.deep,
+    Located {
+        found: true,
+        at: span.pos,
+        past: past,
+        par: span.par,
+        deep: span.deep,
+    }
+}
+
+// Past the first node.
+fn past_first(image: &[u8], span: Span) -> Span
+    requires { ⌜ span .pos + 6 ≤ length (now image) ⌝ }
+    ensures { λ r. ⌜ r ≡ pastSpan span (sizeAt (now (image .entry)) (span .pos)) ⌝ }
+{
+    Span {
+        pos: span.pos + size_at(image, span.pos),
+        end: span.end,
+        par: span.par,
+        deep: span.deep,
     }
 }
 
 // Into the record whose proxy is the first node.
-fn enter_first(image: &[u8], run: Run) -> Run
-    requires { ⌜ (run .pos + 8 ≤ length (now image)) × PageIn (now image) (nameAt (now image) (run .pos)) × (run .deep < 65536) ⌝ }
-    ensures { λ r. ⌜ r ≡ insideRun (now (image .entry)) run ⌝ }
+fn enter_first(image: &[u8], span: Span) -> Span
+    requires { ⌜ (span .pos + 8 ≤ length (now image)) × PageIn (now image) (nameAt (now image) (span .pos)) × (span .deep < 65536) ⌝ }
+    ensures { λ r. ⌜ r ≡ insideSpan (now (image .entry)) span ⌝ }
 {
-    let p = name_at(image, run.pos);
-    Run {
+    let p = name_at(image, span.pos);
+    Span {
         pos: row_start(image, p),
         end: row_end(image, p),
         par: 0,
-        deep: run.deep + 1,
+        deep: span.deep + 1,
     }
 }
 
 // What follows: `next`, or `after` where `next` is empty.
-fn closer(next: Run, after: Run) -> Run
+fn closer(next: Span, after: Span) -> Span
     ensures { λ r. ⌜ r ≡ closerOf next after ⌝ }
 {
     if next.pos < next.end { next } else { after }
 }
 
-// Node k of those that the run shows, or its proxy, if it is a record's root; `widths` has how many nodes each record shows, so that only records that
-// hold the node are read. The next node is the first behind the last node passed on the way down that has one behind it.
-fn seek(image: &[u8], widths: &[u32; Settings::PAGES], from: Run, k: usize) -> Sought
+// Node k of those that the span shows, or its proxy, if it is a record's root; `widths` has how many nodes each record shows, so that only records that
+// hold the node are read. What follows it are the nodes behind it in its record or, with none, those behind the nearest proxy on the way down that has some.
+fn seek(image: &[u8], widths: &[u32; Settings::PAGES], from: Span, k: usize) -> Sought
     requires { ⌜ Rowed (now image) (from .pos) (from .end) mostPages × Widths (now image) (now widths) × (from .deep ≤ mostPages) ⌝ }
     ensures { λ r. ⌜ Finds (now (image .entry)) from k r ⌝ }
 {
-    let mut left = k;
-    let mut run = from;
-    let mut after = Run {
+    let mut to_pass = k;
+    let mut span = from;
+    let mut after = Span {
         pos: from.end,
         end: from.end,
         par: from.par,
         deep: from.deep,
     };
-    while run.pos < run.end {
-        let next = past_first(image, run);
-        let n = shown_by(image, widths, run.pos);
-        if n <= left {
-            left = left - n;
-            run = next;
+    while span.pos < span.end {
+        let next = past_first(image, span);
+        let n = shown_by(image, widths, span.pos);
+        if n <= to_pass {
+            to_pass = to_pass - n;
+            span = next;
         } else {
             after = closer(next, after);
-            if !leads_on(image, run.pos) {
-                let node = Located {
-                    found: true,
-                    at: run.pos,
-                    past: next.pos,
-                    par: run.par,
-                    deep: run.deep,
-                };
+            if !leads_on(image, span.pos) {
                 return Sought {
-                    node: node,
+                    node: first_node(span, next.pos),
                     after: after,
                 };
             }
-            run = enter_first(image, run);
+            span = enter_first(image, span);
         }
     }
-    let none = nowhere();
     Sought {
-        node: none,
+        node: nowhere(),
         after: after,
     }
 }
 
 // The children of the aggregate at the byte `parent` of the image.
-fn children(image: &[u8], parent: usize) -> Run
+fn children(image: &[u8], parent: usize) -> Span
     requires { ⌜ Rowed (now image) (parent + 6) (parent + sizeAt (now image) parent) mostPages ⌝ }
-    ensures { λ r. ⌜ r ≡ childrenRun (now (image .entry)) parent ⌝ }
+    ensures { λ r. ⌜ r ≡ childrenSpan (now (image .entry)) parent ⌝ }
 {
-    Run {
+    Span {
         pos: parent + 6,
         end: parent + size_at(image, parent),
         par: parent % Settings::PAGE,
@@ -188,7 +193,7 @@ fn children(image: &[u8], parent: usize) -> Run
 pub fn seek_child(image: &[u8], widths: &[u32; Settings::PAGES], parent: usize, k: usize) -> Located
     requires { ⌜ Rowed (now image) (parent + 6) (parent + sizeAt (now image) parent) mostPages × Widths (now image) (now widths) ⌝ }
     ensures { λ r. ⌜ ((w : Rowed (now (image .entry)) (parent + 6) (parent + sizeAt (now (image .entry)) parent) mostPages)
-        → r ≡ seekRun (childrenRun (now (image .entry)) parent) (w .row) k) ⌝ }
+        → r ≡ seekSpan (childrenSpan (now (image .entry)) parent) (w .row) k) ⌝ }
 {
     let s = seek(image, widths, children(image, parent), k);
     s.node
@@ -229,25 +234,25 @@ fn sight(found: bool, pos: usize, par: usize, deep: usize) -> Sighted
 }
 
 // The first child goes before its right sibling; with none, where the children would stand.
-fn spot_first(image: &[u8], widths: &[u32; Settings::PAGES], run: Run) -> Sighted
-    requires { ⌜ Rowed (now image) (run .pos) (run .end) mostPages × Widths (now image) (now widths) × (run .deep ≤ mostPages) ⌝ }
-    ensures { λ r. ⌜ ((w : Rowed (now (image .entry)) (run .pos) (run .end) mostPages) → r ≡ sightFirst run (seekRun run (w .row) 0)) ⌝ }
+fn spot_first(image: &[u8], widths: &[u32; Settings::PAGES], span: Span) -> Sighted
+    requires { ⌜ Rowed (now image) (span .pos) (span .end) mostPages × Widths (now image) (now widths) × (span .deep ≡ 0) ⌝ }
+    ensures { λ r. ⌜ ((w : Rowed (now (image .entry)) (span .pos) (span .end) mostPages) → r ≡ sightFirst span (seekSpan span (w .row) 0)) ⌝ }
 {
-    let s = seek(image, widths, run, 0);
+    let s = seek(image, widths, span, 0);
     let sibling = s.node;
     if sibling.found {
         return sight(true, sibling.at, sibling.par, sibling.deep);
     }
-    sight(true, run.pos, run.par, run.deep)
+    sight(true, span.pos, span.par, span.deep)
 }
 
-// A child with left sibling i goes after it or before its right one, whose search begins where the other's ends.
-fn spot_beside(image: &[u8], widths: &[u32; Settings::PAGES], run: Run, i: usize) -> Sighted
-    requires { ⌜ Rowed (now image) (run .pos) (run .end) mostPages × Widths (now image) (now widths) × (run .deep ≡ 0) ⌝ }
-    ensures { λ r. ⌜ ((w : Rowed (now (image .entry)) (run .pos) (run .end) mostPages)
-        → r ≡ sightBeside (now (image .entry)) (seekRun run (w .row) i) (seekRun run (w .row) (suc i))) ⌝ }
+// A child with left sibling i goes after it or before its right one, whose search begins with what follows the left one.
+fn spot_beside(image: &[u8], widths: &[u32; Settings::PAGES], span: Span, i: usize) -> Sighted
+    requires { ⌜ Rowed (now image) (span .pos) (span .end) mostPages × Widths (now image) (now widths) × (span .deep ≡ 0) ⌝ }
+    ensures { λ r. ⌜ ((w : Rowed (now (image .entry)) (span .pos) (span .end) mostPages)
+        → r ≡ sightBeside (now (image .entry)) (seekSpan span (w .row) i) (seekSpan span (w .row) (suc i))) ⌝ }
 {
-    let s = seek(image, widths, run, i);
+    let s = seek(image, widths, span, i);
     let left = s.node;
     let after = s.after;
     let t = seek(image, widths, after, 0);
@@ -262,11 +267,11 @@ fn spot_beside(image: &[u8], widths: &[u32; Settings::PAGES], run: Run, i: usize
 pub fn find_spot(image: &[u8], widths: &[u32; Settings::PAGES], parent: usize, k: usize) -> Sighted
     requires { ⌜ Rowed (now image) (parent + 6) (parent + sizeAt (now image) parent) mostPages × Widths (now image) (now widths) ⌝ }
     ensures { λ r. ⌜ ((w : Rowed (now (image .entry)) (parent + 6) (parent + sizeAt (now (image .entry)) parent) mostPages)
-        → r ≡ sightChild (now (image .entry)) (childrenRun (now (image .entry)) parent) (w .row) k) ⌝ }
+        → r ≡ sightChild (now (image .entry)) (childrenSpan (now (image .entry)) parent) (w .row) k) ⌝ }
 {
-    let run = children(image, parent);
+    let span = children(image, parent);
     if k == 0 {
-        return spot_first(image, widths, run);
+        return spot_first(image, widths, span);
     }
-    spot_beside(image, widths, run, k - 1)
+    spot_beside(image, widths, span, k - 1)
 }

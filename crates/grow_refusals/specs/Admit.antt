@@ -23,7 +23,7 @@ use Rattle.theory_calls.specs.Open.{opens}
 use Rattle.theory_calls.specs.Tests.{accepted}
 use Rattle.theory_calls.specs.Spot.{spot-accepted}
 use Rattle.grow_locate.specs.declared.Sighted.{Sighted}
-use Rattle.grow_locate.specs.Seek.{childrenRun}
+use Rattle.grow_locate.specs.Seek.{childrenSpan}
 use Rattle.grow_locate.specs.Choose.{sightChild, sight-found}
 use Rattle.grow_locate.specs.Aim.{Aimed, receiverOf}
 use Rattle.theory_row_bytes.specs.RowAt.{kindOf}
@@ -77,9 +77,9 @@ module _ {img : List ℕ} {kind : ℕ} {head : Head} {content : List ℕ} {child
     searched = children-of (r .here) (is-agg z) (r .deep) (r .few) (sizeAt img parent) refl
 
     -- The search's number of the child.
-    module _ (k : ℕ) (x : Sighted) (q : x ≡ sightChild img (childrenRun img parent) (searched .row) k) where
+    module _ (k : ℕ) (x : Sighted) (q : x ≡ sightChild img (childrenSpan img parent) (searched .row) k) where
       sees : (b : Bool) → x .found ≡ b → leb k children ≡ b
-      sees b f = ap (leb k) (r .children-is) ∙ sym (ap (λ (x : Sighted). x .found) q ∙ sight-found img (childrenRun img parent) (searched .row) k) ∙ f
+      sees b f = ap (leb k) (r .children-is) ∙ sym (ap (λ (x : Sighted). x .found) q ∙ sight-found img (childrenSpan img parent) (searched .row) k) ∙ f
 
       pub is-past : x .found ≡ false → 9 ≡ parentNumber kind children k
       is-past f = sym (rw (not-literal, lt-ltb children k (leb-false k children (sees false f))))

@@ -110,17 +110,18 @@ spotBefore parent n = record { chain = n .chain; position = n .position; rest = 
 abbrev pub unused : Spot → ℕ
 unused t = capacity - recordSize (fill (t .position) (t .rest))
 
--- The larger wins, equal goes left.
+-- The spot with more bytes unused wins, equal goes left.
 abbrev pub emptier : (left right : Spot) → Spot
 emptier l r = cond (ltb (unused l) (unused r)) r l
 
--- With a left sibling: if there is a right one too, the two spots are compared; else the left one decides.
+-- Child i + 1: with siblings on both sides the two spots are compared, with a left one alone that one decides; none if there is no left sibling, since
+-- then there is no such gap.
 abbrev pub spotBeside : (parent : Head) → (left right : Option Stand) → Option Spot
 spotBeside parent none right = none
 spotBeside parent (some l) none = some (spotAfter parent l)
 spotBeside parent (some l) (some r) = some (emptier (spotAfter parent l) (spotBefore parent r))
 
--- Without: the right one decides; with none, the parent's own record.
+-- Child 0: the right sibling decides; with none it goes into the parent's own record, at `own`.
 abbrev pub spotFirst : (own : Spot) → (right : Option Stand) → Spot
 spotFirst own none = own
 spotFirst own (some r) = spotBefore (own .parent) r

@@ -5,8 +5,8 @@ use borrow.Author.Needs.{needs}
 use Rattle.model.specs.Limits.{mostPages}
 use Rattle.theory_layout.specs.Widths.{Widths}
 use Rattle.read_find.specs.Rowed.{Rowed}
-use Rattle.grow_locate.specs.declared.Run.{Run}
-use Rattle.grow_locate.specs.Seek.{seekRun, childrenRun}
+use Rattle.grow_locate.specs.declared.Span.{Span}
+use Rattle.grow_locate.specs.Seek.{seekSpan, childrenSpan}
 use Rattle.grow_locate.specs.Choose.{sightFirst, sightBeside, sightChild}
 use Rattle.grow_locate.proofs.find_spot.Statement.{statement}
 use Rattle.grow_locate.proofs.find_spot.Tie as tie
@@ -17,16 +17,16 @@ children-requires c κs = search needs
 spot-first-requires : tie.Need-spot-first-requires
 spot-first-requires c κs =
     let s = c .before .before .before in
-    subst (λ (r : Run). Rowed (s .args .image .now) (r .pos) (r .end) mostPages × Widths (s .args .image .now) (s .args .widths .now) × (r .deep ≤ mostPages))
-    (sym (c .before .children .ensures)) (s .pre .0, s .pre .1, omega arith)
+    subst (λ (r : Span). Rowed (s .args .image .now) (r .pos) (r .end) mostPages × Widths (s .args .image .now) (s .args .widths .now) × (r .deep ≡ 0))
+    (sym (c .before .children .ensures)) (s .pre .0, s .pre .1, refl)
 
 returns : tie.Need-returns
 returns c =
     let x = c .before .before in
     let a = x .before .before .args in
-    let run = childrenRun (a .image .now) (a .parent) in
-    let P : Run → Type 0 = λ r. (w : Rowed (a .image .now) (r .pos) (r .end) mostPages) → c .spot-first .result ≡ sightFirst r (seekRun r (w .row) 0) in
-    λ w. subst P (x .children .ensures) (c .spot-first .ensures) w ∙ ap (sightChild (a .image .now) run (w .row)) (sym (c .before .if1 .taken))
+    let span = childrenSpan (a .image .now) (a .parent) in
+    let P : Span → Type 0 = λ r. (w : Rowed (a .image .now) (r .pos) (r .end) mostPages) → c .spot-first .result ≡ sightFirst r (seekSpan r (w .row) 0) in
+    λ w. subst P (x .children .ensures) (c .spot-first .ensures) w ∙ ap (sightChild (a .image .now) span (w .row)) (sym (c .before .if1 .taken))
 
 sub-spot-beside : tie.Need-sub-spot-beside
 sub-spot-beside c = search needs
@@ -34,7 +34,7 @@ sub-spot-beside c = search needs
 spot-beside-requires : tie.Need-spot-beside-requires
 spot-beside-requires c κs =
     let s = c .before .before .before in
-    subst (λ (r : Run). Rowed (s .args .image .now) (r .pos) (r .end) mostPages × Widths (s .args .image .now) (s .args .widths .now) × (r .deep ≡ 0))
+    subst (λ (r : Span). Rowed (s .args .image .now) (r .pos) (r .end) mostPages × Widths (s .args .image .now) (s .args .widths .now) × (r .deep ≡ 0))
     (sym (c .before .children .ensures)) (s .pre .0, s .pre .1, refl)
 
 returns-2 : tie.Need-returns-2
@@ -42,12 +42,12 @@ returns-2 c =
     let x = c .before .before in
     let a = x .before .before .args in
     let img = a .image .now in
-    let run = childrenRun img (a .parent) in
+    let span = childrenSpan img (a .parent) in
     let i = a .k - 1 in
     let z : suc i ≡ a .k = omega (arith, c .before .if1 .left) in
-    let P : Run → Type 0 = λ r. (w : Rowed img (r .pos) (r .end) mostPages)
-    → c .spot-beside .result ≡ sightBeside img (seekRun r (w .row) i) (seekRun r (w .row) (suc i)) in
-    λ w. subst P (x .children .ensures) (c .spot-beside .ensures) w ∙ ap (sightChild img run (w .row)) z
+    let P : Span → Type 0 = λ r. (w : Rowed img (r .pos) (r .end) mostPages)
+    → c .spot-beside .result ≡ sightBeside img (seekSpan r (w .row) i) (seekSpan r (w .row) (suc i)) in
+    λ w. subst P (x .children .ensures) (c .spot-beside .ensures) w ∙ ap (sightChild img span (w .row)) z
 
 pub find-spot-spec : {M : Type 1} → statement M
 find-spot-spec =

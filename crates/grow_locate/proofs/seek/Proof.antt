@@ -9,31 +9,31 @@ use Rattle.model.specs.Limits.{mostPages, pageSize}
 use Rattle.model.specs.Reading.{sizeAt, nameAt}
 use Rattle.read_find.specs.Rowed.{Rowed, Entered, short, room}
 use Rattle.grow_locate.specs.declared.Located.{Located}
-use Rattle.grow_locate.specs.declared.Run.{Run}
-use Rattle.grow_locate.specs.Seek.{helperFirst, SomeRow, first-long, helper-first, proxy-first, locatedAt, seekRun}
-use Rattle.grow_locate.specs.Seek.{pastRun, insideRun, emptyRun, closerOf, closer-deep}
+use Rattle.grow_locate.specs.declared.Span.{Span}
+use Rattle.grow_locate.specs.Seek.{helperFirst, SomeRow, first-long, helper-first, proxy-first, locatedAt, seekSpan}
+use Rattle.grow_locate.specs.Seek.{pastSpan, insideSpan, emptySpan, closerOf, closer-deep}
 use Rattle.grow_locate.specs.Walk.{Follows, Seeking, seeking, seek-deep, seek-end, seek-past, seek-here, seek-inside}
 use Rattle.grow_locate.proofs.seek.Statement.{statement}
 use Rattle.grow_locate.proofs.seek.Tie as tie
 
 abbrev Inv-loop : tie.InvT-loop
-Inv-loop image widths k left₀ run₀ after₀ left run after =
-    ((t u : Located) → Seeking image run₀ (emptyRun run₀) mostPages k t u → Seeking image run after (mostPages - (run .deep - run₀ .deep)) left t u)
-    × (run₀ .deep ≤ run .deep) × (run .deep ≤ run₀ .deep + mostPages) × (after .deep ≤ run₀ .deep + mostPages)
+Inv-loop image widths k left₀ span₀ after₀ left span after =
+    ((t u : Located) → Seeking image span₀ (emptySpan span₀) mostPages k t u → Seeking image span after (mostPages - (span .deep - span₀ .deep)) left t u)
+    × (span₀ .deep ≤ span .deep) × (span .deep ≤ span₀ .deep + mostPages) × (after .deep ≤ span₀ .deep + mostPages)
 
 abbrev μ-loop : tie.MeasureT-loop
-μ-loop image widths k left₀ run₀ after₀ left run after = pageSize * (mostPages - (run .deep - run₀ .deep)) + (run .end - run .pos)
+μ-loop image widths k left₀ span₀ after₀ left span after = pageSize * (mostPages - (span .deep - span₀ .deep)) + (span .end - span .pos)
 
 -- The row that is left in the loop is not empty, and has room.
 abbrev depth : tie.Then1 Inv-loop μ-loop → ℕ
-depth c = let l = c .before .before in mostPages - (l .loop .run .deep - l .before .before .args .from .deep)
+depth c = let l = c .before .before in mostPages - (l .loop .span .deep - l .before .before .args .from .deep)
 
 seen : (c : tie.Then1 Inv-loop μ-loop) → let l = c .before .before in
-    Rowed (l .before .before .args .image .now) (l .loop .run .pos) (l .loop .run .end) (depth c)
+    Rowed (l .before .before .args .image .now) (l .loop .span .pos) (l .loop .span .end) (depth c)
 seen c = let l = c .before .before in l .loop .inv .0 _ _ (seeking (l .before .before .pre .0)) .rest
 
 abbrev some : (c : tie.Then1 Inv-loop μ-loop) → let l = c .before .before in let img = l .before .before .args .image .now in
-    Rowed img (l .loop .run .pos) (l .loop .run .end) (depth c) → SomeRow img (l .loop .run .pos)
+    Rowed img (l .loop .span .pos) (l .loop .span .end) (depth c) → SomeRow img (l .loop .span .pos)
 some c w = record { end = _; depth = _; rowed = w; some = c .if1 .taken }
 
 loop-holds : tie.Need-loop-holds Inv-loop μ-loop
@@ -49,9 +49,9 @@ loop-less : tie.Need-loop-less Inv-loop μ-loop
 loop-less c =
     let i = c .before .before .before in
     let e = c .before .before .past-first .ensures in
-    let p = ap (λ (r : Run). r .pos) e in
-    let q = ap (λ (r : Run). r .end) e in
-    let d = ap (λ (r : Run). r .deep) e in
+    let p = ap (λ (r : Span). r .pos) e in
+    let q = ap (λ (r : Span). r .end) e in
+    let d = ap (λ (r : Span). r .deep) e in
     omega (arith, first-long (some i (seen i)), i .if1 .taken)
 
 loop-again : tie.Need-loop-again Inv-loop μ-loop
@@ -59,8 +59,8 @@ loop-again c =
     let i = c .before .before .before in
     let l = i .before .before in
     let a = l .before .before .args in
-    let left = l .loop .left - c .before .shown-by .result in
-    let P : Run → Type 0 = λ r. Inv-loop (a .image .now) (a .widths .now) (a .k) (a .k) (a .from) (emptyRun (a .from)) left r (l .loop .after) in
+    let left = l .loop .to-pass - c .before .shown-by .result in
+    let P : Span → Type 0 = λ r. Inv-loop (a .image .now) (a .widths .now) (a .k) (a .k) (a .from) (emptySpan (a .from)) left r (l .loop .after) in
     subst P (sym (c .before .before .past-first .ensures)) (
       λ t u s.
           let w = l .loop .inv .0 t u s in
@@ -72,10 +72,10 @@ loop-again c =
 
 -- What follows the first node, or else what followed before.
 closes : (c : tie.After-closer Inv-loop μ-loop) → let l = c .before .before .before .before .before .before in
-    c .closer .result ≡ closerOf (pastRun (l .loop .run) (sizeAt (l .before .before .args .image .now) (l .loop .run .pos))) (l .loop .after)
+    c .closer .result ≡ closerOf (pastSpan (l .loop .span) (sizeAt (l .before .before .args .image .now) (l .loop .span .pos))) (l .loop .after)
 closes c =
     let l = c .before .before .before .before .before .before in
-    c .closer .ensures ∙ ap (λ (r : Run). closerOf r (l .loop .after)) (c .before .before .before .past-first .ensures)
+    c .closer .ensures ∙ ap (λ (r : Span). closerOf r (l .loop .after)) (c .before .before .before .past-first .ensures)
 
 closes-deep : (c : tie.After-closer Inv-loop μ-loop) → let a = c .before .before .before .before .before .before .before .before .args in
     c .closer .result .deep ≤ a .from .deep + mostPages
@@ -83,8 +83,8 @@ closes-deep c =
     let l = c .before .before .before .before .before .before in
     let a = l .before .before .args in
     let n = a .from .deep + mostPages in
-    let next = pastRun (l .loop .run) (sizeAt (a .image .now) (l .loop .run .pos)) in
-    subst (λ (r : Run). r .deep ≤ n) (sym (closes c)) (closer-deep next (l .loop .after) n (l .loop .inv .2) (l .loop .inv .3))
+    let next = pastSpan (l .loop .span) (sizeAt (a .image .now) (l .loop .span .pos)) in
+    subst (λ (r : Span). r .deep ≤ n) (sym (closes c)) (closer-deep next (l .loop .after) n (l .loop .inv .2) (l .loop .inv .3))
 
 closer-requires : tie.Need-closer-requires Inv-loop μ-loop
 closer-requires c κs = tt
@@ -92,31 +92,35 @@ closer-requires c κs = tt
 leads-on-requires : tie.Need-leads-on-requires Inv-loop μ-loop
 leads-on-requires c κs = let i = c .before .before .before .before in some i (seen i)
 
+first-node-requires : tie.Need-first-node-requires Inv-loop μ-loop
+first-node-requires c κs = tt
+
 returns : tie.Need-returns Inv-loop μ-loop
 returns c =
-    let x = c .before .before .before in
+    let y = c .before in
+    let x = y .before .before .before in
     let i = x .before .before .before in
     let l = i .before .before in
     λ w.
     let s = l .loop .inv .0 _ _ (seeking w) in
     let o = some i (s .rest) in
     let h = seek-here s (i .if1 .taken) (x .before .shown-by .ensures o) (omega arith) (x .if2 .left)
-    (sym (c .before .leads-on .ensures o) ∙ not-true _ (c .if3 .taken)) in
-    let run = l .loop .run in
+    (sym (y .before .leads-on .ensures o) ∙ not-true _ (y .if3 .taken)) in
+    let span = l .loop .span in
     let a = l .before .before .args in (
-      ap (λ (r : Run). locatedAt (run .pos) (r .pos) (run .par) (run .deep)) (x .before .before .past-first .ensures) ∙ h .0,
-      subst (λ (r : Run). Follows (a .image .now) r (seekRun (a .from) (w .row) (suc (a .k)))) (sym (closes (c .before .before))) (h .1),
-      closes-deep (c .before .before),
+      c .first-node .ensures ∙ ap (λ (r : Span). locatedAt (span .pos) (r .pos) (span .par) (span .deep)) (x .before .before .past-first .ensures) ∙ h .0,
+      subst (λ (r : Span). Follows (a .image .now) r (seekSpan (a .from) (w .row) (suc (a .k)))) (sym (closes (y .before .before))) (h .1),
+      closes-deep (y .before .before),
     )
 
 -- What leads on is the proxy of a record whose helper shows the node.
 leads : (c : tie.Else3 Inv-loop μ-loop) → let i = c .before .before .before .before .before .before in let l = i .before .before in
-    (w : Rowed (l .before .before .args .image .now) (l .loop .run .pos) (l .loop .run .end) (depth i)) → helperFirst (w .row) ≡ true
+    (w : Rowed (l .before .before .args .image .now) (l .loop .span .pos) (l .loop .span .end) (depth i)) → helperFirst (w .row) ≡ true
 leads c w = sym (c .before .leads-on .ensures (some (c .before .before .before .before .before .before) w)) ∙ not-false _ (c .if3 .left)
 
 under : (c : tie.Else3 Inv-loop μ-loop) → let i = c .before .before .before .before .before .before in let l = i .before .before in
     let img = l .before .before .args .image .now in
-    Entered img (l .loop .run .pos) (l .loop .run .end) (depth i) (nameAt img (l .loop .run .pos)) (seen i .row)
+    Entered img (l .loop .span .pos) (l .loop .span .end) (depth i) (nameAt img (l .loop .span .pos)) (seen i .row)
 under c =
     let i = c .before .before .before .before .before .before in
     let w = seen i in
@@ -138,10 +142,10 @@ loop-less-2 : tie.Need-loop-less-2 Inv-loop μ-loop
 loop-less-2 c =
     let l = c .before .before .before .before .before .before .before .before .before in
     let a = under (c .before) in
-    let run = l .loop .run in
+    let span = l .loop .span in
     let d = l .before .before .args .from .deep in
-    subst (λ (r : Run). pageSize * (mostPages - (r .deep - d)) + (r .end - r .pos) < pageSize * (mostPages - (run .deep - d)) + (run .end - run .pos))
-    (sym (c .enter-first .ensures)) (fewer _ _ _ _ (one-deeper d (run .deep) (l .loop .inv .1) (a .below)) (short _ _ _ _ (a .inside)))
+    subst (λ (r : Span). pageSize * (mostPages - (r .deep - d)) + (r .end - r .pos) < pageSize * (mostPages - (span .deep - d)) + (span .end - span .pos))
+    (sym (c .enter-first .ensures)) (fewer _ _ _ _ (one-deeper d (span .deep) (l .loop .inv .1) (a .below)) (short _ _ _ _ (a .inside)))
 
 loop-again-2 : tie.Need-loop-again-2 Inv-loop μ-loop
 loop-again-2 c =
@@ -150,15 +154,15 @@ loop-again-2 c =
     let l = i .before .before in
     let a = l .before .before .args in
     let img = a .image .now in
-    let I : Run → Run → Type 0 = λ run after. Inv-loop img (a .widths .now) (a .k) (a .k) (a .from) (emptyRun (a .from)) (l .loop .left) run after in
+    let I : Span → Span → Type 0 = λ span after. Inv-loop img (a .widths .now) (a .k) (a .k) (a .from) (emptySpan (a .from)) (l .loop .to-pass) span after in
     let z = closes (c .before .before .before) in
-    let deep : depth i - 1 ≡ mostPages - (l .loop .run .deep + 1 - a .from .deep) = omega (arith, under (c .before) .below, l .loop .inv .1) in
-    subst (λ (r : Run). I r (c .before .before .before .closer .result)) (sym (c .enter-first .ensures)) (
+    let deep : depth i - 1 ≡ mostPages - (l .loop .span .deep + 1 - a .from .deep) = omega (arith, under (c .before) .below, l .loop .inv .1) in
+    subst (λ (r : Span). I r (c .before .before .before .closer .result)) (sym (c .enter-first .ensures)) (
       λ t u s.
           let w = l .loop .inv .0 t u s in
           let o = some i (w .rest) in
           seek-deep deep
-          (subst (λ (r : Run). Seeking img (insideRun img (l .loop .run)) r (depth i - 1) (l .loop .left) t u) (sym z)
+          (subst (λ (r : Span). Seeking img (insideSpan img (l .loop .span)) r (depth i - 1) (l .loop .to-pass) t u) (sym z)
           (seek-inside w (i .if1 .taken) (x .before .shown-by .ensures o) (omega arith) (x .if2 .left) (leads (c .before) (w .rest)))),
       omega (arith, l .loop .inv .1),
       omega (arith, l .loop .inv .1, under (c .before) .below),
@@ -177,5 +181,5 @@ returns-2 c =
 
 pub seek-spec : {M : Type 1} → statement M
 seek-spec =
-    tie.close (tie.spec Inv-loop μ-loop loop-holds past-first-requires shown-by-requires loop-less loop-again closer-requires leads-on-requires returns
+    tie.close (tie.spec Inv-loop μ-loop loop-holds past-first-requires shown-by-requires loop-less loop-again closer-requires leads-on-requires first-node-requires returns
     enter-first-requires loop-less-2 loop-again-2 nowhere-requires returns-2)

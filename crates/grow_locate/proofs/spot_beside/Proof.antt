@@ -6,7 +6,7 @@ use borrow.Author.Needs.{needs}
 use Rattle.model.specs.Limits.{mostPages}
 use Rattle.read_find.specs.Rowed.{Rowed}
 use Rattle.grow_locate.specs.declared.Sighted.{Sighted}
-use Rattle.grow_locate.specs.Seek.{seekRun}
+use Rattle.grow_locate.specs.Seek.{seekSpan}
 use Rattle.grow_locate.specs.Choose.{sightBefore, sightAfter, sightBeside, both-on}
 use Rattle.grow_locate.proofs.spot_beside.Statement.{statement}
 use Rattle.grow_locate.proofs.spot_beside.Tie as tie
@@ -23,7 +23,7 @@ seek-requires-2 c κs =
 
 -- The first node of what follows the left sibling is the right one.
 right-is : (c : tie.After-right) → let s = c .before .before .before .before in let a = s .before .before .args in
-    (w : Rowed (a .image .now) (a .run .pos) (a .run .end) mostPages) → c .before .seek2 .result .node ≡ seekRun (a .run) (w .row) (suc (a .i))
+    (w : Rowed (a .image .now) (a .span .pos) (a .span .end) mostPages) → c .before .seek2 .result .node ≡ seekSpan (a .span) (w .row) (suc (a .i))
 right-is c w =
     let f = c .before .before .before .before .seek .ensures w .1 in
     c .before .seek2 .ensures (f .rowed) .0 ∙ f .first
@@ -32,12 +32,12 @@ right-wins-requires : tie.Need-right-wins-requires
 right-wins-requires c κs =
     let s = c .before .before .before .before in
     let w = s .before .before .pre .0 in
-    both-on (s .before .before .args .run) w (s .before .before .args .i) _ _ (s .seek .ensures w .0) (right-is c w)
+    both-on (s .before .before .args .span) w (s .before .before .args .i) _ _ (s .seek .ensures w .0) (right-is c w)
 
 by-choice : (c : tie.After-right-wins) → let k = c .before in let s = k .before .before .before .before in let a = s .before .before .args in
     (r : Sighted) (b : Bool) → c .right-wins .result ≡ b → r ≡ cond b (sightBefore (k .before .seek2 .result .node)) (sightAfter (s .seek .result .node))
-    → (w : Rowed (a .image .now) (a .run .pos) (a .run .end) mostPages)
-    → r ≡ sightBeside (a .image .now) (seekRun (a .run) (w .row) (a .i)) (seekRun (a .run) (w .row) (suc (a .i)))
+    → (w : Rowed (a .image .now) (a .span .pos) (a .span .end) mostPages)
+    → r ≡ sightBeside (a .image .now) (seekSpan (a .span) (w .row) (a .i)) (seekSpan (a .span) (w .row) (suc (a .i)))
 by-choice c x b e f w =
     let k = c .before in
     let s = k .before .before .before .before in

@@ -14,11 +14,11 @@ sight-requires c κs = search needs
 returns : tie.Need-returns
 returns c =
     let s = c .before .before .before in
-    let run = s .before .before .args .run in
+    let span = s .before .before .args .span in
     let right = s .seek .result .node in
     let f : right .found ≡ true = c .before .if1 .taken in
-    λ w. c .sight .ensures ∙ sym (ap (λ (b : Bool). cond b (sightBefore right) (sightAt true (run .pos) (run .par) (run .deep))) f)
-    ∙ ap (sightFirst run) (s .seek .ensures w .0)
+    λ w. c .sight .ensures ∙ sym (ap (λ (b : Bool). cond b (sightBefore right) (sightAt true (span .pos) (span .par) (span .deep))) f)
+    ∙ ap (sightFirst span) (s .seek .ensures w .0)
 
 sight-requires-2 : tie.Need-sight-requires-2
 sight-requires-2 c κs = search needs
@@ -26,11 +26,11 @@ sight-requires-2 c κs = search needs
 returns-2 : tie.Need-returns-2
 returns-2 c =
     let s = c .before .before .before in
-    let run = s .before .before .args .run in
+    let span = s .before .before .args .span in
     let right = s .seek .result .node in
     let f : right .found ≡ false = c .before .if1 .left in
-    λ w. c .sight2 .ensures ∙ sym (ap (λ (b : Bool). cond b (sightBefore right) (sightAt true (run .pos) (run .par) (run .deep))) f)
-    ∙ ap (sightFirst run) (s .seek .ensures w .0)
+    λ w. c .sight2 .ensures ∙ sym (ap (λ (b : Bool). cond b (sightBefore right) (sightAt true (span .pos) (span .par) (span .deep))) f)
+    ∙ ap (sightFirst span) (s .seek .ensures w .0)
 
 pub spot-first-spec : {M : Type 1} → statement M
 spot-first-spec =
