@@ -1,4 +1,4 @@
--- Where a node of a row stands, or its proxy, and where the next one is to be sought: the walk of the code along a row that stands in an image.
+-- Where a node of a row stands, or its proxy, and what is read at the first node of a row.
 use mathlib.Core.Path.{_≡_, refl, sym, ap, _∙_}
 use mathlib.Core.Bool.{Bool, true, false, cond, not, false≢true}
 use mathlib.Core.List.{List}

@@ -11,11 +11,11 @@ use Rattle.model.specs.Row.{Row, nil, agg, lit, rec, size, lone}
 use Rattle.model.specs.Tree.{width}
 use Rattle.model.specs.Reading.{sizeAt, nameAt}
 use Rattle.theory_rows.specs.Laws.{cond-case, ⊹-nil, lone-width}
-use Rattle.theory_rows.specs.Fits.{Fits}
-use Rattle.theory_places.specs.Widths.{record-shown}
+use Rattle.theory_places.specs.Widths.{some-shown}
 use Rattle.theory_row_bytes.specs.RowAt.{sizeOf, restOf}
 use Rattle.theory_layout.specs.Here.{Here, view}
 use Rattle.theory_layout.specs.Widths.{firstWidth, width-first, none-width}
+use Rattle.theory_growth.specs.Chain.{both}
 use Rattle.theory_insert_point.specs.Bytes.{here-⊹}
 use Rattle.read_find.specs.Rowed.{Rowed, Entered, past-first}
 use Rattle.grow_locate.specs.declared.Located.{Located}
@@ -73,23 +73,12 @@ pub seek-deep : {img : List ℕ} {span after : Span} {depth deep left : ℕ} {t 
     → Seeking img span after deep left t u
 seek-deep e s = rw (← e) s
 
-some-shown : (row : Row) → Fits row → 0 < size row → 1 ≤ width row
-some-shown nil f h = absurd (omega arith)
-some-shown (agg l cs rest) f h = omega arith
-some-shown (lit l c rest) f h = omega arith
-some-shown (rec p s r rest) f h = omega (arith, record-shown s r (f .0) (f .1))
-
 -- A node that is no helper's proxy shows one.
 one-shown : (row : Row) → 0 < size row → helperFirst row ≡ false → firstWidth row ≡ 1
 one-shown nil h f = absurd (omega arith)
 one-shown (agg l cs rest) h f = refl
 one-shown (lit l c rest) h f = refl
 one-shown (rec p s r rest) h f = lone-width r (not-false (lone r) f)
-
--- Two choices by one test that differ only where it does not hold.
-cond-swap : (b : Bool) (x y z : Located) → (b ≡ true → x ≡ y) → cond b x z ≡ cond b y z
-cond-swap true x y z f = f refl
-cond-swap false x y z f = refl
 
 module _ {img : List ℕ} {span after : Span} {depth left : ℕ} {t u : Located} (s : Seeking img span after depth left t u) where
   abbrev row-left : Row
@@ -149,7 +138,7 @@ module _ {img : List ℕ} {span after : Span} {depth left : ℕ} {t u : Located}
       next-one = seekSpan span row-left (suc left)
 
       -- The first node shows it. The next one is shown there too, or else it is the first of what follows.
-      pub turn : (n : Rowed img (closer-span .pos) (closer-span .end) mostPages)
+      turn : (n : Rowed img (closer-span .pos) (closer-span .end) mostPages)
           × (cond (ltb (suc left) (firstWidth row-left)) next-one (seekSpan closer-span (n .row) 0) ≡ u)
       turn =
           cond-case P (ltb (next-span .pos) (next-span .end)) (λ e. (deeper most behind, there (ltb-true (next-span .pos) (next-span .end) e) ∙ s .then))
@@ -203,6 +192,6 @@ module _ {img : List ℕ} {span after : Span} {depth left : ℕ} {t u : Located}
             same = under left (omega (arith, shows)) ∙ s .same;
             next = turn .0;
             then =
-                cond-swap (ltb (suc left) (width r)) _ next-one _ (λ e. under (suc left) (ltb-true (suc left) (width r) e))
+                both (λ (a b : Located). a ≡ b) (ltb (suc left) (width r)) (λ e. under (suc left) (ltb-true (suc left) (width r) e)) (λ _. refl)
                 ∙ ap (λ (n : ℕ). cond (ltb (suc left) n) next-one (seekSpan closer-span (turn .0 .row) 0)) (sym wide) ∙ turn .1;
           }

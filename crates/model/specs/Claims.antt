@@ -68,7 +68,8 @@ pub record TwoSpots (st : Config) (root : Row) (path : List ℕ) (i : ℕ) (l r 
   pub before : (x : New) → shown (risen st x (spotBefore (t .parent) r) (atRest st root) .0) ≡ insertAt x (suc i) 0 path (shown root)
 
 -- The spot t of a child, by the stands of the children that are its siblings: with both, with the left one alone, with the right one alone, and with
--- none, where the parent's own record takes it.
+-- none, where the parent's own record takes it; and the header that step 2 asks, which is the parent's. (That an accepted insert has a spot is in `Growth`: the
+-- node is there after it.)
 pub record StepOne (root : Row) (path : List ℕ) (t : Spot) : Type 0 where
   pub both : (st : Config) (i : ℕ) (l r : Stand) → spotOf root path (suc i) ≡ some t → standOf root (path ++ i ∷ []) ≡ some l
       → standOf root (path ++ suc i ∷ []) ≡ some r → TwoSpots st root path i l r t
@@ -77,6 +78,7 @@ pub record StepOne (root : Row) (path : List ℕ) (t : Spot) : Type 0 where
   pub rightOnly : (r : Stand) → spotOf root path 0 ≡ some t → standOf root (path ++ 0 ∷ []) ≡ some r → t ≡ spotBefore (t .parent) r
   pub alone : (y : Place) → spotOf root path 0 ≡ some t → standOf root (path ++ 0 ∷ []) ≡ none → placeOf root path ≡ some y
       → lastPage (t .chain) ≡ y .page
+  pub parent : (k : ℕ) (n : Node) → spotOf root path k ≡ some t → named (shown root) path ≡ some n → t .parent ≡ n .head
 
 -- ── growth ──
 

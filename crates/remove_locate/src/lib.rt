@@ -2,12 +2,12 @@
 use grow_locate::seek_child;
 use model::Settings;
 ghost use mathlib.Core.Path.{_≡_};
-ghost use Prim.Native.Nat.{_+_, _%_};
-ghost use Rattle.model.specs.Limits.{mostPages, pageSize};
+ghost use Prim.Native.Nat.{_+_};
+ghost use Rattle.model.specs.Limits.{mostPages};
 ghost use Rattle.model.specs.Reading.{sizeAt};
 ghost use Rattle.theory_layout.specs.Widths.{Widths};
 ghost use Rattle.read_find.specs.Rowed.{Rowed};
-ghost use Rattle.grow_locate.specs.Seek.{seekOf};
+ghost use Rattle.grow_locate.specs.Seek.{seekSpan, childrenSpan};
 ghost use Rattle.remove_locate.specs.Leave.{standingAt};
 
 // Where a node stands that is to go: the page of the record that holds it, or its proxy if it is a record's root; the byte of the record where it stands, and
@@ -26,7 +26,7 @@ pub struct Standing {
 pub fn stand_of(image: &[u8], widths: &[u32; Settings::PAGES], parent: usize, k: usize) -> Standing
     requires { ⌜ Rowed (now image) (parent + 6) (parent + sizeAt (now image) parent) mostPages × Widths (now image) (now widths) ⌝ }
     ensures { λ r. ⌜ ((w : Rowed (now (image .entry)) (parent + 6) (parent + sizeAt (now (image .entry)) parent) mostPages)
-        → r ≡ standingAt (seekOf (parent + 6) (parent % pageSize) 0 (w .row) k)) ⌝ }
+        → r ≡ standingAt (seekSpan (childrenSpan (now (image .entry)) parent) (w .row) k)) ⌝ }
 {
     let l = seek_child(image, widths, parent, k);
     Standing {

@@ -21,14 +21,13 @@ use Rattle.theory_decoding.specs.Reading.{reads-valid}
 use Rattle.theory_places.specs.Widths.{Table, told-some}
 use Rattle.theory_row_bytes.specs.RowAt.{byte-on, row-split}
 use Rattle.theory_layout.specs.Here.{PageIn, Here, OnPage}
-use Rattle.theory_growth.specs.Chain.{before, lastSettled, chain-fits, beside, along}
+use Rattle.theory_growth.specs.Chain.{before, lastSettled, chain-fits, beside, along, offsetIn}
 use Rattle.theory_insert_point.specs.Bytes.{lastHeld, chain-page, chain-bytes, chain-fill}
 use Rattle.theory_growth.specs.Stand.{Onward}
 use Rattle.theory_removal.specs.Stand.{Leaves, stand-names, stand-once}
 use Rattle.theory_page_memory.specs.Links.{stored-parted}
 use Rattle.theory_page_memory.specs.Removing.{own-apart}
 use Rattle.grow_widths.specs.Raised.{Raising, hang-length, entryAnew, lowered, changed-long, changed-other}
-use Rattle.grow_locate.specs.Parent.{offsetIn}
 use Rattle.grow_splice.specs.Position.{isInside}
 use Rattle.remove_branch.specs.Branch.{Branch}
 use Rattle.remove_locate.specs.declared.Standing.{Standing}

@@ -21,7 +21,7 @@ use Rattle.theory_layout.specs.Here.{view}
 use Rattle.theory_layout.specs.Nodes.{ReadAt}
 use Rattle.read_find.specs.Rowed.{Rowed}
 use Rattle.read_find.specs.Entries.{fourAt, broken}
-use Rattle.grow_locate.specs.Seek.{seekOf}
+use Rattle.grow_locate.specs.Seek.{seekSpan, childrenSpan}
 use Rattle.grow_refusals.specs.Admit.{foundAt, FoundNode, find-number, found, not-literal, searched}
 use Rattle.remove_locate.specs.declared.Standing.{Standing}
 use Rattle.remove_locate.specs.Leave.{standingAt, standingOf, standing-found, standing-is}
@@ -109,14 +109,14 @@ module _ (img : List ℕ) (st : Config) (root : Row) (reads : Reads img st root)
         kids z = searched own-read z
 
         pub child-located : (r : Standing) (n : ℕ) → n ≡ k → (kindAt img pos ≡ 2 → ⊥)
-            → ((w : Rowed img (pos + 6) (pos + sizeAt img pos) mostPages) → r ≡ standingAt (seekOf (pos + 6) (pos % pageSize) 0 (w .row) n))
+            → ((w : Rowed img (pos + 6) (pos + sizeAt img pos) mostPages) → r ≡ standingAt (seekSpan (childrenSpan img pos) (w .row) n))
             → Locates root path r
         child-located r n i z sought =
             let v = own-read in
-            let e : (w : Rowed img (pos + 6) (pos + sizeAt img pos) mostPages) → r ≡ standingAt (seekOf (pos + 6) (pos % pageSize) 0 (w .row) k) =
-            λ w. sought w ∙ ap (λ (n : ℕ). standingAt (seekOf (pos + 6) (pos % pageSize) 0 (w .row) n)) i in
+            let e : (w : Rowed img (pos + 6) (pos + sizeAt img pos) mostPages) → r ≡ standingAt (seekSpan (childrenSpan img pos) (w .row) k) =
+            λ w. sought w ∙ ap (λ (n : ℕ). standingAt (seekSpan (childrenSpan img pos) (w .row) n)) i in
             let many : r .found ≡ ltb k (parent .node .children) =
-            standing-found r (pos + 6) (pos % pageSize) k (searched v z .row) (e (searched v z)) ∙ ap (ltb k) (sym (v .children-is)) in
+            standing-found r (childrenSpan img pos) k (searched v z .row) (e (searched v z)) ∙ ap (ltb k) (sym (v .children-is)) in
             record {
               found = many ∙ sym (ap not has-child ∙ rw (not-literal v z) (twice (ltb k (parent .node .children))));
               stands = λ y t s. standing-is (record {

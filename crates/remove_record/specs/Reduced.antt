@@ -18,11 +18,11 @@ use Rattle.theory_rows.specs.Image.{length-record}
 use Rattle.theory_decoding.specs.Valid.{names-own}
 use Rattle.theory_layout.specs.Here.{PageIn}
 use Rattle.theory_row_bytes.specs.RowAt.{FirstNode, first-node, RecordIs, kindOf, nameOf, row-bytes}
-use Rattle.theory_growth.specs.Chain.{size-fill, count-refill, nodes-some}
+use Rattle.theory_growth.specs.Chain.{size-fill, count-refill, nodes-some, offsetIn}
 use Rattle.theory_removal.specs.Keeps.{Proxy}
 use Rattle.grow_splice.specs.Position.{isInside}
 use Rattle.grow_splice.specs.Splice.{KeepsRoot, Splicing, many-keeps, take-out}
-use Rattle.grow_locate.specs.Parent.{offsetIn, holderIn, at-before}
+use Rattle.grow_locate.specs.Parent.{holderIn, at-before}
 use Rattle.grow_replace_proxy.specs.Lift.{page-used, page-part}
 use Rattle.remove_record.specs.declared.Remnant.{Remnant}
 use Rattle.remove_record.specs.declared.Sibling.{Sibling}

@@ -18,9 +18,9 @@ use Rattle.theory_rows.specs.Bound.{not-nil}
 use Rattle.theory_rows.specs.Shows.{nodeCount-some}
 use Rattle.theory_rows.specs.Keeps.{nodeCount-⊹}
 use Rattle.theory_row_bytes.specs.RowAt.{RowAt, FirstNode, first-node, row-split, RecordIs, RecordAt, record-row, record-first, sizeOf, restOf, size-first}
-use Rattle.theory_growth.specs.Chain.{before}
+use Rattle.theory_growth.specs.Chain.{before, offsetIn}
 use Rattle.grow_splice.specs.Position.{isInside, parent, lone-many, size-around, parent-in}
-use Rattle.grow_locate.specs.Parent.{offsetIn, holderIn}
+use Rattle.grow_locate.specs.Parent.{holderIn}
 use Rattle.remove_record.specs.declared.Sibling.{Sibling}
 
 -- ── rows of few nodes ──

@@ -3,17 +3,17 @@ use mathlib.Core.Path.{_≡_, refl, sym, ap, _∙_}
 use mathlib.Core.Logic.{_≢_}
 use mathlib.Core.Bool.{Bool, false, true≢false}
 use mathlib.Core.List.{List, [], _∷_}
-use mathlib.Core.Option.{Option, none, some, Option·map, Option·some-injective, Option·none-ne-some}
+use mathlib.Core.Option.{Option, none, some, Option·some-injective, Option·none-ne-some}
 use Prim.Native.Nat.{ℕ, zero, suc, _-_, _≤_}
 use native.Mathlib.Omega.{arith}
-use borrow.Author.Tests.{ltb-true, ltb-false, eqb-false}
+use borrow.Author.Tests.{ltb-false, eqb-false}
 use lib.Dec.{ltb}
 use Rattle.model.specs.Row.{Head, Row, nil, agg, lit, rec}
-use Rattle.model.specs.Tree.{_⊞_, shown, width, Node, branchNode, leafNode, below as lower, further, nodeAt, named, New}
+use Rattle.model.specs.Tree.{shown, width, Node, branchNode, leafNode, below as lower, further, nodeAt, named, New}
 use Rattle.model.specs.Common.{entries, namedIf, orEmpty, pathOf, isNone}
 use Rattle.model.specs.Calls.Insert.{isLiteral, childrenBelow}
 use Rattle.theory_rows.specs.Laws.{cond-case, breadth-shown}
-use Rattle.theory_places.specs.Order.{nodeAt-left, nodeAt-right}
+use Rattle.theory_places.specs.Order.{node-within, node-beyond}
 use Rattle.theory_places.specs.Named.{unmap}
 use Rattle.theory_calls.specs.Tests.{Accepted}
 use Rattle.model.specs.Spot.{Position, here, past, into, Chain, top, below, Stand, standIn, Spot, spotBeside, spotChild, spotIn, spotOf}
@@ -65,14 +65,12 @@ in-found k c s (suc i) path (lit h x rest) n e o =
 in-found k c s i path (rec q b r rest) n e o =
     cond-case HasSpot (ltb i (width r))
     (λ t. in-found k (below c s q b rest) (here nil) i path r n
-    (sym (nodeAt-left i path (shown r) (shown rest) (omega (arith, ltb-true i (width r) t, breadth-shown r))) ∙ e) o)
+    (sym (node-within i path r rest t) ∙ e) o)
     (λ t.
-    let right : nodeAt i path (shown r ⊞ shown rest) ≡ Option·map (further (width r)) (nodeAt (i - width r) path (shown rest)) =
-    rw (← breadth-shown r) (nodeAt-right i path (shown r) (shown rest) (omega (arith, ltb-false i (width r) t, breadth-shown r))) in
-    let (m, g, f) = unmap (further (width r)) (nodeAt (i - width r) path (shown rest)) n (sym right ∙ e) in
+    let (m, g, f) = unmap (further (width r)) (nodeAt (i - width r) path (shown rest)) n (sym (node-beyond i path r rest t) ∙ e) in
     in-found k c (past s (rec q b r nil)) (i - width r) path rest m g (open-same (further (width r)) k m n (λ n. refl) (λ n. refl) f o))
 
--- A place for what passes the tests of an insert.
+-- A spot for what passes the tests of an insert.
 pub spot-accepted : (root : Row) (path : List ℕ) (k : ℕ) (x : New) (full : Bool) → Accepted (shown root) path k x full
     → (t : Spot) × (spotOf root (pathOf path) k ≡ some t)
 spot-accepted root path k x full a = go (entries path) (a .named) (a .aggregate) (a .within)

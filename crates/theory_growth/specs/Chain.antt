@@ -4,7 +4,7 @@ use mathlib.Core.Bool.{Bool, true, false, cond, true≢false}
 use Prim.Native.Nat.{ℕ, suc, _+_, _≤_}
 use native.Mathlib.Omega.{arith}
 use lib.Dec.{eqb}
-use Rattle.model.specs.Row.{Head, Row, nil, agg, lit, rec, _⊹_, store, size, isNil, lone, nodeCount, count}
+use Rattle.model.specs.Row.{Head, Row, nil, agg, lit, rec, _⊹_, store, size, isNil, lone, nodeCount, base, count}
 use Rattle.model.specs.Spot.{Position, here, inside, fill, past, into, Chain, top, below, Spot, whole}
 use Rattle.theory_rows.specs.Laws.{⊹-assoc, size-⊹}
 use Rattle.theory_rows.specs.Fits.{Fits, RecordFits}
@@ -39,6 +39,26 @@ fill-past (inside left h rest s) more x = ap (λ r. left ⊹ agg h r rest) (fill
 pub fill-into : (s : Position) (h : Head) (rest x : Row) → fill (into s h rest) x ≡ fill s (agg h x rest)
 fill-into (here left) h rest x = refl
 fill-into (inside left g right s) h rest x = ap (λ r. left ⊹ agg g r right) (fill-into s h rest x)
+
+-- ── offsets in a record ──
+
+before-past : (s : Position) (more : Row) → before (past s more) ≡ before s + size more
+before-past (here left) more = size-⊹ left more
+before-past (inside left h rest s) more = omega (arith, before-past s more)
+
+before-into : (s : Position) (h : Head) (rest : Row) → before (into s h rest) ≡ before s + 6
+before-into (here left) h rest = omega arith
+before-into (inside left g right s) h rest = omega (arith, before-into s h rest)
+
+-- Of what fills a position of a record: its offset in the page.
+abbrev pub offsetIn : Position → (x : Row) → ℕ
+offsetIn s x = base (fill s x) + before s
+
+pub offset-past : (s : Position) (one rest : Row) (n : ℕ) → size one ≡ n → offsetIn s (one ⊹ rest) + n ≡ offsetIn (past s one) rest
+offset-past s one rest n e = omega (arith, ap base (fill-past s one rest), before-past s one)
+
+pub offset-into : (s : Position) (h : Head) (rest x : Row) → offsetIn s (agg h x rest) + 6 ≡ offsetIn (into s h rest) x
+offset-into s h rest x = omega (arith, ap base (fill-into s h rest x), before-into s h rest)
 
 -- ── rules of rows ──
 

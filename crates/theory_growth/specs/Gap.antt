@@ -1,21 +1,21 @@
 -- The spots of a gap: wherever of them the new node goes, the tree shown is the plain tree's insert. Step 1 gives one of them.
 use mathlib.Core.Path.{_≡_, refl, sym, ap, subst, _∙_}
-use mathlib.Core.Bool.{Bool, true, false, cond}
-use mathlib.Core.List.{List, [], _∷_, _++_}
+use mathlib.Core.Bool.{false}
+use mathlib.Core.List.{List, []}
 use mathlib.Core.Option.{Option, none, some, Option·some-injective, Option·none-ne-some}
-use Prim.Native.Nat.{ℕ, zero, suc, _+_, _-_, _<_, _≤_}
+use Prim.Native.Nat.{ℕ, zero, suc, _-_, _<_, _≤_}
 use native.Mathlib.Omega.{arith}
 use lib.Dec.{ltb}
-use Rattle.model.specs.Row.{Head, Row, nil, agg, lit, rec, _⊹_, nodeCount, lone, base}
-use Rattle.model.specs.Tree.{Tree, end, branch, leaf, _⊞_, shown, width, breadth, New, newNode, putAt, insertAt, placeAt}
-use Rattle.model.specs.declared.Place.{Place}
-use Rattle.model.specs.Spot.{lastPage, Position, here, inside, fill, past, into, Chain, top, below, whole, Stand, standIn}
+use Rattle.model.specs.Row.{Head, Row, nil, _⊹_, nodeCount, lone}
+use Rattle.model.specs.Tree.{Tree, end, branch, leaf, _⊞_, shown, breadth, New, newNode, putAt, insertAt}
+use Rattle.model.specs.Spot.{Position, here, inside, fill, past, into, Chain, top, whole, Stand, standIn}
 use Rattle.model.specs.Spot.{Spot, spotAfter, spotBefore, unused, spotBeside, spotFirst, spotChild, spotIn, spotOf}
-use Rattle.theory_rows.specs.Laws.{cond-case, ⊹-assoc, ⊞-assoc, shown-⊹, breadth-shown, within, beyond, newNode-⊞, insertAt-left, insertAt-right}
+use Rattle.theory_rows.specs.Laws.{cond-case, ⊹-assoc, ⊞-assoc, shown-⊹, breadth-shown, newNode-⊞}
 use Rattle.theory_rows.specs.Keeps.{nodeCount-⊹}
 use Rattle.theory_growth.specs.Chain.{wholeOf, fill-past, fill-into, two-nodes, lone-inside}
-use Rattle.theory_growth.specs.Shown.{around, above, around-past, around-record, around-into}
-use Rattle.theory_growth.specs.Stand.{Edit, editAt, Onward, onward-into, Stood, stood-in, stand-within, stand-below}
+use Rattle.theory_growth.specs.Shown.{around, above, around-past, around-into}
+use Rattle.theory_growth.specs.Stand.{Edit, editAt, Onward, onward-into, Stood, stood-in, stand-within}
+use Rattle.theory_growth.specs.Path.{spot-along, AtPath, at-path}
 
 -- A position in an aggregate, or in a record with a helper: never beside a record's only node.
 abbrev pub Steady : Position → (rest : Row) → Type 0
@@ -106,105 +106,28 @@ module _ (h : Head) (c : Chain) (s : Position) (i : ℕ) (row : Row) (n : Stand)
     steady = steady;
   }
 
--- ── the aggregate that a path names ──
-
--- From node i of a row, it stands at a position of the last record of a chain. The spot is that of child k, the children stand where the path and their number
--- say, and what is put among them is put in the row.
-pub record Among (k : ℕ) (c : Chain) (s : Position) (i : ℕ) (path : List ℕ) (row : Row) (t : Spot) : Type 0 where
-  pub chain : Chain
-  pub position : Position
-  pub head : Head
-  pub children : Row
-  pub rest : Row
-  pub spot : spotChild head chain (into position head rest) k children ≡ some t
-  pub stands : (j : ℕ) → standIn c s i (path ++ j ∷ []) row ≡ standIn chain (into position head rest) j [] children
-  pub held : whole chain (fill (into position head rest) children) ≡ whole c (fill s row)
-  pub shows : (x : New) → above chain (around (into position head rest) (putAt x k (shown children))) ≡ above c (around s (insertAt x k i path (shown row)))
-  pub page : (at : ℕ) (y : Place) → placeAt (lastPage c) at i path row ≡ some y → lastPage chain ≡ y .page
-
--- the same aggregate from another row
-among-same : {k : ℕ} {c c′ : Chain} {s s′ : Position} {i i′ : ℕ} {path path′ : List ℕ} {row row′ : Row} {t : Spot}
-    → ((j : ℕ) → standIn c′ s′ i′ (path′ ++ j ∷ []) row′ ≡ standIn c s i (path ++ j ∷ []) row) → whole c (fill s row) ≡ whole c′ (fill s′ row′)
-    → ((x : New) → above c (around s (insertAt x k i path (shown row))) ≡ above c′ (around s′ (insertAt x k i′ path′ (shown row′))))
-    → ((at : ℕ) (y : Place) → placeAt (lastPage c′) at i′ path′ row′ ≡ some y → (n : ℕ) × (placeAt (lastPage c) n i path row ≡ some y))
-    → Among k c s i path row t → Among k c′ s′ i′ path′ row′ t
-among-same a b d f w = record {
-  chain = w .chain;
-  position = w .position;
-  head = w .head;
-  children = w .children;
-  rest = w .rest;
-  spot = w .spot;
-  stands = λ j. a j ∙ w .stands j;
-  held = w .held ∙ b;
-  shows = λ x. w .shows x ∙ d x;
-  page = λ at y e. w .page (f at y e .0) y (f at y e .1);
-}
-
--- The spot of child k is among the children of the aggregate that the path names.
-pub among : (k : ℕ) (c : Chain) (s : Position) (i : ℕ) (path : List ℕ) (row : Row) (t : Spot) → spotIn k c s i path row ≡ some t → Among k c s i path row t
-unfolding spotIn standIn placeAt
-among k c s i path nil t e = absurd (Option·none-ne-some t e)
-among k c s zero [] (agg h cs rest) t e = record {
-  chain = c;
-  position = s;
-  head = h;
-  children = cs;
-  rest = rest;
-  spot = e;
-  stands = λ j. refl;
-  held = ap (whole c) (fill-into s h rest cs);
-  shows = λ x. ap (above c) (around-into s h rest (putAt x k (shown cs)));
-  page = λ at y e. ap (λ (y : Place). y .page) (Option·some-injective _ y e);
-}
-among k c s zero (j ∷ path) (agg h cs rest) t e =
-    among-same (λ n. refl) (ap (whole c) (fill-into s h rest cs)) (λ x. ap (above c) (around-into s h rest (insertAt x k j path (shown cs))))
-    (λ at y e. (_, e)) (among k c (into s h rest) j path cs t e)
-among k c s (suc i) path (agg h cs rest) t e =
-    let one : Row = agg h cs nil in
-    among-same (λ n. refl) (ap (whole c) (fill-past s one rest)) (λ x. ap (above c) (around-past s one (insertAt x k i path (shown rest))))
-    (λ at y e. (_, e)) (among k c (past s one) i path rest t e)
-among k c s zero path (lit h b rest) t e = absurd (Option·none-ne-some t e)
-among k c s (suc i) path (lit h b rest) t e =
-    let one : Row = lit h b nil in
-    among-same (λ n. refl) (ap (whole c) (fill-past s one rest)) (λ x. ap (above c) (around-past s one (insertAt x k i path (shown rest))))
-    (λ at y e. (_, e)) (among k c (past s one) i path rest t e)
-among k c s i path (rec q b r rest) t e =
-    let one : Row = rec q b r nil in
-    let step : (u : Bool) → ltb i (width r) ≡ u → (j : ℕ) → standIn c s i (path ++ j ∷ []) (rec q b r rest)
-    ≡ cond u (standIn (below c s q b rest) (here nil) i (path ++ j ∷ []) r) (standIn c (past s one) (i - width r) (path ++ j ∷ []) rest) =
-    λ u m j. rw (← m) (stand-below c s i path j q b r rest) in
-    cond-case (λ (p : Option Spot). p ≡ some t → Among k c s i path (rec q b r rest) t) (ltb i (width r))
-    (λ m e. among-same (step true m) refl
-    (λ x. ap (λ (u : Tree). above c (around s u)) (sym (insertAt-left x k i path (shown r) (shown rest) (within r i m)))) (λ at y g. (base r, rw m at g))
-    (among k (below c s q b rest) (here nil) i path r t e))
-    (λ m e. among-same (step false m) (ap (whole c) (fill-past s one rest))
-    (λ x. ap (above c) (around-record s q b r (insertAt x k (i - width r) path (shown rest))
-    ∙ ap (around s) (sym (rw (← breadth-shown r) (insertAt-right x k i path (shown r) (shown rest) (beyond r i m)))))) (λ at y g. (at + 8, rw m at g))
-    (among k c (past s one) (i - width r) path rest t e)) e
-
 -- ── step 1 ──
 
 -- The children `row` of an aggregate at position s of the last record of c.
 module _ (h : Head) (c : Chain) (s : Position) (rest row : Row) where
-  abbrev p : Position
-  p = into s h rest
+  abbrev inner : Position
+  inner = into s h rest
 
   -- The spot takes child k of them.
-  abbrev TakesChild : (k : ℕ) → Spot → Type 0
-  TakesChild k = Takes (whole c (fill p row)) (λ x. above c (around p (putAt x k (shown row))))
+  abbrev pub TakesChild : (k : ℕ) → Spot → Type 0
+  TakesChild k = Takes (whole c (fill inner row)) (λ x. above c (around inner (putAt x k (shown row))))
 
-  after-child : (i : ℕ) (n : Stand) → standIn c p i [] row ≡ some n → TakesChild (suc i) (spotAfter h n)
-  after-child i n e = after-takes h c p i row n e (onward-into s h rest row)
+  pub after-child : (i : ℕ) (n : Stand) → standIn c inner i [] row ≡ some n → TakesChild (suc i) (spotAfter h n)
+  after-child i n e = after-takes h c inner i row n e (onward-into s h rest row)
 
-  before-child : (i : ℕ) (n : Stand) → standIn c p i [] row ≡ some n → TakesChild i (spotBefore h n)
-  before-child i n e = before-takes h c p i row n e (onward-into s h rest row)
+  pub before-child : (i : ℕ) (n : Stand) → standIn c inner i [] row ≡ some n → TakesChild i (spotBefore h n)
+  before-child i n e = before-takes h c inner i row n e (onward-into s h rest row)
 
-  first-child : (o : Option Stand) → standIn c p 0 [] row ≡ o → TakesChild 0 (spotFirst (record { chain = c; position = p; rest = row; parent = h }) o)
+  first-child : (o : Option Stand) → standIn c inner 0 [] row ≡ o → TakesChild 0 (spotFirst (record { chain = c; position = inner; rest = row; parent = h }) o)
   first-child none e = record { held = refl; shows = λ x. refl; steady = steady-into s h rest row }
   first-child (some n) e = before-child 0 n e
 
-  later-child : (i : ℕ) (t : Spot) (l r : Option Stand) → standIn c p i [] row ≡ l → standIn c p (suc i) [] row ≡ r → spotBeside h l r ≡ some t
+  later-child : (i : ℕ) (t : Spot) (l r : Option Stand) → standIn c inner i [] row ≡ l → standIn c inner (suc i) [] row ≡ r → spotBeside h l r ≡ some t
       → TakesChild (suc i) t
   later-child i t none r a b e = absurd (Option·none-ne-some t e)
   later-child i t (some l) none a b e = subst (TakesChild (suc i)) (Option·some-injective _ t e) (after-child i l a)
@@ -212,15 +135,23 @@ module _ (h : Head) (c : Chain) (s : Position) (rest row : Row) where
       subst (TakesChild (suc i)) (Option·some-injective _ t e)
       (cond-case (TakesChild (suc i)) (ltb (unused (spotAfter h l)) (unused (spotBefore h r))) (λ _. before-child (suc i) r b) (λ _. after-child i l a))
 
-  child-takes : (k : ℕ) (t : Spot) → spotChild h c p k row ≡ some t → TakesChild k t
-  child-takes zero t e = subst (TakesChild 0) (Option·some-injective _ t e) (first-child (standIn c p 0 [] row) refl)
-  child-takes (suc i) t e = later-child i t (standIn c p i [] row) (standIn c p (suc i) [] row) refl refl e
+  child-takes : (k : ℕ) (t : Spot) → spotChild h c inner k row ≡ some t → TakesChild k t
+  child-takes zero t e = subst (TakesChild 0) (Option·some-injective _ t e) (first-child (standIn c inner 0 [] row) refl)
+  child-takes (suc i) t e = later-child i t (standIn c inner i [] row) (standIn c inner (suc i) [] row) refl refl e
+
+-- Of the aggregate that a path names: it is in the gap.
+pub child-gap : (root : Row) (path : List ℕ) (k : ℕ) (t : Spot) (w : AtPath top (here nil) 0 path root)
+    → TakesChild (w .head) (w .chain) (w .position) (w .rest) (w .children) k t → Gap root path k t
+child-gap root path k t w f =
+    takes-same t (ap (whole (w .chain)) (fill-into (w .position) (w .head) (w .rest) (w .children)) ∙ w .held)
+    (λ x. ap (above (w .chain)) (around-into (w .position) (w .head) (w .rest) (putAt x k (shown (w .children)))) ∙ w .shows k x) f
 
 -- The spot that step 1 gives is in the gap.
 pub spot-gap : (root : Row) (path : List ℕ) (k : ℕ) (t : Spot) → spotOf root path k ≡ some t → Gap root path k t
+unfolding spotIn
 spot-gap root path k t e =
-    let w = among k top (here nil) 0 path root t e in
-    takes-same t (w .held) (w .shows) (child-takes (w .head) (w .chain) (w .position) (w .rest) (w .children) k t (w .spot))
+    let w = at-path (spotIn k) (spot-along k) t top (here nil) 0 path root e in
+    child-gap root path k t w (child-takes (w .head) (w .chain) (w .position) (w .rest) (w .children) k t (sym (w .along Spot (spotIn k) (spot-along k)) ∙ e))
 
 -- The root record is what stands around the spot, with the row that follows it.
 pub spot-whole : (root : Row) (path : List ℕ) (k : ℕ) (t : Spot) → spotOf root path k ≡ some t → wholeOf t ≡ root

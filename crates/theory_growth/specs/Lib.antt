@@ -5,6 +5,7 @@ pub mod Pages
 pub mod Full
 pub mod Keeps
 pub mod Stand
+pub mod Path
 pub mod Gap
 pub mod Store
 pub mod Choice

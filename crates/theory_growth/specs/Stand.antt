@@ -34,7 +34,7 @@ editAt e (suc i) path (leaf h c rest) = leaf h c (editAt e i path rest)
 
 module _ (e : Edit) where
   -- in a row that is two rows joined
-  pub editAt-left : (i : ℕ) (path : List ℕ) (a b : Tree) → i < breadth a → editAt e i path (a ⊞ b) ≡ editAt e i path a ⊞ b
+  editAt-left : (i : ℕ) (path : List ℕ) (a b : Tree) → i < breadth a → editAt e i path (a ⊞ b) ≡ editAt e i path a ⊞ b
   editAt-left i path end b h = absurd (omega arith)
   editAt-left zero [] (branch l cs rest) b h = sym (e .local (branch l cs end) rest b)
   editAt-left zero (j ∷ path) (branch l cs rest) b h = refl
@@ -43,7 +43,7 @@ module _ (e : Edit) where
   editAt-left zero (j ∷ path) (leaf l c rest) b h = refl
   editAt-left (suc i) path (leaf l c rest) b h = ap (leaf l c) (editAt-left i path rest b (omega arith))
 
-  pub editAt-right : (i : ℕ) (path : List ℕ) (a b : Tree) → breadth a ≤ i → editAt e i path (a ⊞ b) ≡ a ⊞ editAt e (i - breadth a) path b
+  editAt-right : (i : ℕ) (path : List ℕ) (a b : Tree) → breadth a ≤ i → editAt e i path (a ⊞ b) ≡ a ⊞ editAt e (i - breadth a) path b
   editAt-right i path end b h = rw sub-zero
   editAt-right zero path (branch l cs rest) b h = absurd (omega arith)
   editAt-right (suc i) path (branch l cs rest) b h = rw suc-sub-suc (ap (branch l cs) (editAt-right i path rest b (omega arith)))
@@ -51,7 +51,7 @@ module _ (e : Edit) where
   editAt-right (suc i) path (leaf l c rest) b h = rw suc-sub-suc (ap (leaf l c) (editAt-right i path rest b (omega arith)))
 
   -- The root of a record is all that the record shows.
-  pub editAt-lone : (i : ℕ) (r : Row) (t : Tree) → lone r ≡ true → i < width r → editAt e i [] (shown r ⊞ t) ≡ e .makes (shown r) t
+  editAt-lone : (i : ℕ) (r : Row) (t : Tree) → lone r ≡ true → i < width r → editAt e i [] (shown r ⊞ t) ≡ e .makes (shown r) t
   editAt-lone i nil t l h = absurd (false≢true l)
   editAt-lone zero (agg h cs rest) t l _ = rw (isNil-nil rest l)
   editAt-lone (suc i) (agg h cs rest) t l k = absurd (omega (arith, ap width (isNil-nil rest l)))

@@ -1,14 +1,15 @@
 -- Document order: rows joined, and the places of a row's nodes, node by node.
 use mathlib.Core.Path.{_≡_, refl, sym, ap, ap₂, _∙_}
-use mathlib.Core.Bool.{true, false≢true}
+use mathlib.Core.Bool.{true, false, false≢true}
 use mathlib.Core.List.{List, [], _∷_, _++_, map, map-append, append-assoc}
 use mathlib.Core.Option.{Option, none, some, Option·map}
 use Prim.Native.Nat.{ℕ, zero, suc, _+_, _-_, _≤_, _<_}
 use native.Mathlib.Omega.{arith}
 use native.Mathlib.Numerals.{one-add}
 use native.Mathlib.Nat.{sub-zero, suc-sub-suc, zero-add}
-use borrow.Author.Tests.{lt-ltb, le-ltb}
+use borrow.Author.Tests.{lt-ltb, le-ltb, ltb-true, ltb-false}
 use lib.ListN.{length}
+use lib.Dec.{ltb}
 use Rattle.model.specs.Row.{Row, nil, agg, lit, rec, size, base, lone, Config}
 use Rattle.model.specs.Tree.{Tree, end, branch, leaf, _⊞_, shown, breadth, width, Node, below, further, nodes, nodeAt, places, placeAt, placeOf}
 use Rattle.model.specs.declared.Place.{Place}
@@ -63,6 +64,15 @@ nodeAt-right zero path (branch l cs rest) b h = absurd (omega arith)
 nodeAt-right (suc i) path (branch l cs rest) b h = rw (suc-sub-suc, nodeAt-right i path rest b (omega arith), option-further-suc)
 nodeAt-right zero path (leaf l c rest) b h = absurd (omega arith)
 nodeAt-right (suc i) path (leaf l c rest) b h = rw (suc-sub-suc, nodeAt-right i path rest b (omega arith), option-further-suc)
+
+-- In a record that shows node i, and behind one that does not.
+pub node-within : (i : ℕ) (path : List ℕ) (r rest : Row) → ltb i (width r) ≡ true → nodeAt i path (shown r ⊞ shown rest) ≡ nodeAt i path (shown r)
+node-within i path r rest m = nodeAt-left i path (shown r) (shown rest) (omega (arith, ltb-true i (width r) m, breadth-shown r))
+
+pub node-beyond : (i : ℕ) (path : List ℕ) (r rest : Row) → ltb i (width r) ≡ false
+    → nodeAt i path (shown r ⊞ shown rest) ≡ Option·map (further (width r)) (nodeAt (i - width r) path (shown rest))
+node-beyond i path r rest m =
+    rw (← breadth-shown r) (nodeAt-right i path (shown r) (shown rest) (omega (arith, ltb-false i (width r) m, breadth-shown r)))
 
 -- ── places in document order ──
 

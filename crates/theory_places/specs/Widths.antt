@@ -8,7 +8,7 @@ use lib.ListN.{length, getD}
 use lib.Dec.{leb, eqb}
 use borrow.Author.Tests.{eqb-true, leb-true, leb-false}
 use Rattle.model.specs.Limits.{mostPages}
-use Rattle.model.specs.Row.{Row, nil, agg, lit, rec, store, _⊹_, count, Config}
+use Rattle.model.specs.Row.{Row, nil, agg, lit, rec, store, _⊹_, count, Config, size}
 use Rattle.model.specs.Tree.{width}
 use Rattle.theory_rows.specs.Fits.{Fits, RecordFits}
 use Rattle.theory_rows.specs.Shows.{shape-nodeCount, nodes-shown}
@@ -53,6 +53,12 @@ told-parts u (rec p s r rest) b t = let k = told-parts u rest b (t .2) in ((t .0
 -- Each node of a row shows one node or more, and so does a record,
 pub record-shown : (s : Bool) (r : Row) → RecordFits s r → Fits r → 1 ≤ width r
 record-shown s r f g = omega (arith, shape-nodeCount (f .shape), nodes-shown r g)
+
+pub some-shown : (row : Row) → Fits row → 0 < size row → 1 ≤ width row
+some-shown nil f h = absurd (omega arith)
+some-shown (agg l cs rest) f h = omega arith
+some-shown (lit l c rest) f h = omega arith
+some-shown (rec p s r rest) f h = omega (arith, record-shown s r (f .0) (f .1))
 
 -- What is counted in two parts is in one of them.
 pub either : {A : Type 0} (x y : ℕ) → 1 ≤ x + y → (1 ≤ x → A) → (1 ≤ y → A) → A

@@ -5,13 +5,12 @@ use mathlib.Core.List.{List, [], _∷_}
 use mathlib.Core.Option.{Option, some, Option·map, Option·none-ne-some}
 use Prim.Native.Nat.{ℕ, zero, suc, _-_, _<_}
 use native.Mathlib.Omega.{arith}
-use borrow.Author.Tests.{ltb-true, ltb-false}
 use lib.Dec.{ltb}
 use Rattle.model.specs.Row.{Row, nil, agg, lit, rec, lone}
-use Rattle.model.specs.Tree.{Tree, end, branch, leaf, _⊞_, shown, width, breadth, Node, below as lower, further, nodeAt, named}
+use Rattle.model.specs.Tree.{Tree, end, branch, leaf, shown, width, breadth, Node, below as lower, further, nodeAt, named}
 use Rattle.model.specs.Spot.{Position, here, past, into, Chain, top, below, Stand, isEmpty, standIn, standOf}
 use Rattle.theory_rows.specs.Laws.{cond-case, breadth-shown}
-use Rattle.theory_places.specs.Order.{nodeAt-left, nodeAt-right}
+use Rattle.theory_places.specs.Order.{node-within, node-beyond}
 use Rattle.theory_places.specs.Named.{unmap}
 
 abbrev pub HasStand : Option Stand → Type 0
@@ -35,11 +34,9 @@ in-found c s (suc i) path (lit h x rest) n e =
 in-found c s i path (rec q b r rest) n e =
     cond-case HasStand (ltb i (width r))
     (λ t. cond-case HasStand (lone r && isEmpty path) (λ _. (_, refl)) (λ _. in-found (below c s q b rest) (here nil) i path r n
-    (sym (nodeAt-left i path (shown r) (shown rest) (omega (arith, ltb-true i (width r) t, breadth-shown r))) ∙ e)))
+    (sym (node-within i path r rest t) ∙ e)))
     (λ t.
-    let right : nodeAt i path (shown r ⊞ shown rest) ≡ Option·map (further (width r)) (nodeAt (i - width r) path (shown rest)) =
-    rw (← breadth-shown r) (nodeAt-right i path (shown r) (shown rest) (omega (arith, ltb-false i (width r) t, breadth-shown r))) in
-    let (m, g, f) = unmap (further (width r)) (nodeAt (i - width r) path (shown rest)) n (sym right ∙ e) in
+    let (m, g, f) = unmap (further (width r)) (nodeAt (i - width r) path (shown rest)) n (sym (node-beyond i path r rest t) ∙ e) in
     in-found c (past s (rec q b r nil)) (i - width r) path rest m g)
 
 pub stand-found : (root : Row) (path : List ℕ) (n : Node) → named (shown root) path ≡ some n → HasStand (standOf root path)
