@@ -32,7 +32,7 @@ static int row(const char *name, const char *where, const uint8_t *image, uint8_
             return 1;
         }
     }
-    printf("%-14s %-6s %7u %10.1f %10.1f %13.2f\n", name, where, splits, 1e6 * median(check), 1e6 * median(insert), median(ratio));
+    printf("%-14s %-10s %7u %10.1f %10.1f %13.2f\n", name, where, splits, 1e6 * median(check), 1e6 * median(insert), median(ratio));
     return 0;
 }
 
@@ -41,13 +41,18 @@ int main(void) {
     uint8_t *image = malloc(LEN), *copy = malloc(LEN);
     int bad = 0;
     if (!image || !copy) return 2;
-    puts("microseconds   at      splits      check     insert  insert/check");
+    puts("microseconds   at          splits      check     insert  insert/check");
     for (size_t f = 0; f < sizeof fills / sizeof *fills; f++)
-        for (int last = 0; last < 2; last++)
+        for (int last = 0; last < 2; last++) {
+            uint32_t child;
             for (size_t s = 0; s < 3; s++) {
-                uint32_t child = make_nested(image, LEN / 4096, 16, splits[s], last, fills[f].fill);
+                child = make_nested(image, LEN / 4096, 16, splits[s], last, fills[f].fill);
                 bad |= row(fills[f].name, last ? "end" : "front", image, copy, child, splits[s]);
             }
+            /* where the two nodes of the nested record end or begin: the siblings stand in two records */
+            child = make_nested(image, LEN / 4096, 16, 0, last, fills[f].fill);
+            bad |= row(fills[f].name, last ? "end seam" : "front seam", image, copy, last ? child - 1 : child + 1, 0);
+        }
     free(image);
     free(copy);
     return bad;
