@@ -18,8 +18,12 @@ use Rattle.theory_growth.specs.Chain.{fill-past, fill-into, offsetIn, of
 use Rattle.theory_growth.specs.Shown.{around, above, around-past, around-record, around-into}
 use Rattle.theory_growth.specs.Stand.{stand-below}
 
+-- From node i of a row that goes on at a position of the last record of a chain.
+abbrev pub Search : Type 0 → Type 0
+Search A = Chain → Position → (i : ℕ) → (path : List ℕ) → Row → Option A
+
 -- A search along a path goes from node to node as the tree shows them, and finds nothing behind the last node or at a literal.
-pub record AlongPath {A : Type 0} (f : Chain → Position → (i : ℕ) → (path : List ℕ) → Row → Option A) : Type 0 where
+pub record AlongPath {A : Type 0} (f : Search A) : Type 0 where
   pub at-nil : (c : Chain) (s : Position) (i : ℕ) (path : List ℕ) → f c s i path nil ≡ none
   pub at-lit : (c : Chain) (s : Position) (path : List ℕ) (h : Head) (x : List ℕ) (rest : Row) → f c s 0 path (lit h x rest) ≡ none
   pub down : (c : Chain) (s : Position) (j : ℕ) (path : List ℕ) (h : Head) (cs rest : Row) → f c s 0 (j ∷ path) (agg h cs rest) ≡ f c (into s h rest) j path cs
@@ -42,7 +46,7 @@ spot-along k = record {
   at-rec = λ c s i path q b r rest. refl;
 }
 
-abbrev pub standBelow : (k : ℕ) → Chain → Position → (i : ℕ) → (path : List ℕ) → Row → Option Stand
+abbrev pub standBelow : (k : ℕ) → Search Stand
 standBelow k c s i path row = standIn c s i (path ++ k ∷ []) row
 
 none-below : (c : Chain) (s : Position) (path : List ℕ) (k : ℕ) (h : Head) (x : List ℕ) (rest : Row) → standBelow k c s 0 path (lit h x rest) ≡ none
@@ -70,7 +74,7 @@ pub record AtPath (c : Chain) (s : Position) (i : ℕ) (path : List ℕ) (row : 
   pub children : Row
   pub rest : Row
   pub held : whole chain (fill position (agg head children rest)) ≡ whole c (fill s row)
-  pub along : (A : Type 0) (f : Chain → Position → (i : ℕ) → (path : List ℕ) → Row → Option A) → AlongPath f
+  pub along : (A : Type 0) (f : Search A) → AlongPath f
       → f c s i path row ≡ f chain position 0 [] (agg head children rest)
   pub shows : (k : ℕ) (x : New) → above chain (around position (branch head (putAt x k (shown children)) (shown rest)))
       ≡ above c (around s (insertAt x k i path (shown row)))
@@ -80,7 +84,7 @@ pub record AtPath (c : Chain) (s : Position) (i : ℕ) (path : List ℕ) (row : 
 
 -- the same aggregate from another row
 at-same : {c c′ : Chain} {s s′ : Position} {i i′ : ℕ} {path path′ : List ℕ} {row row′ : Row} → whole c (fill s row) ≡ whole c′ (fill s′ row′)
-    → ((A : Type 0) (f : Chain → Position → (i : ℕ) → (path : List ℕ) → Row → Option A) → AlongPath f → f c′ s′ i′ path′ row′ ≡ f c s i path row)
+    → ((A : Type 0) (f : Search A) → AlongPath f → f c′ s′ i′ path′ row′ ≡ f c s i path row)
     → ((k : ℕ) (x : New) → above c (around s (insertAt x k i path (shown row))) ≡ above c′ (around s′ (insertAt x k i′ path′ (shown row′))))
     → ((y : Place) (at : ℕ) → placeAt (lastPage c′) at i′ path′ row′ ≡ some y
     → (n : ℕ) × (placeAt (lastPage c) n i path row ≡ some y) × (at ≡ offsetIn s′ row′ → n ≡ offsetIn s row))
@@ -108,7 +112,7 @@ by-test : {A : Type 0} (P : A → Type 1) (u : Bool) {x y : A} → (u ≡ true �
 by-test P true f g = f refl
 by-test P false f g = g refl
 
-module _ {A : Type 0} (f : Chain → Position → (i : ℕ) → (path : List ℕ) → Row → Option A) (d : AlongPath f) (t : A) where
+module _ {A : Type 0} (f : Search A) (d : AlongPath f) (t : A) where
   -- What such a search finds, it finds from the aggregate that the path names.
   pub at-path : (c : Chain) (s : Position) (i : ℕ) (path : List ℕ) (row : Row) → f c s i path row ≡ some t → AtPath c s i path row
   unfolding placeAt
