@@ -13,7 +13,7 @@ use Rattle.model.specs.Reading.{Reads, usedAt}
 use Rattle.model.specs.Spot.{Position, fill, into, Chain, lastPage, Spot, whole, Stand, standIn}
 use Rattle.model.specs.Spot.{spotAfter, spotBefore, unused, spotBeside, spotFirst, spotChild}
 use Rattle.theory_growth.specs.Chain.{both, fill-past}
-use Rattle.theory_growth.specs.Stand.{onward-into, rootOf, stood-in}
+use Rattle.theory_growth.specs.Stand.{not-alone-into, rootOf, stood-in}
 use Rattle.theory_insert_point.specs.Bytes.{chain-page, chain-fill}
 use Rattle.grow_locate.specs.declared.Located.{Located}
 use Rattle.grow_locate.specs.declared.Span.{Span}
@@ -77,6 +77,6 @@ module _ {img : List ℕ} {st : Config} {root : Row} (reads : Reads img st root)
       (stand-hits c (into s h rest) 0 row g) g (Option·some-injective _ t e)
   child-sights h c s rest (suc i) row t span w g e =
       let held : (j : ℕ) (n : Stand) → standIn c (into s h rest) j [] row ≡ some n → rootOf n ≡ root =
-      λ j n f. stood-in n c (into s h rest) j [] row f (onward-into s h rest row) .held ∙ w in
+      λ j n f. stood-in n c (into s h rest) j [] row f (not-alone-into s h rest row) .held ∙ w in
       beside-sights h (seekSpan span row i) (seekSpan span row (suc i)) (standIn c (into s h rest) i [] row) (standIn c (into s h rest) (suc i) [] row) t
       (stand-hits c (into s h rest) i row g) (stand-hits c (into s h rest) (suc i) row g) (held i) (held (suc i)) e

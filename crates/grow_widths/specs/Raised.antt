@@ -19,7 +19,7 @@ use Rattle.theory_rows.specs.Shows.{nodes-shown}
 use Rattle.theory_rows.specs.Population.{population, width-population}
 use Rattle.theory_growth.specs.Chain.{chain-fits, proxy-beside, along, hang}
 use Rattle.theory_growth.specs.Told.{ToldAlong, along-own, along-same, along-width, population-whole}
-use Rattle.theory_growth.specs.Stand.{Onward}
+use Rattle.theory_growth.specs.Stand.{NotAlone}
 use Rattle.theory_layout.specs.Here.{OnPage}
 use Rattle.theory_insert_point.specs.Bytes.{chain-page}
 use Rattle.theory_insert_point.specs.Nesting.{chainLength}
@@ -139,11 +139,11 @@ two-shown r (one e) f l = absurd (true≢false (sym e ∙ l))
 two-shown r (more _ h) f l = omega (arith, nodes-shown r f)
 
 -- A proxy stands in an aggregate or in a record with a helper.
-onward-proxy : (s : Position) (q : ℕ) (b : Bool) (r rest : Row) → Onward s (rec q b r rest)
-onward-proxy (here left) q b r rest = proxy-beside left q b r rest
-onward-proxy (inside left h right s) q b r rest = tt
+not-alone-proxy : (s : Position) (q : ℕ) (b : Bool) (r rest : Row) → NotAlone s (rec q b r rest)
+not-alone-proxy (here left) q b r rest = proxy-beside left q b r rest
+not-alone-proxy (inside left h right s) q b r rest = tt
 
-lowered-recounted : (c : Chain) (s : Position) (old new : Row) → width old ≡ width new + 1 → Fits (store (whole c (fill s old))) → Onward s old
+lowered-recounted : (c : Chain) (s : Position) (old new : Row) → width old ≡ width new + 1 → Fits (store (whole c (fill s old))) → NotAlone s old
     → Recounted (entryAnew false) c s old new
 lowered-recounted top s old new e fit on = tt
 lowered-recounted (below c s q b rest) (inside left h right i) old new e fit on = tt
@@ -153,11 +153,11 @@ lowered-recounted (below c s q b rest) (here left) old new e fit on =
     let z = width-⊹ left new in
     let g = chain-fits (below c s q b rest) x fit in (
       omega (arith, two-shown x (g .0 .shape) (g .1) on),
-      lowered-recounted c s (rec q b x rest) (rec q b (left ⊹ new) rest) (omega arith) fit (onward-proxy s q b x rest),
+      lowered-recounted c s (rec q b x rest) (rec q b (left ⊹ new) rest) (omega arith) fit (not-alone-proxy s q b x rest),
     )
 
 -- A table that is right on the chain's pages is right on them with one node less at the position, unless it is a record's only node.
-pub lowered-along : (c : Chain) (s : Position) (old new : Row) (u : List ℕ) → width old ≡ width new + 1 → Fits (store (whole c (fill s old))) → Onward s old
+pub lowered-along : (c : Chain) (s : Position) (old new : Row) (u : List ℕ) → width old ≡ width new + 1 → Fits (store (whole c (fill s old))) → NotAlone s old
     → ((q : ℕ) → along c q ≤ 1) → ((q : ℕ) → 1 ≤ along c q → q < length u) → ToldAlong u c (fill s old) → ToldAlong (lowered (hang c s) c u) c (fill s new)
 lowered-along c s old new u e fit on = changed-along (entryAnew false) c s old new u (lowered-recounted c s old new e fit on)
 

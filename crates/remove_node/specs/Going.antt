@@ -23,7 +23,7 @@ use Rattle.theory_row_bytes.specs.RowAt.{byte-on, row-split}
 use Rattle.theory_layout.specs.Here.{PageIn, Here, OnPage}
 use Rattle.theory_growth.specs.Chain.{before, lastSettled, chain-fits, beside, along, offsetIn}
 use Rattle.theory_insert_point.specs.Bytes.{lastHeld, chain-page, chain-bytes, chain-fill}
-use Rattle.theory_growth.specs.Stand.{Onward}
+use Rattle.theory_growth.specs.Stand.{NotAlone}
 use Rattle.theory_removal.specs.Stand.{Leaves, stand-names, stand-once}
 use Rattle.theory_page_memory.specs.Links.{stored-parted}
 use Rattle.theory_page_memory.specs.Removing.{own-apart}
@@ -142,13 +142,13 @@ module _ {img u : List ℕ} {s : Standing} (w : Going img u s) where
 
   -- A node at the top of a row has another beside it.
   pub has-sibling : isInside (w .t .position) ≡ false → 2 ≤ nodeCount old
-  has-sibling e = go (w .t .position) (w .leaves .onward) e (chain-fits c old (subst (λ (r : Row). Fits (store r)) (sym (w .leaves .held)) (v .rows)) .0 .shape)
+  has-sibling e = go (w .t .position) (w .leaves .not-alone) e (chain-fits c old (subst (λ (r : Row). Fits (store r)) (sym (w .leaves .held)) (v .rows)) .0 .shape)
     where
       two : {b : Bool} (r : Row) → Shape b r → lone r ≡ false → 2 ≤ nodeCount r
       two r (one e) f = absurd (true≢false (sym e ∙ f))
       two r (more _ h) f = h
 
-      go : (p : Position) → Onward p row → isInside p ≡ false → Shape (lastSettled c) (fill p row) → 2 ≤ nodeCount (fill p row)
+      go : (p : Position) → NotAlone p row → isInside p ≡ false → Shape (lastSettled c) (fill p row) → 2 ≤ nodeCount (fill p row)
       go (here left) o e f = two (left ⊹ row) f o
       go (inside left h right p) o e f = absurd (true≢false e)
 

@@ -67,7 +67,7 @@ module _ {img u : List ℕ} {s : Standing} (w : Going img u s) where
   less-shows =
       subst (λ (n : ℕ). ToldAlong (lowered n (c w) u) (c w) left) (sym (ap (λ (s : Standing). s .deep) (w .found)))
       (lowered-along (c w) (t .position) (row w) (t .rest) u (omega (arith, width-⊹ (t .node) (t .rest), w .leaves .wide))
-      (subst (λ (r : Row). Fits (store r)) (sym (w .leaves .held)) (v w .rows)) (w .leaves .onward) (λ q. omega (arith, one-time w q)) inside
+      (subst (λ (r : Row). Fits (store r)) (sym (w .leaves .held)) (v w .rows)) (w .leaves .not-alone) (λ q. omega (arith, one-time w q)) inside
       (told-along u (c w) (old w) (subst (Told u) (sym (w .leaves .held)) (w .table .told))))
 
   none-first : count 0 (t .node) ≡ 0
@@ -83,7 +83,7 @@ module _ {img u : List ℕ} {s : Standing} (w : Going img u s) where
   left-record-fits : loneRec left ≡ false → recordSize left ≤ capacity
   left-record-fits z =
       let g = chain-fits (c w) (old w) (subst (λ (r : Row). Fits (store r)) (sym (w .leaves .held)) (v w .rows)) .0 in
-      keeps.record-left (t .position) (t .node) (t .rest) (w .leaves .onward) (w .leaves .one) (lastSettled (c w)) g z .fits
+      keeps.record-left (t .position) (t .node) (t .rest) (w .leaves .not-alone) (w .leaves .one) (lastSettled (c w)) g z .fits
 
   -- A record is left, not one proxy.
   record-left : (r : Remnant) (was is : List ℕ) → Reduced (removing w) r was is → r .child ≡ 0 → loneRec left ≡ false

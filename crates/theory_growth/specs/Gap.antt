@@ -14,7 +14,7 @@ use Rattle.theory_rows.specs.Laws.{cond-case, ⊹-assoc, ⊞-assoc, shown-⊹, 
 use Rattle.theory_rows.specs.Keeps.{nodeCount-⊹}
 use Rattle.theory_growth.specs.Chain.{wholeOf, fill-past, fill-into, two-nodes, lone-inside}
 use Rattle.theory_growth.specs.Shown.{around, above, around-past, around-into}
-use Rattle.theory_growth.specs.Stand.{Edit, editAt, Onward, onward-into, Stood, stood-in, stand-within}
+use Rattle.theory_growth.specs.Stand.{Edit, editAt, NotAlone, not-alone-into, Stood, stood-in, stand-within}
 use Rattle.theory_growth.specs.Path.{spot-along, AtPath, at-path}
 
 -- A position in an aggregate, or in a record with a helper: never beside a record's only node.
@@ -38,7 +38,7 @@ steady-lone (here left) x y e o = two-nodes (left ⊹ y) (omega (arith, nodeCoun
 steady-lone (inside left h right s) x y e o = lone-inside left h right (fill s y) (fill s x)
 
 -- the same said of the root record in other words
-pub takes-same : {root root′ : Row} {new new′ : New → Tree} (t : Spot) → root ≡ root′ → ((x : New) → new x ≡ new′ x) → Takes root new t → Takes root′ new′ t
+takes-same : {root root′ : Row} {new new′ : New → Tree} (t : Spot) → root ≡ root′ → ((x : New) → new x ≡ new′ x) → Takes root new t → Takes root′ new′ t
 takes-same t a b f = record { held = f .held ∙ a; shows = λ x. f .shows x ∙ b x; steady = f .steady }
 
 -- ── beside a node ──
@@ -70,7 +70,7 @@ put-before x (suc i) (branch h cs rest) k = ap (branch h cs) (put-before x i res
 put-before x zero (leaf h c rest) k = refl
 put-before x (suc i) (leaf h c rest) k = ap (leaf h c) (put-before x i rest (omega arith))
 
-steady-at : (s : Position) (one rest : Row) → nodeCount one ≡ 1 → Onward s (one ⊹ rest) → Steady s (one ⊹ rest)
+steady-at : (s : Position) (one rest : Row) → nodeCount one ≡ 1 → NotAlone s (one ⊹ rest) → Steady s (one ⊹ rest)
 steady-at (here left) one rest e o = (omega (arith, nodeCount-⊹ left (one ⊹ rest), nodeCount-⊹ one rest), o)
 steady-at (inside left h right s) one rest e o = tt
 
@@ -83,14 +83,14 @@ steady-into (here left) h rest row = tt
 steady-into (inside left g right s) h rest row = tt
 
 -- The two spots beside node i of a row that goes on at position s of the last record of c.
-module _ (h : Head) (c : Chain) (s : Position) (i : ℕ) (row : Row) (n : Stand) (e : standIn c s i [] row ≡ some n) (o : Onward s row) where
+module _ (h : Head) (c : Chain) (s : Position) (i : ℕ) (row : Row) (n : Stand) (e : standIn c s i [] row ≡ some n) (o : NotAlone s row) where
   abbrev node : Stood (whole c (fill s row)) (λ e. above c (around s (editAt e i [] (shown row)))) n
   node = stood-in n c s i [] row e o
 
   steady : Steady (n .position) (n .node ⊹ n .rest)
-  steady = steady-at (n .position) (n .node) (n .rest) (node .one) (node .onward)
+  steady = steady-at (n .position) (n .node) (n .rest) (node .one) (node .not-alone)
 
-  pub after-takes : Takes (whole c (fill s row)) (λ x. above c (around s (putAt x (suc i) (shown row)))) (spotAfter h n)
+  after-takes : Takes (whole c (fill s row)) (λ x. above c (around s (putAt x (suc i) (shown row)))) (spotAfter h n)
   after-takes = record {
     held = ap (whole (n .chain)) (fill-past (n .position) (n .node) (n .rest)) ∙ node .held;
     shows = λ x. ap (above (n .chain)) (around-past (n .position) (n .node) (newNode x (shown (n .rest)))) ∙ node .shows (putAfter x)
@@ -98,7 +98,7 @@ module _ (h : Head) (c : Chain) (s : Position) (i : ℕ) (row : Row) (n : Stand)
     steady = steady-past (n .position) (n .node) (n .rest) steady;
   }
 
-  pub before-takes : Takes (whole c (fill s row)) (λ x. above c (around s (putAt x i (shown row)))) (spotBefore h n)
+  before-takes : Takes (whole c (fill s row)) (λ x. above c (around s (putAt x i (shown row)))) (spotBefore h n)
   before-takes = record {
     held = node .held;
     shows = λ x. ap (λ (u : Tree). above (n .chain) (around (n .position) (newNode x u))) (shown-⊹ (n .node) (n .rest)) ∙ node .shows (putBefore x)
@@ -118,10 +118,10 @@ module _ (h : Head) (c : Chain) (s : Position) (rest row : Row) where
   TakesChild k = Takes (whole c (fill inner row)) (λ x. above c (around inner (putAt x k (shown row))))
 
   pub after-child : (i : ℕ) (n : Stand) → standIn c inner i [] row ≡ some n → TakesChild (suc i) (spotAfter h n)
-  after-child i n e = after-takes h c inner i row n e (onward-into s h rest row)
+  after-child i n e = after-takes h c inner i row n e (not-alone-into s h rest row)
 
   pub before-child : (i : ℕ) (n : Stand) → standIn c inner i [] row ≡ some n → TakesChild i (spotBefore h n)
-  before-child i n e = before-takes h c inner i row n e (onward-into s h rest row)
+  before-child i n e = before-takes h c inner i row n e (not-alone-into s h rest row)
 
   first-child : (o : Option Stand) → standIn c inner 0 [] row ≡ o → TakesChild 0 (spotFirst (record { chain = c; position = inner; rest = row; parent = h }) o)
   first-child none e = record { held = refl; shows = λ x. refl; steady = steady-into s h rest row }

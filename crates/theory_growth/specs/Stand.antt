@@ -61,14 +61,14 @@ module _ (e : Edit) where
 
 -- ── a stand ──
 
--- The row goes on at the position, in an aggregate or in a record with a helper.
-abbrev pub Onward : Position → Row → Type 0
-Onward (here left) row = lone (left ⊹ row) ≡ false
-Onward (inside left h rest s) row = Unit {0}
+-- The row that goes on at the position is no record's only node: it is in an aggregate or in a record with a helper.
+abbrev pub NotAlone : Position → Row → Type 0
+NotAlone (here left) row = lone (left ⊹ row) ≡ false
+NotAlone (inside left h rest s) row = Unit {0}
 
-pub onward-into : (s : Position) (h : Head) (rest row : Row) → Onward (into s h rest) row
-onward-into (here left) h rest row = tt
-onward-into (inside left g right s) h rest row = tt
+pub not-alone-into : (s : Position) (h : Head) (rest row : Row) → NotAlone (into s h rest) row
+not-alone-into (here left) h rest row = tt
+not-alone-into (inside left g right s) h rest row = tt
 
 -- The root record of a stand.
 abbrev pub rootOf : Stand → Row
@@ -80,17 +80,17 @@ pub record Stood (root : Row) (new : Edit → Tree) (t : Stand) : Type 0 where
   pub shows : (e : Edit) → above (t .chain) (around (t .position) (e .makes (shown (t .node)) (shown (t .rest)))) ≡ new e
   pub one : nodeCount (t .node) ≡ 1
   pub wide : width (t .node) ≡ 1
-  pub onward : Onward (t .position) (t .node ⊹ t .rest)
+  pub not-alone : NotAlone (t .position) (t .node ⊹ t .rest)
 
 -- the same said of the root record in other words
 stood-same : {root root′ : Row} {new new′ : Edit → Tree} (t : Stand) → root ≡ root′ → ((e : Edit) → new e ≡ new′ e) → Stood root new t → Stood root′ new′ t
-stood-same t a b f = record { held = f .held ∙ a; shows = λ e. f .shows e ∙ b e; one = f .one; wide = f .wide; onward = f .onward }
+stood-same t a b f = record { held = f .held ∙ a; shows = λ e. f .shows e ∙ b e; one = f .one; wide = f .wide; not-alone = f .not-alone }
 
 -- ── the stand of a path ──
 
 -- Where the path ends at this row, the row is no record's only node.
 abbrev pub Ends : List ℕ → Position → Row → Type 0
-Ends [] s row = Onward s row
+Ends [] s row = NotAlone s row
 Ends (j ∷ path) s row = Unit {0}
 
 ends-past : (path : List ℕ) (s : Position) (one rest : Row) → Ends path s (one ⊹ rest) → Ends path (past s one) rest
@@ -99,7 +99,7 @@ ends-past [] (inside left h right s) one rest o = tt
 ends-past (j ∷ path) s one rest o = tt
 
 ends-into : (path : List ℕ) (s : Position) (h : Head) (rest row : Row) → Ends path (into s h rest) row
-ends-into [] s h rest row = onward-into s h rest row
+ends-into [] s h rest row = not-alone-into s h rest row
 ends-into (j ∷ path) s h rest row = tt
 
 module _ (t : Stand) where
@@ -115,11 +115,11 @@ module _ (t : Stand) where
   past-from c s one rest new f = stood-same t (ap (whole c) (fill-past s one rest)) (λ e. ap (above c) (around-past s one (new e))) f
 
   -- the node is here
-  at-from : (c : Chain) (s : Position) (node rest : Row) → standAt c s node rest ≡ some t → nodeCount node ≡ 1 → width node ≡ 1 → Onward s (node ⊹ rest)
+  at-from : (c : Chain) (s : Position) (node rest : Row) → standAt c s node rest ≡ some t → nodeCount node ≡ 1 → width node ≡ 1 → NotAlone s (node ⊹ rest)
       → From c s (node ⊹ rest) (λ e. e .makes (shown node) (shown rest))
   at-from c s node rest a n w o =
       subst (Stood (whole c (fill s (node ⊹ rest))) (λ e. above c (around s (e .makes (shown node) (shown rest))))) (Option·some-injective _ t a)
-      (record { held = refl; shows = λ e. refl; one = n; wide = w; onward = o })
+      (record { held = refl; shows = λ e. refl; one = n; wide = w; not-alone = o })
 
   -- With an edit at the stand of a path, the row shows the plain tree's edit at the node that the path names.
   pub stood-in : (c : Chain) (s : Position) (i : ℕ) (path : List ℕ) (row : Row) → standIn c s i path row ≡ some t → Ends path s row

@@ -51,7 +51,7 @@ told-parts u (rec p s r rest) b t = let k = told-parts u rest b (t .2) in ((t .0
 -- ── no record shows nothing ──
 
 -- Each node of a row shows one node or more, and so does a record,
-pub record-shown : (s : Bool) (r : Row) → RecordFits s r → Fits r → 1 ≤ width r
+record-shown : (s : Bool) (r : Row) → RecordFits s r → Fits r → 1 ≤ width r
 record-shown s r f g = omega (arith, shape-nodeCount (f .shape), nodes-shown r g)
 
 pub some-shown : (row : Row) → Fits row → 0 < size row → 1 ≤ width row

@@ -19,7 +19,7 @@ use Rattle.theory_rows.specs.Keeps.{nodeCount-⊹, height-shown, levels, shape-
 use Rattle.theory_growth.specs.Chain.{size-fill, nodes-fill, fits-fill, fits-refill, chain-fits, lastSettled, lone-inside, lone-proxy, count-refill}
 use Rattle.theory_growth.specs.Chain.{count-chain}
 use Rattle.theory_growth.specs.Shown.{around, above, shown-fill, shown-whole}
-use Rattle.theory_growth.specs.Stand.{Onward}
+use Rattle.theory_growth.specs.Stand.{NotAlone}
 use Rattle.theory_growth.specs.Store.{settled-lone, isBranch, agg-branch}
 use Rattle.theory_removal.specs.Laws.{levels-removeAt}
 use Rattle.theory_removal.specs.Stand.{Leaves, stand-leaves, stand-names}
@@ -57,7 +57,7 @@ one-node (rec p s r (rec k t x rest)) n e = absurd (omega arith)
 
 -- ── the record that the node left ──
 
-module _ (s : Position) (node rest : Row) (o : Onward s (node ⊹ rest)) (n : nodeCount node ≡ 1) where
+module _ (s : Position) (node rest : Row) (o : NotAlone s (node ⊹ rest)) (n : nodeCount node ≡ 1) where
   abbrev old : Row
   old = fill s (node ⊹ rest)
 
@@ -68,7 +68,7 @@ module _ (s : Position) (node rest : Row) (o : Onward s (node ⊹ rest)) (n : no
   lone-left : lone old ≡ true → lone left ≡ true
   lone-left e = go s o e
     where
-      go : (s : Position) → Onward s (node ⊹ rest) → lone (fill s (node ⊹ rest)) ≡ true → lone (fill s rest) ≡ true
+      go : (s : Position) → NotAlone s (node ⊹ rest) → lone (fill s (node ⊹ rest)) ≡ true → lone (fill s rest) ≡ true
       go (here left) o e = absurd (true≢false (sym e ∙ o))
       go (inside left h right s) o e = lone-inside left h right (fill s rest) (fill s (node ⊹ rest)) ∙ e
 
@@ -135,7 +135,7 @@ lone-no-proxy (agg h cs rest) e = refl
 lone-no-proxy (lit h c rest) e = refl
 lone-no-proxy (rec p s r rest) e = absurd (false≢true e)
 
-module _ (s : Position) (node rest : Row) (o : Onward s (node ⊹ rest)) (n : nodeCount node ≡ 1) where
+module _ (s : Position) (node rest : Row) (o : NotAlone s (node ⊹ rest)) (n : nodeCount node ≡ 1) where
   -- The records of what is left fit.
   lost-fits : (c : Chain) → Fits (store (whole c (fill s (node ⊹ rest)))) → Fits (store (lost c (fill s rest)))
   unfolding replaced
@@ -211,14 +211,14 @@ module _ (root : Row) (new : Tree) (t : Stand) (l : Leaves root new t) where
       omega (arith, count-lost q (t .chain) left, count-chain q (t .chain) left, stand-names root new t l q)
 
   without-fits : Fits (store root) → Fits (store (without t))
-  without-fits f = lost-fits (t .position) (t .node) (t .rest) (l .onward) (l .one) (t .chain) (subst (λ (r : Row). Fits (store r)) (sym (l .held)) f)
+  without-fits f = lost-fits (t .position) (t .node) (t .rest) (l .not-alone) (l .one) (t .chain) (subst (λ (r : Row). Fits (store r)) (sym (l .held)) f)
 
   -- The root record is no helper's.
   pub root-stays : Fits (store root) → t .chain ≡ top → loneRec (fill (t .position) (t .rest)) ≡ false
   root-stays f e =
       let is : fill (t .position) (t .node ⊹ t .rest) ≡ root = ap (λ (c : Chain). whole c (fill (t .position) (t .node ⊹ t .rest))) (sym e) ∙ l .held in
       lone-no-proxy (fill (t .position) (t .rest))
-      (lone-left (t .position) (t .node) (t .rest) (l .onward) (l .one) (ap lone is ∙ settled-lone root (f .0 .shape)))
+      (lone-left (t .position) (t .node) (t .rest) (l .not-alone) (l .one) (ap lone is ∙ settled-lone root (f .0 .shape)))
 
 -- ── a removal ──
 

@@ -12,7 +12,7 @@ use Rattle.theory_rows.specs.Image.{once}
 use Rattle.theory_rows.specs.Pages.{count-⊹}
 use Rattle.theory_growth.specs.Chain.{beside, along, count-refill, count-chain}
 use Rattle.theory_growth.specs.Shown.{around, above}
-use Rattle.theory_growth.specs.Stand.{Onward, rootOf, stood-in}
+use Rattle.theory_growth.specs.Stand.{NotAlone, rootOf, stood-in}
 use Rattle.theory_removal.specs.Laws.{drops, removeAt-edit}
 
 -- The stand is one of the root record, of one node, which is no record's only one, and without it that shows `new`.
@@ -21,7 +21,7 @@ pub record Leaves (root : Row) (new : Tree) (t : Stand) : Type 0 where
   pub shows : above (t .chain) (around (t .position) (shown (t .rest))) ≡ new
   pub one : nodeCount (t .node) ≡ 1
   pub wide : width (t .node) ≡ 1
-  pub onward : Onward (t .position) (t .node ⊹ t .rest)
+  pub not-alone : NotAlone (t .position) (t .node ⊹ t .rest)
 
 -- ── the pages that the root record names ──
 
@@ -45,4 +45,4 @@ pub stand-leaves : (root : Row) (j : ℕ) (path : List ℕ) (t : Stand) → stan
     → Leaves root (removeAt 0 (j ∷ path) (shown root)) t
 stand-leaves root j path t e =
     let f = stood-in t top (here nil) 0 (j ∷ path) root e tt in
-    record { held = f .held; shows = f .shows drops ∙ removeAt-edit 0 (j ∷ path) (shown root); one = f .one; wide = f .wide; onward = f .onward }
+    record { held = f .held; shows = f .shows drops ∙ removeAt-edit 0 (j ∷ path) (shown root); one = f .one; wide = f .wide; not-alone = f .not-alone }
