@@ -16,7 +16,7 @@ use Rattle.read_find.specs.Rowed.{Rowed}
 use Rattle.grow_locate.specs.declared.Located.{Located}
 use Rattle.grow_locate.specs.declared.Span.{Span}
 use Rattle.grow_locate.specs.declared.Sighted.{Sighted}
-use Rattle.grow_locate.specs.Seek.{seekSpan, seek-found, seek-on, WithinPage}
+use Rattle.grow_locate.specs.Seek.{seekSpan, seek-found, seek-on, PageAround}
 
 -- The length used by the record in which a byte of the image is.
 abbrev pub usedAround : (img : List ℕ) → (pos : ℕ) → ℕ
@@ -26,6 +26,7 @@ usedAround img pos = usedAt img (pageSize * (pos / pageSize))
 abbrev pub rightWins : (img : List ℕ) → (left right : Located) → Bool
 rightWins img l r = r .found && ltb (usedAround img (r .at)) (usedAround img (l .at))
 
+-- The spot at a byte of the image; behind what was found, and before it.
 abbrev pub sightAt : (found : Bool) → (pos par deep : ℕ) → Sighted
 sightAt f pos par n = record { found = f; receiver = record { page = pos / pageSize; at = pos % pageSize; par = par; deep = n } }
 
@@ -57,13 +58,13 @@ sight-found img span row (suc i) =
     let more : suc i < width row = ltb-true (suc i) (width row) (sym (seek-found _ _ _ row (suc i)) ∙ both (r .found) _ e .0) in
     sym (le-leb (suc i) (width row) (omega arith))) (λ _. seek-found _ _ _ row i)
 
--- Both siblings stand in pages of the image.
+-- The pages around both siblings are in the image.
 pub both-on : {img : List ℕ} {most : ℕ} (span : Span) (w : Rowed img (span .pos) (span .end) most) (i : ℕ) (l r : Located) → l ≡ seekSpan span (w .row) i
-    → r ≡ seekSpan span (w .row) (suc i) → r .found ≡ true → WithinPage img (l .at) × WithinPage img (r .at)
+    → r ≡ seekSpan span (w .row) (suc i) → r .found ≡ true → PageAround img (l .at) × PageAround img (r .at)
 both-on {img} span w i l r a b f =
     let found : seekSpan span (w .row) (suc i) .found ≡ true = sym (ap (λ (l : Located). l .found) b) ∙ f in
     let more : suc i < width (w .row) = ltb-true (suc i) (width (w .row)) (sym (seek-found _ _ _ (w .row) (suc i)) ∙ found) in
     let left : seekSpan span (w .row) i .found ≡ true = seek-found _ _ _ (w .row) i ∙ lt-ltb i (width (w .row)) (omega arith) in (
-      subst (λ (l : Located). WithinPage img (l .at)) (sym a) (seek-on _ _ _ (w .row) i (w .here) left),
-      subst (λ (l : Located). WithinPage img (l .at)) (sym b) (seek-on _ _ _ (w .row) (suc i) (w .here) found),
+      subst (λ (l : Located). PageAround img (l .at)) (sym a) (seek-on _ _ _ (w .row) i (w .here) left),
+      subst (λ (l : Located). PageAround img (l .at)) (sym b) (seek-on _ _ _ (w .row) (suc i) (w .here) found),
     )

@@ -2,19 +2,19 @@
 use mathlib.Core.Path.{_≡_, refl, sym, ap, _∙_}
 use mathlib.Core.Bool.{Bool, true, false, cond, not, false≢true}
 use mathlib.Core.List.{List}
-use Prim.Native.Nat.{ℕ, zero, suc, _+_, _*_, _-_, _%_, _≤_, _<_}
+use Prim.Native.Nat.{ℕ, zero, suc, _+_, _*_, _-_, _/_, _%_, _≤_, _<_}
 use native.Mathlib.Omega.{arith}
 use native.Mathlib.Nat.{sub-zero, suc-sub-suc}
 use borrow.Author.Tests.{lt-ltb, le-ltb, ltb-true, ltb-false, eq-eqb, ne-eqb, not-false}
 use lib.ListN.{length, getD}
 use lib.Dec.{ltb, eqb, leb·suc-suc, leb·suc-zero}
-use Rattle.model.specs.Limits.{pageSize, capacity}
+use Rattle.model.specs.Limits.{pageSize}
 use Rattle.model.specs.Row.{Row, nil, agg, lit, rec, size, lone, base}
 use Rattle.model.specs.Tree.{width}
 use Rattle.model.specs.Reading.{sizeAt, nameAt, kindAt}
 use Rattle.theory_rows.specs.Laws.{cond-case}
 use Rattle.theory_row_bytes.specs.RowAt.{kindOf, sizeOf, restOf}
-use Rattle.theory_layout.specs.Here.{PageIn, Here, view}
+use Rattle.theory_layout.specs.Here.{Here, view}
 use Rattle.theory_layout.specs.Widths.{Widths, firstWidth, plain-width}
 use Rattle.read_find.specs.Rowed.{Rowed, Entered, enter, startOn, endOn}
 use Rattle.grow_locate.specs.declared.Located.{Located}
@@ -204,25 +204,22 @@ module _ {img : List ℕ} {pos : ℕ} (w : SomeRow img pos) where
 
 -- ── in the image ──
 
--- A byte of a page of the image, before its trailer.
-pub record WithinPage (img : List ℕ) (pos : ℕ) : Type 0 where
-  pub page : ℕ
-  pub on : PageIn img page
-  pub start : pageSize * page ≤ pos
-  pub before : pos < pageSize * page + capacity
+-- The page in which a byte is, whole in the image.
+abbrev pub PageAround : (img : List ℕ) → (pos : ℕ) → Type 0
+PageAround img pos = pageSize * (pos / pageSize) + pageSize ≤ length img
 
--- What is found stands in one.
+-- What is found stands in such a page.
 pub seek-on : {img : List ℕ} {page : ℕ} (pos par n : ℕ) (row : Row) (k : ℕ) → Here img page pos row → seekOf pos par n row k .found ≡ true
-    → WithinPage img (seekOf pos par n row k .at)
+    → PageAround img (seekOf pos par n row k .at)
 unfolding seekOf
 seek-on pos par n nil k h f = absurd (false≢true f)
-seek-on {page = page} pos par n (agg l cs rest) zero h f = record { page = page; on = h .on; start = h .start; before = omega (arith, h .room) }
+seek-on pos par n (agg l cs rest) zero h f = omega (arith, h .on .inside, h .start, h .room)
 seek-on pos par n (agg l cs rest) (suc k) h f = seek-on _ par n rest k (view h (omega arith) .after) f
-seek-on {page = page} pos par n (lit l c rest) zero h f = record { page = page; on = h .on; start = h .start; before = omega (arith, h .room) }
+seek-on pos par n (lit l c rest) zero h f = omega (arith, h .on .inside, h .start, h .room)
 seek-on pos par n (lit l c rest) (suc k) h f = seek-on _ par n rest k (view h (omega arith) .after) f
-seek-on {img} {page} pos par n (rec p s r rest) k h f =
-    let P : Located → Type 0 = λ l. l .found ≡ true → WithinPage img (l .at) in
+seek-on {img} pos par n (rec p s r rest) k h f =
+    let P : Located → Type 0 = λ l. l .found ≡ true → PageAround img (l .at) in
     let v = view h (omega arith) in
     cond-case P (ltb k (width r))
-    (λ _. cond-case P (lone r) (λ _ _. record { page = page; on = h .on; start = h .start; before = omega (arith, h .room) })
+    (λ _. cond-case P (lone r) (λ _ _. omega (arith, h .on .inside, h .start, h .room))
     (λ _ f. seek-on _ 0 (n + 1) r k (v .under .here) f)) (λ _ f. seek-on (pos + 8) par n rest (k - width r) (v .after) f) f

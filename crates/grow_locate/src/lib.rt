@@ -7,14 +7,14 @@ use read_find::row_end;
 use read_find::row_start;
 ghost use mathlib.Core.Path.{_≡_};
 ghost use mathlib.Core.Bool.{true};
-ghost use Prim.Native.Nat.{suc, _+_, _*_, _/_, _≤_, _<_};
+ghost use Prim.Native.Nat.{suc, _+_, _≤_, _<_};
 ghost use lib.ListN.{length};
-ghost use Rattle.model.specs.Limits.{mostPages, pageSize};
+ghost use Rattle.model.specs.Limits.{mostPages};
 ghost use Rattle.model.specs.Reading.{sizeAt, nameAt};
 ghost use Rattle.theory_layout.specs.Here.{PageIn};
 ghost use Rattle.theory_layout.specs.Widths.{firstWidth, Widths};
 ghost use Rattle.read_find.specs.Rowed.{Rowed};
-ghost use Rattle.grow_locate.specs.Seek.{locatedAt, nowhere, seekSpan, helperFirst, SomeRow, pastSpan, insideSpan, closerOf, childrenSpan, WithinPage};
+ghost use Rattle.grow_locate.specs.Seek.{locatedAt, nowhere, seekSpan, helperFirst, SomeRow, pastSpan, insideSpan, closerOf, childrenSpan, PageAround};
 ghost use Rattle.grow_locate.specs.Walk.{Finds};
 ghost use Rattle.grow_locate.specs.Choose.{usedAround, rightWins, sightAt, sightFirst, sightBeside, sightChild};
 
@@ -201,7 +201,7 @@ pub fn seek_child(image: &[u8], widths: &[u32; Settings::PAGES], parent: usize, 
 
 // The length used by the record in which the byte pos of the image is.
 fn used_around(image: &[u8], pos: usize) -> usize
-    requires { ⌜ pageSize * (pos / pageSize) + pageSize ≤ length (now image) ⌝ }
+    requires { ⌜ PageAround (now image) pos ⌝ }
     ensures { λ r. ⌜ r ≡ usedAround (now (image .entry)) pos ⌝ }
 {
     used_at(image, Settings::PAGE * (pos / Settings::PAGE))
@@ -209,7 +209,7 @@ fn used_around(image: &[u8], pos: usize) -> usize
 
 // There is a right sibling, and the record around it, or around its proxy, has more bytes unused than the one around the left sibling: it uses fewer.
 fn right_wins(image: &[u8], left: Located, right: Located) -> bool
-    requires { ⌜ (right .found ≡ true → WithinPage (now image) (left .at) × WithinPage (now image) (right .at)) ⌝ }
+    requires { ⌜ (right .found ≡ true → PageAround (now image) (left .at) × PageAround (now image) (right .at)) ⌝ }
     ensures { λ r. ⌜ r ≡ rightWins (now (image .entry)) left right ⌝ }
 {
     if !right.found {

@@ -1,6 +1,5 @@
 use mathlib.Core.Path.{_≡_, refl}
 use mathlib.Core.Bool.{true, false}
-use native.Mathlib.Omega.{arith}
 use borrow.Author.Tests.{not-true, not-false}
 use Rattle.grow_locate.proofs.right_wins.Statement.{statement}
 use Rattle.grow_locate.proofs.right_wins.Tie as tie
@@ -11,15 +10,12 @@ returns c =
     rw f refl
 
 used-around-requires : tie.Need-used-around-requires
-used-around-requires c κs =
-    let w = c .before .before .before .pre (not-false _ (c .if1 .left)) .1 in
-    omega (arith, w .start, w .before, w .on .inside)
+used-around-requires c κs = c .before .before .before .pre (not-false _ (c .if1 .left)) .1
 
 used-around-requires-2 : tie.Need-used-around-requires-2
 used-around-requires-2 c κs =
     let e = c .before in
-    let w = e .before .before .before .pre (not-false _ (e .if1 .left)) .0 in
-    omega (arith, w .start, w .before, w .on .inside)
+    e .before .before .before .pre (not-false _ (e .if1 .left)) .0
 
 returns-2 : tie.Need-returns-2
 returns-2 c =
