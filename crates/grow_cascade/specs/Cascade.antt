@@ -17,11 +17,9 @@ use Rattle.theory_growth.specs.Chain.{lastSettled}
 use Rattle.theory_page_memory.specs.Memory.{Mem, riseMem}
 use Rattle.base_layout.specs.declared.Growing.{Growing}
 use Rattle.base_layout.specs.Growing.{nearTo}
-use Rattle.grow_groups.specs.declared.Output.{Output}
-use Rattle.grow_groups.specs.Used.{Past}
 use Rattle.grow_split.specs.Severed.{Severed}
 use Rattle.grow_replace_proxy.specs.Lift.{Lift, lifted}
-use Rattle.grow_write_back.specs.Off.{SplitOff}
+use Rattle.grow_write_back.specs.Off.{leanOf, SplitOff}
 use Rattle.grow_cascade.specs.declared.Grown.{Grown}
 use Rattle.grow_cascade.specs.Rising.{Rising, LeftTable, Risen}
 use Rattle.grow_cascade.specs.Stops.{leanNow}
@@ -75,13 +73,6 @@ onward-end o {u′ = u′} r = record {
 
 -- ── after the split ──
 
--- The separator is within what it was written to.
-pub severed-end : {st : Config} {g : Growing} {row : Row} {work : Work} {r : Output} {table u before img out₀ out₁ : List ℕ}
-    → Severed st g row work r table u before img out₀ out₁ → size (separator st (g .near) row work .0) ≤ length out₀ → r .end ≤ length out₁
-severed-end {st} {g} {row} {work} {out₀ = out₀} v k =
-    let S = separator st (g .near) row work .0 in
-    omega (arith, v .end, ap length (v .out), length-over 0 (bytes S) out₀ (omega (arith, length-bytes S)), length-bytes S)
-
 -- The record above can take the separator, and the loop goes on with it.
 pub record Upward (goal : Out) (mem : Mem) (img₀ : List ℕ) (g : Growing) (holder end : ℕ) (filled : Bool) (counts : ℕ) (leans : ℤ)
     (l u img out : List ℕ) : Type 0 where
@@ -95,16 +86,16 @@ module _ {goal : Out} {mem : Mem} {img₀ : List ℕ} {g : Growing} {len : ℕ} 
   abbrev k : Cascade g len filled counts leans l u img
   k = o .now
 
-  pub upward : {holder : ℕ} {r : Output} {leans′ : ℤ} {u′ img₁ out₀ out₁ : List ℕ} → capacity < recordSize (k .row) → lastSettled (k .chain) ≡ false
-      → holder ≡ lastHolder (k .chain) → SplitOff (k .st) g (k .row) (k .work) (lastSettled (k .chain)) r u u′ img img₁ out₀ out₁
-      → Past (g .setup .pages) u′ → leans′ ≡ leanNow (k .st) (k .row) counts leans
-      → Upward goal mem img₀ g holder (r .end) (filled || r .full) (counts + 1) leans′ l u′ img₁ out₁
-  upward {holder} {r} {leans′} {u′} {img₁} {out₀} {out₁} big un at sev past le = go (k .chain) (k .rising) (o .goes) (o .writes) un at sev
+  pub upward : {holder end : ℕ} {full : Bool} {leans′ : ℤ} {u′ img₁ out₀ out₁ : List ℕ} → capacity < recordSize (k .row) → lastSettled (k .chain) ≡ false
+      → holder ≡ lastHolder (k .chain) → SplitOff (k .st) g (k .row) (k .work) (lastSettled (k .chain)) end full u u′ img img₁ out₀ out₁
+      → leans′ ≡ leanNow counts leans (leanOf (k .st) (k .row))
+      → Upward goal mem img₀ g holder end (filled || full) (counts + 1) leans′ l u′ img₁ out₁
+  upward {holder} {end} {full} {leans′} {u′} {img₁} {out₀} {out₁} big un at sev le = go (k .chain) (k .rising) (o .goes) (o .writes) un at sev
     where
       go : (c : Chain) → Rising (k .st) (k .was) (k .root) c (k .old) (k .row) (k .work) g len filled counts leans l u img
           → rise (k .st) c (k .row, k .work) ≡ goal → (g .dry ≡ false → riseMem (k .st) c (k .row) (k .work) (pageOf img) ≡ mem)
-          → lastSettled c ≡ false → holder ≡ lastHolder c → SplitOff (k .st) g (k .row) (k .work) (lastSettled c) r u u′ img img₁ out₀ out₁
-          → Upward goal mem img₀ g holder (r .end) (filled || r .full) (counts + 1) leans′ l u′ img₁ out₁
+          → lastSettled c ≡ false → holder ≡ lastHolder c → SplitOff (k .st) g (k .row) (k .work) (lastSettled c) end full u u′ img img₁ out₀ out₁
+          → Upward goal mem img₀ g holder end (filled || full) (counts + 1) leans′ l u′ img₁ out₁
       go top w y m un at sev = absurd (true≢false un)
       go (below c s q true rest) w y m un at sev = absurd (true≢false un)
       go (below c s q false rest) w y m un at sev = record {
@@ -118,7 +109,7 @@ module _ {goal : Out} {mem : Mem} {img₀ : List ℕ} {g : Growing} {len : ℕ} 
             old = _;
             row = _;
             work = _;
-            rising = up-rising w big sev at le past e z;
+            rising = up-rising w big sev at le e z;
           };
           goes = next-goal w big sev ∙ y;
           writes = λ d. next-mem w big sev d ∙ m d;

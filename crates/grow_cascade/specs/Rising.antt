@@ -15,7 +15,7 @@ use Rattle.model.specs.Reading.{Reads, pageOf, backAt, settledAt}
 use Rattle.model.specs.Growth.{Work, Out, separator, splitPoint, startOfD, rise}
 use Rattle.model.specs.Claims.{InLean}
 use Rattle.theory_rows.specs.Fits.{Valid}
-use Rattle.theory_rows.specs.Bound.{SplitGood}
+use Rattle.theory_rows.specs.Bound.{SplitGood, p-high}
 use Rattle.theory_rows.specs.Lean.{Splittable}
 use Rattle.theory_rows.specs.Pages.{bit, or-right, reserved}
 use Rattle.theory_decoding.specs.Decode.{in-trailer}
@@ -41,8 +41,7 @@ use Rattle.base_layout.specs.declared.Growing.{Growing}
 use Rattle.base_layout.specs.Setup.{setupOf}
 use Rattle.base_layout.specs.Growing.{pages-of, target-of}
 use Rattle.grow_groups.specs.Used.{InUse, Past, Env}
-use Rattle.grow_split.specs.Tells.{Tabled}
-use Rattle.grow_write_back.specs.Leaning.{Leaning}
+use Rattle.grow_groups.specs.Tells.{Tabled}
 use Rattle.grow_write_back.specs.Off.{Off, leaves}
 use Rattle.grow_cascade.specs.declared.Grown.{Grown}
 
@@ -169,19 +168,6 @@ module _ {st : Config} {was : List ℕ} {root : Row} {c : Chain} {old row : Row}
     env = record { few = inside .1 .1 .0; image = omega (arith, long-image); low = inside .0; start = inside .1 .0; past = w .past }
 
   module _ (big : capacity < recordSize row) where
-    abbrev pub leaning : Leaning (take len l) (g .setup)
-    leaning = record {
-      st = st;
-      setup = w .setup;
-      ranges = valid .ranges;
-      row = row;
-      is = w .is;
-      fits = able .fits;
-      big = big;
-      most = able .most;
-      deep = able .deep;
-    }
-
     pub good : (v : Work) → SplitGood (separator st (g .near) row v .0) (splitPoint st (recordSize row)) (startOfD st row)
     good v = split-able st (valid .ranges) (g .near) row v able big
 
@@ -205,6 +191,8 @@ module _ {st : Config} {was : List ℕ} {root : Row} {c : Chain} {old row : Row}
           marked = w .marked;
           good = y .fits;
           most = omega (arith, y .small);
+          leans = y .lean;
+          low = omega (arith, p-high st (valid .ranges) (recordSize row) big (able .most));
         }
 
   -- ── the table ──

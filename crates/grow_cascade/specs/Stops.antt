@@ -8,21 +8,19 @@ use native.Mathlib.Numerals.{add-one}
 use borrow.Author.Tests.{le-leb, lt-leb}
 use lib.Dec.{eqb, leb}
 use lib.ListN.{length, take}
-use lib.IntN.{ℤ, subℕ}
+use lib.IntN.{ℤ}
 use Rattle.model.specs.Limits.{capacity}
 use Rattle.model.specs.Row.{Row, size, lone, bytes, recordSize, recordBytes, Config}
 use Rattle.model.specs.Reading.{pageOf}
-use Rattle.theory_rows.specs.Bound.{split-good}
-use Rattle.grow_write_back.specs.Leaning.{Leaning}
-use Rattle.model.specs.Growth.{noWork, Work, Out, onRow, separator, counted, kept, splitPoint, startOfD, rise}
+use Rattle.theory_rows.specs.Lean.{split-counts}
+use Rattle.model.specs.Growth.{Work, Out, onRow, separator, counted, kept, splitPoint, startOfD, rise}
 use Rattle.model.specs.Claims.{InLean}
 use Rattle.theory_rows.specs.Fits.{Shape}
 use Rattle.model.specs.Tree.{breadth, width}
-use Rattle.theory_rows.specs.Laws.{length-bytes, cond-case, breadth-shown}
+use Rattle.theory_rows.specs.Laws.{cond-case, breadth-shown}
 use Rattle.theory_rows.specs.Shows.{shown-separator}
 use Rattle.theory_rows.specs.Keeps.{separator-lone}
 use Rattle.theory_growth.specs.Store.{settled-lone}
-use Rattle.base_numbers.specs.Over.{take-over}
 use Rattle.model.specs.Spot.{Chain, lastPage, whole, lastHolder}
 use Rattle.theory_growth.specs.Chain.{lastSettled}
 use Rattle.theory_growth.specs.Keeps.{grows-splits}
@@ -33,25 +31,20 @@ use Rattle.theory_page_memory.specs.Around.{kept-low, rise-stays, mem-stays}
 use Rattle.grow_pages.specs.Links.{Below}
 use Rattle.grow_pages.specs.Relinked.{After, after-then, written, after-written}
 use Rattle.base_layout.specs.declared.Growing.{Growing}
-use Rattle.base_layout.specs.declared.Setup.{Setup}
-use Rattle.grow_groups.specs.declared.Output.{Output}
 use Rattle.grow_split.specs.Severed.{Severed}
 use Rattle.grow_write_back.specs.Content.{Content}
-use Rattle.grow_write_back.specs.Off.{leftImage, SplitOff}
+use Rattle.grow_write_back.specs.Off.{leanOf, leftImage, SplitOff}
 use Rattle.theory_rows.specs.Pages.{or-right}
-use Rattle.grow_split.specs.Tells.{Keeps}
+use Rattle.grow_groups.specs.Tells.{Keeps}
+use Rattle.grow_groups.specs.Step.{front-is}
 use Rattle.grow_cascade.specs.Rising.{Rising, Risen, risen-by, valid, inside, long-image, some, good, named-used, tabled}
 
--- The lean after one split more.
-abbrev pub leanNow : (st : Config) → (row : Row) → (count : ℕ) → (lean : ℤ) → ℤ
-leanNow st row k lean = cond (eqb k 0) (subℕ (startOfD st row) (splitPoint st (recordSize row))) lean
+-- The lean after one split more, whose own is `last`.
+abbrev pub leanNow : (count : ℕ) → (lean last : ℤ) → ℤ
+leanNow k lean last = cond (eqb k 0) last lean
 
-pub leaning-in : {l : List ℕ} {s : Setup} (w : Leaning l s) → InLean (subℕ (startOfD (w .st) (w .row)) (splitPoint (w .st) (recordSize (w .row))))
-leaning-in w = split-good (w .st) (w .ranges) 0 (w .row) noWork (w .fits) (w .big) (w .most) (w .deep) .lean
-
-pub lean-in : (st : Config) (row : Row) (k : ℕ) (lean : ℤ) → InLean lean → InLean (subℕ (startOfD st row) (splitPoint st (recordSize row)))
-    → InLean (leanNow st row k lean)
-lean-in st row k lean a b = cond-case InLean (eqb k 0) (λ _. b) (λ _. a)
+pub lean-in : (k : ℕ) (lean last : ℤ) → InLean lean → InLean last → InLean (leanNow k lean last)
+lean-in k lean last a b = cond-case InLean (eqb k 0) (λ _. b) (λ _. a)
 
 -- A separator shows as many nodes as the record.
 pub separator-width : (st : Config) (near : ℕ) (r : Row) (w : Work) → width r ≡ width (separator st near r w .0)
@@ -120,7 +113,7 @@ module _ {st : Config} {was : List ℕ} {root : Row} {c : Chain} {old row : Row}
 
     S-lone : lone (S .0) ≡ true
     S-lone =
-        separator-lone st (g .near) row v
+        separator-lone st (g .near) row v (w .grows .grew .fits) big
         (settled-lone row (subst (λ (b : Bool). Shape b row) settled (grows-splits st (valid w .ranges) c old (row, work) (w .grows) .0)))
 
     goal-is : rise st c (row, work) ≡ onRow (whole c) S
@@ -134,18 +127,18 @@ module _ {st : Config} {was : List ℕ} {root : Row} {c : Chain} {old row : Row}
         ap (λ (q : ℕ). putMem q (lastSettled c) (lastHolder c) (separator st q row v .0) (separatorMem st q row v m)) (w .at)
         ∙ rw (mem-stays st c row work m (ap (λ (b : Bool). b || leb (recordSize row) capacity) settled), lt-leb (recordSize row) capacity big)
 
-    module _ {r : Output} {u′ img₁ out₀ out₁ : List ℕ}
-        (sev : SplitOff st g row work (lastSettled c) r u u′ img img₁ out₀ out₁) where
-      cut : Severed st g row v r u u′ img img₁ out₀ out₁
+    module _ {end : ℕ} {full : Bool} {u′ img₁ out₀ out₁ : List ℕ}
+        (sev : SplitOff st g row work (lastSettled c) end full u u′ img img₁ out₀ out₁) where
+      cut : Severed st g row v end full u u′ img img₁ out₀ out₁
       cut =
-          subst (λ (i : List ℕ). Severed st g row (counted st row work) r u u′ i img₁ out₀ out₁) (left-stays g img)
-          (subst (λ (b : Bool). SplitOff st g row work b r u u′ img img₁ out₀ out₁) settled sev)
+          subst (λ (i : List ℕ). Severed st g row (counted st row work) end full u u′ i img₁ out₀ out₁) (left-stays g img)
+          (subst (λ (b : Bool). SplitOff st g row work b end full u u′ img img₁ out₀ out₁) settled sev)
 
       pub severed-long : length img₁ ≡ length img
       severed-long = cut .after .long
 
-      pub severed-is : take (r .end) out₁ ≡ recordBytes (S .0)
-      severed-is = (λ i. take (cut .end i) (cut .out i)) ∙ take-over (size (S .0)) (bytes (S .0)) out₀ (length-bytes (S .0)) ∙ sym (lone-bytes (S .0) S-lone)
+      pub severed-is : take end out₁ ≡ recordBytes (S .0)
+      severed-is = front-is cut ∙ sym (lone-bytes (S .0) S-lone)
 
       pub severed-below : Below (g .setup .pages) (S .0)
       severed-below = cut .below
@@ -154,32 +147,32 @@ module _ {st : Config} {was : List ℕ} {root : Row} {c : Chain} {old row : Row}
       severed-small = omega (arith, lone-size (S .0) S-lone, good w big v .small)
 
       -- What the code that writes the separator requires.
-      abbrev pub severed-content : Content (take (r .end) out₁) (g .setup .pages)
+      abbrev pub severed-content : Content (take end out₁) (g .setup .pages)
       severed-content = record { row = S .0; is = severed-is; below = severed-below; small = severed-small; some = good w big v .some }
 
       -- The table is right for the separator.
       kept-table : g .dry ≡ false → Keeps u u′ (S .0)
       kept-table z =
-          cut .tells (tabled w z) (or-right (v .full) (r .full) (cut .full ∙ ap (λ (o : Out). o .1 .full) (sym goal-is) ∙ w .wet z .room))
+          cut .tells (tabled w z) (or-right (v .full) full (cut .full ∙ ap (λ (o : Out). o .1 .full) (sym goal-is) ∙ w .wet z .room))
 
-      pub settled-done : {leans′ : ℤ} {holder : ℕ} {new : List ℕ} → leans′ ≡ leanNow st row count leans → holder ≡ lastHolder c
+      pub settled-done : {leans′ : ℤ} {holder : ℕ} {new : List ℕ} → leans′ ≡ leanNow count leans (leanOf st row) → holder ≡ lastHolder c
           → new ≡ cond (g .dry) img₁ (written (g .near) (lastSettled c) holder (severed-content .row) img₁)
           → Risen (rise st c (row, work)) (riseMem st c row work (pageOf img)) (g .dry)
-          (record { full = filled || r .full; splits = count + 1; lean = leans′ }) img new u′
+          (record { full = filled || full; splits = count + 1; lean = leans′ }) img new u′
       settled-done {leans′} {holder} {new} le h e =
           let put : After (g .dry) new img₁ (putMem (g .near) (lastSettled c) (lastHolder c) (S .0) (pageOf img₁)) =
           rw (e, h) (after-written (g .setup .pages) (g .near) (lastHolder c) (lastSettled c) (S .0) img₁ severed-below severed-small
           (omega (arith, long-image w, cut .after .long)) (inside w .1 .0) _) in
           let p = after-then (putMem (g .near) (lastSettled c) (lastHolder c) (S .0)) (cut .after) put in
           risen-by (sym goal-is) (record {
-            full = ap (λ (b : Bool). b || r .full) (w .full) ∙ cut .full;
-            splits = add-one count ∙ ap suc (w .splits) ∙ sym (cut .splits);
-            lean = le ∙ (λ i. leanNow st row (w .splits i) (w .lean i)) ∙ sym (cut .lean);
+            full = ap (λ (b : Bool). b || full) (w .full) ∙ cut .full;
+            splits = add-one count ∙ ap suc (w .splits) ∙ sym (split-counts st (g .near) row v .0);
+            lean = le ∙ (λ i. leanNow (w .splits i) (w .lean i) (leanOf st row)) ∙ sym (split-counts st (g .near) row v .1);
             same = p .long;
             still = p .same;
             pages = λ z. p .pages z ∙ mem-is (pageOf img);
             table = λ z.
                 let k = kept-table z in
                 let same = told-same u u′ (whole c row) (λ q h. k .frame q (named-used w z q h)) (w .wet z .told) in
-                record { told = told-swap u′ c row (S .0) (separator-width st (g .near) row v) same (k .told); marked = cut .marked };
+                record { told = told-swap u′ c row (S .0) (separator-width st (g .near) row v) same (k .told); marked = cut .used };
           })

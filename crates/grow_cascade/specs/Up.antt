@@ -14,6 +14,7 @@ use Rattle.model.specs.Row.{Row, rec, _⊹_, size, bytes, recordSize, recordByt
 use Rattle.model.specs.Reading.{pageOf}
 use Rattle.model.specs.Growth.{Work, Out, separator, counted, freed, splitPoint, startOfD, rise}
 use Rattle.theory_rows.specs.Bound.{SplitGood}
+use Rattle.theory_rows.specs.Lean.{split-counts}
 use Rattle.theory_rows.specs.Shows.{nodeCount-some}
 use Rattle.theory_rows.specs.Pages.{count-⊹, or-right}
 use Rattle.model.specs.Tree.{width}
@@ -34,19 +35,18 @@ use Rattle.grow_pages.specs.Links.{Below, below-count, below-parted}
 use Rattle.grow_pages.specs.Relinked.{After, after-then, mem-cleared}
 use Rattle.base_layout.specs.declared.Growing.{Growing}
 use Rattle.base_layout.specs.Growing.{separatorSize, nearTo}
-use Rattle.grow_groups.specs.declared.Output.{Output}
-use Rattle.grow_groups.specs.Used.{Past}
 use Rattle.grow_split.specs.Severed.{Severed}
 use Rattle.grow_splice.specs.Splice.{KeepsRoot}
 use Rattle.grow_replace_proxy.specs.Above.{above-stands, above-once}
 use Rattle.grow_replace_proxy.specs.Keeps.{shape-keeps}
 use Rattle.grow_replace_proxy.specs.Lift.{Lift}
-use Rattle.grow_write_back.specs.Off.{leftImage, leftTable, length-left, left-tabled, left-frame, SplitOff}
+use Rattle.grow_write_back.specs.Off.{leanOf, leftImage, leftTable, length-left, left-tabled, left-frame, SplitOff}
 use Rattle.theory_rows.specs.Population.{population}
 use Rattle.theory_places.specs.Widths.{Told, told-same}
 use Rattle.theory_growth.specs.Told.{told-parted, told-chain, told-swap, width-fill, along-own}
 use Rattle.grow_widths.specs.Tally.{mostEntry}
-use Rattle.grow_split.specs.Tells.{Keeps}
+use Rattle.grow_groups.specs.Tells.{Keeps}
+use Rattle.grow_groups.specs.Step.{front-is}
 use Rattle.grow_cascade.specs.Rising.{Rising, valid, inside as page-inside, long-image, good, named-once, named-used, tabled}
 
 -- ── the page that is left ──
@@ -60,8 +60,8 @@ left-after g img h = record { long = length-left g false img h; same = λ e. rw 
 module _ {st : Config} {was : List ℕ} {root : Row} {c : Chain} {s : Position} {q : ℕ} {rest old row : Row} {work : Work}
     {g : Growing} {len : ℕ} {filled : Bool} {counts : ℕ} {leans : ℤ} {l u img : List ℕ}
     (w : Rising st was root (below c s q false rest) old row work g len filled counts leans l u img) (big : capacity < recordSize row)
-    {r : Output} {u′ img₁ out₀ out₁ : List ℕ}
-    (sev : SplitOff st g row work false r u u′ img img₁ out₀ out₁) where
+    {end : ℕ} {full : Bool} {u′ img₁ out₀ out₁ : List ℕ}
+    (sev : SplitOff st g row work false end full u u′ img img₁ out₀ out₁) where
   abbrev v : Work
   v = freed st q (counted st row work)
 
@@ -79,8 +79,8 @@ module _ {st : Config} {was : List ℕ} {root : Row} {c : Chain} {s : Position} 
   abbrev gq : Growing
   gq = nearTo g q
 
-  cut : Severed st gq row v r (leftTable gq false u) u′ (leftImage gq false img) img₁ out₀ out₁
-  cut = subst (λ (p : ℕ). SplitOff st (nearTo g p) row work false r u u′ img img₁ out₀ out₁) (w .at) sev
+  cut : Severed st gq row v end full (leftTable gq false u) u′ (leftImage gq false img) img₁ out₀ out₁
+  cut = subst (λ (p : ℕ). SplitOff st (nearTo g p) row work false end full u u′ img img₁ out₀ out₁) (w .at) sev
 
   split : SplitGood (S .0) (splitPoint st (recordSize row)) (startOfD st row)
   split = subst (λ (p : ℕ). SplitGood (separator st p row v .0) (splitPoint st (recordSize row)) (startOfD st row)) (w .at) (good w big v)
@@ -135,7 +135,7 @@ module _ {st : Config} {was : List ℕ} {root : Row} {c : Chain} {s : Position} 
     sep-table : Keeps (leftTable gq false u) u′ (S .0)
     sep-table =
         cut .tells (left-tabled gq false u row left-unnamed (tabled w z))
-        (or-right (v .full) (r .full) (cut .full ∙ full-rise st c (next, S .1) (full-goal z)))
+        (or-right (v .full) full (cut .full ∙ full-rise st c (next, S .1) (full-goal z)))
 
     -- and as it was for the store with the record's nodes in place of its proxy, which shows as many,
     inlined : Row
@@ -178,8 +178,8 @@ module _ {st : Config} {was : List ℕ} {root : Row} {c : Chain} {s : Position} 
 
   -- ── the separator ──
 
-  pub sep-is : take (r .end) out₁ ≡ bytes (S .0)
-  sep-is = (λ i. take (cut .end i) (cut .out i)) ∙ take-over (size (S .0)) (bytes (S .0)) out₀ (length-bytes (S .0))
+  pub sep-is : take end out₁ ≡ bytes (S .0)
+  sep-is = front-is cut
 
   pub sep-most : size (S .0) ≤ separatorSize
   sep-most = omega (arith, split .small)
@@ -218,7 +218,7 @@ module _ {st : Config} {was : List ℕ} {root : Row} {c : Chain} {s : Position} 
         )
 
     -- What the code that puts the separator in it requires.
-    abbrev pub up-lift : Lift img₁ holder (g .near) (take (r .end) out₁)
+    abbrev pub up-lift : Lift img₁ holder (g .near) (take end out₁)
     up-lift = record {
       position = s;
       settled = false;
@@ -245,10 +245,10 @@ module _ {st : Config} {was : List ℕ} {root : Row} {c : Chain} {s : Position} 
         (below-parted n .join (S .0) rest (cut .below) (in-fill (below-parted n) s (rec q false old rest) k .1))
 
     -- The record above goes on.
-    pub up-rising : {leans′ : ℤ} {len′ : ℕ} {l′ : List ℕ} → leans′ ≡ leanNow st row counts leans → Past (g .setup .pages) u′
+    pub up-rising : {leans′ : ℤ} {len′ : ℕ} {l′ : List ℕ} → leans′ ≡ leanNow counts leans (leanOf st row)
         → len′ ≡ recordSize next → l′ ≡ over 0 (recordBytes next) l
-        → Rising st was root c above next (S .1) (nearTo g holder) len′ (filled || r .full) (counts + 1) leans′ l′ u′ img₁
-    up-rising {leans′} {len′} {l′} le past e k =
+        → Rising st was root c above next (S .1) (nearTo g holder) len′ (filled || full) (counts + 1) leans′ l′ u′ img₁
+    up-rising {leans′} {len′} {l′} le e k =
         record {
           setup = w .setup;
           reads = w .reads;
@@ -258,11 +258,11 @@ module _ {st : Config} {was : List ℕ} {root : Row} {c : Chain} {s : Position} 
           long = e;
           grows = grows-goes st (valid w .ranges) c s q false rest old (row, work) too-large (w .grows);
           below = next-below;
-          marked = cut .marked;
-          past = past;
-          full = ap (λ (b : Bool). b || r .full) (w .full) ∙ cut .full;
-          splits = add-one counts ∙ ap suc (w .splits) ∙ sym (cut .splits);
-          lean = le ∙ (λ i. leanNow st row (w .splits i) (w .lean i)) ∙ sym (cut .lean);
+          marked = cut .used;
+          past = cut .past;
+          full = ap (λ (b : Bool). b || full) (w .full) ∙ cut .full;
+          splits = add-one counts ∙ ap suc (w .splits) ∙ sym (split-counts st q row v .0);
+          lean = le ∙ (λ i. leanNow (w .splits i) (w .lean i) (leanOf st row)) ∙ sym (split-counts st q row v .1);
           short = omega (arith, w .short);
           same = next-same;
           still = next-still;

@@ -1,10 +1,8 @@
 // From the record that an insert changed upwards: each record is written, or split, and the separator of one that is not settled goes to the record above.
 use base_layout::Growing;
-use base_layout::Setup;
 use base_layout::back_at;
 use base_layout::settled_at;
 use grow_replace_proxy::lift;
-use grow_write_back::first_lean;
 use grow_write_back::keep;
 use grow_write_back::split_off;
 use model::Settings;
@@ -13,7 +11,6 @@ ghost use lib.ListN.{length};
 ghost use lib.IntN.{pos};
 ghost use Rattle.model.specs.Claims.{InLean};
 ghost use Rattle.base_layout.specs.Growing.{bufferSize};
-ghost use Rattle.grow_write_back.specs.Leaning.{Leaning};
 ghost use Rattle.grow_cascade.specs.Rising.{Risen};
 ghost use Rattle.grow_cascade.specs.Stops.{leanNow};
 ghost use Rattle.grow_cascade.specs.Cascade.{Cascade, goalOf, memOf};
@@ -25,15 +22,15 @@ pub struct Grown {
     pub lean: i32,
 }
 
-// The lean once the record that buf is has been split: that of the first split stays.
-fn lean_now(splits: u32, lean: i32, buf: &[u8], setup: Setup) -> i32
-    requires { ⌜ InLean lean × Leaning (now buf) setup ⌝ }
-    ensures { λ r. ⌜ ((w : Leaning (now (buf .entry)) setup) → r ≡ leanNow (w .st) (w .row) splits lean) ⌝ }
+// The lean after a split whose own is `last`: that of the first split stays.
+fn lean_now(splits: u32, lean: i32, last: i32) -> i32
+    requires { ⌜ InLean lean × InLean last ⌝ }
+    ensures { λ r. ⌜ r ≡ leanNow splits lean last ⌝ }
 {
     if splits != 0 {
         return lean;
     }
-    first_lean(buf, setup)
+    last
 }
 
 // The record on the page that `start` is near has the new content buf[..len]; `full` says whether a page was missing before.
@@ -62,10 +59,10 @@ pub fn cascade(
             keep(image, g, &buf[..len], settled, holder);
             return Grown { full, splits, lean };
         }
-        lean = lean_now(splits, lean, &buf[..len], setup);
-        splits = splits + 1;
         let mut sep = [0u8; Growing::SEPARATOR];
         let s = split_off(&buf[..len], image, widths, g, settled, &mut sep);
+        lean = lean_now(splits, lean, s.lean);
+        splits = splits + 1;
         full = full | s.full;
         if settled == 1 {
             keep(image, g, &sep[..s.end], settled, holder);

@@ -1,50 +1,35 @@
 -- A group that a split sets apart: what the code of its record and of its proxy needs.
 use mathlib.Core.Path.{_≡_, refl, sym, ap, _∙_}
-use mathlib.Core.Bool.{Bool, true, false, cond, not, _||_, false≢true, true≢false}
+use mathlib.Core.Bool.{Bool, true, false, cond, not, _||_, or-false, false≢true, true≢false}
 use mathlib.Core.List.{List, [], _∷_, _++_, append-nil}
 use Prim.Native.Nat.{ℕ, _+_, _<_, _≤_}
 use native.Mathlib.Omega.{arith}
 use native.Mathlib.Nat.{zero-add}
 use lib.Dec.{eqb}
-use lib.ListN.{length, take, drop, set}
+use lib.ListN.{length, take, drop, set, length-set}
 use lib.Seq.{take-at}
 use Rattle.theory_row_bytes.specs.RowAt.{RowIs}
 use Rattle.model.specs.Limits.{mostPages, capacity}
 use Rattle.model.specs.Row.{Row, nil, agg, lit, rec, size, isNil, lone, loneRec, recordSize, two, header, bytes, recordBytes, Config, noHead}
-use Rattle.model.specs.Reading.{twoAt}
-use Rattle.model.specs.Growth.{freeFrom}
-use Rattle.theory_rows.specs.Laws.{length-bytes, isNil-nil, cond-case}
+use Rattle.model.specs.Reading.{twoAt, pageOf}
+use Rattle.model.specs.Growth.{Work, freeFrom, group}
+use Rattle.theory_rows.specs.Laws.{length-bytes, isNil-nil, size-some, size-nil}
 use Rattle.theory_rows.specs.Fits.{Fits}
-use Rattle.theory_rows.specs.Pages.{or-left}
+use Rattle.theory_rows.specs.Pages.{or-left, free-found}
+use Rattle.theory_page_memory.specs.Memory.{Mem, putMem, groupMem, groupM}
 use Rattle.base_numbers.specs.Over.{over, over-right, over-then}
 use Rattle.base_layout.specs.declared.Growing.{Growing}
 use Rattle.base_layout.specs.Setup.{setupOf}
 use Rattle.base_layout.specs.Growing.{pages-of}
-use Rattle.grow_pages.specs.Write.{usedBy, setPage, pageBytesOf}
+use Rattle.grow_pages.specs.Write.{usedBy, setPage, pageBytesOf, used-taken, free-same}
 use Rattle.grow_pages.specs.Links.{Below, Linked}
-use Rattle.grow_pages.specs.Relinked.{written}
-use Rattle.grow_widths.specs.Tally.{numberOf}
+use Rattle.grow_pages.specs.Relinked.{After, written, after-written}
+use Rattle.grow_widths.specs.Tally.{numberOf, entry-some}
 use Rattle.grow_widths.specs.Tallying.{linked-most}
 use Rattle.grow_split_point.specs.Kids.{Node, node, sizeOf}
-use Rattle.grow_split_point.specs.Chosen.{size-some}
-use Rattle.grow_groups.specs.declared.Output.{Output}
-use Rattle.grow_groups.specs.Used.{Past, free-within, set-past}
-
--- What a split makes of a row and of the bytes that it works on: the row that comes of it, the table of pages in use, whether a page was taken where none
--- was free, the image.
-pub record Cutting : Type 0 where
-  pub row : Row
-  pub used : List ℕ
-  pub full : Bool
-  pub img : List ℕ
-
--- The model's group over the table of pages in use and the image. A dry run leaves the image as it is, and is else the same.
-unfoldable pub groupI : (st : Config) → (g : Growing) → (group : Row) → (used image : List ℕ) → Cutting
-groupI st g r u img =
-    let q = freeFrom st (st .pages) (usedBy u) (g .near) in
-    let stay : Cutting = record { row = r; used = u; full = false; img = img } in
-    let own : Cutting = record { row = rec q false r nil; used = set u q (numberOf u r); full = eqb q 0; img = cond (g .dry) img (written q false 0 r img) } in
-    cond (isNil r || loneRec r) stay own
+use Rattle.grow_groups.specs.Used.{Env, free-within, set-past}
+use Rattle.grow_groups.specs.Tells.{keeps-row, own-keeps}
+use Rattle.grow_groups.specs.Step.{InStep, Step}
 
 -- ── a proxy ──
 
@@ -69,17 +54,11 @@ pub record NewRecord (l : List ℕ) (n : ℕ) : Type 0 where
   pub moves : (isNil row || loneRec row) ≡ false
   pub small : recordSize row ≤ capacity
 
-nil-size : (r : Row) → size r ≡ 0 → isNil r ≡ true
-nil-size nil e = refl
-nil-size (agg h cs rest) e = absurd (omega arith)
-nil-size (lit h c rest) e = absurd (omega arith)
-nil-size (rec p s r rest) e = absurd (omega arith)
-
 size-lone : (r : Row) → (isNil r || loneRec r) ≡ false → sizeOf r ≡ size r → lone r ≡ true
 size-lone nil e k = absurd (true≢false e)
-size-lone (agg h cs rest) e k = nil-size rest (omega arith)
-size-lone (lit h c rest) e k = nil-size rest (omega arith)
-size-lone (rec p s r rest) e k = absurd (true≢false (sym (nil-size rest (omega arith)) ∙ e))
+size-lone (agg h cs rest) e k = size-nil rest (omega arith)
+size-lone (lit h c rest) e k = size-nil rest (omega arith)
+size-lone (rec p s r rest) e k = absurd (true≢false (sym (size-nil rest (omega arith)) ∙ e))
 
 lone-size : (r : Row) → lone r ≡ true → sizeOf r ≡ size r
 lone-size nil e = absurd (false≢true e)
@@ -138,24 +117,6 @@ page-with q x y img out e k = e ∙ ap (λ (z : List ℕ). setPage q (pageBytesO
 
 -- ── a group ──
 
--- The bytes l are a group, whose record fits a page, and for whose row or proxy there is room in the separator.
-pub record Grouping (g : Growing) (l u img : List ℕ) (room : ℕ) : Type 0 where
-  pub st : Config
-  pub setup : setupOf st ≡ g .setup
-  pub row : Row
-  pub is : RowIs l row
-  pub below : Below (g .setup .pages) row
-  pub fits : Fits (groupI st g row u img .row)
-  pub within : size (groupI st g row u img .row) ≤ room
-
--- What a step leaves.
-pub record Outcome (c : Cutting) (at : ℕ) (r : Output) (u img out before : List ℕ) : Type 0 where
-  pub used : u ≡ c .used
-  pub image : img ≡ c .img
-  pub filled : r .full ≡ c .full
-  pub written : out ≡ over at (bytes (c .row)) before
-  pub next : r .end ≡ at + size (c .row)
-
 -- The image of a run that writes, and of a dry one.
 pub wet : (dry : Bool) (b img x : List ℕ) → not dry ≡ true → b ≡ x → b ≡ cond dry img x
 wet true b img x e q = absurd (false≢true e)
@@ -165,59 +126,97 @@ pub still : (dry : Bool) (b img x : List ℕ) → not dry ≡ false → b ≡ im
 still true b img x e q = q
 still false b img x e q = absurd (true≢false e)
 
-pub group-past : (st : Config) (g : Growing) → setupOf st ≡ g .setup → g .setup .pages ≤ mostPages → g .near < g .setup .pages
-    → (r : Row) (u img : List ℕ) → Past (g .setup .pages) u → Past (g .setup .pages) (groupI st g r u img .used)
-unfolding groupI
-group-past st g e few start r u img h =
-    let n = g .setup .pages in
-    cond-case (λ (c : Cutting). Past n (c .used)) (isNil r || loneRec r) (λ _. h)
-    (λ _. set-past n _ (numberOf u r) u (free-within st n (g .near) (usedBy u) (pages-of e) few start h (st .pages)) h)
+-- The bytes l are a group, whose record fits a page, and for whose row or proxy there is room in the separator; `state` is what the model carries along.
+pub record Grouping (g : Growing) (l u img : List ℕ) (room : ℕ) : Type 0 where
+  pub st : Config
+  pub setup : setupOf st ≡ g .setup
+  pub row : Row
+  pub is : RowIs l row
+  pub below : Below (g .setup .pages) row
+  pub state : Work × Mem
+  pub same : InStep g u img state
+  pub fits : Fits (group st (g .near) row (state .0) .0)
+  pub within : size (group st (g .near) row (state .0) .0) ≤ room
 
-module _ {g : Growing} {l u img : List ℕ} {room : ℕ} (w : Grouping g l u img room) where
+module _ {g : Growing} {l u img : List ℕ} {room : ℕ} (env : Env g u img) (w : Grouping g l u img room) where
+  abbrev q : ℕ
+  q = freeFrom (w .st) (w .st .pages) (w .state .0 .used) (g .near)
+
+  -- What the model does.
+  abbrev put : Row × (Work × Mem)
+  put = groupM (w .st) (g .near) (w .row) (w .state)
+
   group-length : length l ≡ size (w .row)
   group-length = ap length (w .is) ∙ length-bytes (w .row)
 
-  pub kept-room : true ≡ (isNil (w .row) || loneRec (w .row)) → length l ≤ room
-  unfolding groupI
-  kept-room h =
-      let z : size (w .row) ≤ room = rw (sym h) at (w .within) in
-      omega (arith, group-length)
+  module _ (h : true ≡ (isNil (w .row) || loneRec (w .row))) where
+    pub kept-room : length l ≤ room
+    unfolding group
+    kept-room =
+        let z : size (w .row) ≤ room = rw (sym h) at (w .within) in
+        omega (arith, group-length)
 
-  pub group-kept : true ≡ (isNil (w .row) || loneRec (w .row)) → (at : ℕ) (out o : List ℕ) → o ≡ over at l out
-      → Outcome (groupI (w .st) g (w .row) u img) at (record { end = at + length l; full = false }) u img o out
-  unfolding groupI
-  group-kept h at out o q =
-      rw (sym h) (record {
-        used = refl;
-        image = refl;
-        filled = refl;
-        written = q ∙ ap (λ (v : List ℕ). over at v out) (w .is);
-        next = omega
-            (arith, group-length);
-      })
+    pub group-kept : (at : ℕ) (out o : List ℕ) → o ≡ over at l out → Step g (w .row) (w .state) put at (at + length l) false u img out u img o
+    unfolding group groupMem
+    group-kept at out o e =
+        rw (sym h) (record {
+          used = w .same .used;
+          full = or-false (w .state .0 .full);
+          past = env .past;
+          after = record { long = refl; same = λ _. refl; pages = w .same .pages };
+          below = w .below;
+          written = e ∙ ap (λ (v : List ℕ). over at v out) (w .is);
+          next = omega (arith, group-length);
+          tells = λ t _. keeps-row (λ _ _. refl) refl (w .row) t;
+        })
 
   module _ (h : false ≡ (isNil (w .row) || loneRec (w .row))) where
-    pub group-small : recordSize (w .row) ≤ capacity
-    unfolding groupI
-    group-small =
-        let f : Fits (rec (freeFrom (w .st) (w .st .pages) (usedBy u) (g .near)) false (w .row) nil) = rw (sym h) at (w .fits) in
-        f .0 .fits
+    pub fits-own : Fits (rec q false (w .row) nil)
+    unfolding group
+    fits-own = rw (sym h) at (w .fits)
 
     abbrev pub group-record : NewRecord l (g .setup .pages)
-    group-record = record { row = w .row; is = w .is; below = w .below; moves = sym h; small = group-small }
+    group-record = record { row = w .row; is = w .is; below = w .below; moves = sym h; small = fits-own .0 .fits }
 
     pub proxy-room : 8 ≤ room
-    unfolding groupI
+    unfolding group
     proxy-room = let z : 8 + 0 ≤ room = rw (sym h) at (w .within) in omega arith
 
-    abbrev pub group-linked : g .setup .pages ≤ mostPages → Linked l mostPages
-    group-linked few = linked-most few (part-linked l (g .setup .pages) group-record)
+    abbrev pub group-linked : Linked l mostPages
+    group-linked = linked-most (env .few) (part-linked l (g .setup .pages) group-record)
 
-    pub group-moved : (q n at : ℕ) (b out o : List ℕ) → q ≡ freeFrom (w .st) (g .setup .pages) (usedBy u) (g .near) → n ≡ numberOf u (w .row)
-        → b ≡ cond (g .dry) img (written q false 0 (w .row) img) → o ≡ over at (proxyBytes q) out
-        → Outcome (groupI (w .st) g (w .row) u img) at (record { end = at + 8; full = eqb q 0 }) (set u q n) b o out
-    unfolding groupI
-    group-moved q n at b out o e en pb po =
-        let k : q ≡ freeFrom (w .st) (w .st .pages) (usedBy u) (g .near) =
-        e ∙ ap (λ (i : ℕ). freeFrom (w .st) i (usedBy u) (g .near)) (sym (pages-of (w .setup))) in
-        rw (sym h, ← k) (record { used = ap (set u q) en; image = pb; filled = refl; written = po; next = omega arith })
+    pub group-moved : (k n at : ℕ) (b out o : List ℕ) → k ≡ freeFrom (w .st) (g .setup .pages) (usedBy u) (g .near) → n ≡ numberOf u (w .row)
+        → b ≡ cond (g .dry) img (written k false 0 (w .row) img) → o ≡ over at (proxyBytes k) out
+        → Step g (w .row) (w .state) put at (at + 8) (eqb k 0) u img out (set u k n) b o
+    unfolding group groupMem
+    group-moved k n at b out o e en pb po =
+        let pages = pages-of (w .setup) in
+        let many : w .st .pages ≤ mostPages = omega (arith, pages, env .few) in
+        let at-k : k ≡ freeFrom (w .st) (w .st .pages) (usedBy u) (g .near) = e ∙ ap (λ (i : ℕ). freeFrom (w .st) i (usedBy u) (g .near)) (sym pages) in
+        let z : k ≡ q = at-k ∙ free-same (w .st) many (usedBy u) (w .state .0 .used) (w .same .used .same) (w .st .pages) (g .near) (omega (arith, env .start)) in
+        let inside : k < g .setup .pages =
+        omega (arith, at-k, free-within (w .st) (g .setup .pages) (g .near) (usedBy u) pages (env .few) (env .start) (env .past) (w .st .pages)) in
+        let long = w .same .used .long in
+        let low : k < length u = omega (arith, long, env .few) in
+        rw (sym h, ← z, en) (record {
+          used = record {
+            long = length-set u k (numberOf u (w .row)) ∙ long;
+            same = λ x i. used-taken u k (numberOf u (w .row)) x (entry-some _) low ∙ ap (λ (y : Bool). cond (eqb x k) true y) (w .same .used .same x i);
+          };
+          full = refl;
+          past = set-past (g .setup .pages) k (numberOf u (w .row)) u inside (env .past);
+          after = after-from (w .same .pages)
+              (rw pb (after-written (g .setup .pages) k 0 false (w .row) img (w .below) (fits-own .0 .fits) (env .image) inside (g .dry)));
+          below = (inside, tt);
+          written = po;
+          next = omega arith;
+          tells = λ t f. own-keeps u k (w .row) low (free-at at-k f) (or-left (isNil (w .row)) (loneRec (w .row)) (sym h)) t;
+        })
+      where
+        free-at : k ≡ freeFrom (w .st) (w .st .pages) (usedBy u) (g .near) → eqb k 0 ≡ false → usedBy u k ≡ false
+        free-at z f =
+            ap (usedBy u) z ∙ free-found (w .st) (w .st .pages) (usedBy u) (g .near) (ap (λ (i : ℕ). eqb i 0) (sym z) ∙ f)
+
+        after-from : {new : List ℕ} → (g .dry ≡ false → pageOf img ≡ w .state .1) → After (g .dry) new img (putMem k false 0 (w .row) (pageOf img))
+            → After (g .dry) new img (putMem k false 0 (w .row) (w .state .1))
+        after-from p a = record { long = a .long; same = a .same; pages = λ d. a .pages d ∙ ap (putMem k false 0 (w .row)) (p d) }

@@ -1,2 +1,4 @@
 pub mod Used
+pub mod Tells
+pub mod Step
 pub mod Group

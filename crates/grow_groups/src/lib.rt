@@ -18,8 +18,10 @@ ghost use Rattle.model.specs.Row.{recordBytes};
 ghost use Rattle.base_numbers.specs.Over.{over};
 ghost use Rattle.grow_pages.specs.Write.{setPage, pageBytesOf};
 ghost use Rattle.grow_pages.specs.Relinked.{written};
+ghost use Rattle.theory_page_memory.specs.Memory.{groupM};
 ghost use Rattle.grow_groups.specs.Used.{Env};
-ghost use Rattle.grow_groups.specs.Group.{groupI, proxyBytes, NewRecord, Grouping, Outcome};
+ghost use Rattle.grow_groups.specs.Step.{Step};
+ghost use Rattle.grow_groups.specs.Group.{proxyBytes, NewRecord, Grouping};
 
 // Where the written part of the separator ends, and whether a page was taken where none was free.
 pub struct Output {
@@ -77,8 +79,8 @@ pub fn put_group(
     requires { ⌜ Env g (now widths) (now image)
         × ((at ≤ length (now out)) × Grouping g (now part) (now widths) (now image) (length (now out) - at)) ⌝ }
     ensures { λ r. ⌜ ((w : Grouping g (now (part .entry)) (now (widths .entry)) (now (image .entry)) (length (now (out .entry)) - at))
-        → Outcome (groupI (w .st) g (w .row) (now (widths .entry)) (now (image .entry))) at r
-        (now (widths .exit)) (now (image .exit)) (now (out .exit)) (now (out .entry))) ⌝ }
+        → Step g (w .row) (w .state) (groupM (w .st) (g .near) (w .row) (w .state)) at (r .end) (r .full)
+        (now (widths .entry)) (now (image .entry)) (now (out .entry)) (now (widths .exit)) (now (image .exit)) (now (out .exit))) ⌝ }
 {
     if stays(part) {
         copy_in(part, out, at);

@@ -8,9 +8,8 @@ use Rattle.model.specs.Limits.{mostPages, pageSize, capacity}
 use Rattle.model.specs.Row.{Row, nil, agg, lit, rec, _⊹_, size, two, bytes, count}
 use Rattle.model.specs.Reading.{sizeAt, nameAt, kindAt}
 use Rattle.theory_row_bytes.specs.RowAt.{RowAt, FirstNode, first-node, row-into, RowIs}
-use Rattle.theory_rows.specs.Works.{Parted}
 use Rattle.theory_page_memory.specs.Links.{All, all-parted, self}
-use Rattle.theory_rows.specs.Laws.{length-bytes, size-⊹}
+use Rattle.theory_rows.specs.Laws.{Parted, length-bytes, size-⊹}
 use Rattle.base_numbers.specs.Over.{over}
 
 -- What a step makes of some bytes for each page that the row names itself, one after another.

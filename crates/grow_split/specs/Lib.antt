@@ -1,5 +1,2 @@
-pub mod Cutting
 pub mod Separate
-pub mod Same
-pub mod Tells
 pub mod Severed

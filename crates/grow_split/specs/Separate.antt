@@ -1,109 +1,32 @@
--- A level of the separator: what the code needs of its plan.
+-- A level of the separator: what the code needs of it, and what it leaves.
 use mathlib.Core.Path.{_≡_, refl, sym, ap, subst, _∙_}
-use mathlib.Core.Bool.{true, false, _||_, or-assoc}
-use mathlib.Core.List.{List, _++_, append-nil}
+use mathlib.Core.Bool.{Bool, true, false, cond, _||_, or-assoc}
+use mathlib.Core.List.{List}
 use Prim.Native.Nat.{ℕ, _+_, _-_, _≤_}
 use native.Mathlib.Omega.{arith}
 use lib.ListN.{length, take, drop}
-use Rattle.model.specs.Row.{Row, nil, agg, lit, rec, size, two, header, bytes, Config, Head}
+use Rattle.model.specs.Row.{Row, nil, agg, lit, rec, _⊹_, size, two, Config}
 use Rattle.model.specs.Reading.{sizeAt}
+use Rattle.model.specs.Growth.{Work, Cut, atD, through, startOf, separate, cutFrom, group}
 use Rattle.theory_rows.specs.Bound.{fits-parts}
-use Rattle.theory_rows.specs.Laws.{length-bytes, size-⊹, bytes-⊹}
+use Rattle.theory_rows.specs.Cut.{goesInto, into-agg, cutAt, choose-here}
+use Rattle.theory_rows.specs.Laws.{size-⊹}
 use Rattle.theory_rows.specs.Fits.{Fits}
 use Rattle.theory_row_bytes.specs.RowAt.{RowIs}
-use Rattle.theory_rows.specs.Plan.{Plan, grouped, under, both, separatePlan}
-use Rattle.base_numbers.specs.Over.{over, over-then, over-inside}
+use Rattle.theory_page_memory.specs.Memory.{Mem, groupMem, groupM}
+use Rattle.base_numbers.specs.Over.{over}
 use Rattle.grow_pages.specs.Links.{Below, below-parted}
 use Rattle.grow_split_point.specs.Kids.{Kids, headOf, kidsOf, restOf}
-use Rattle.grow_split_point.specs.Chosen.{passed, remains, goesInto, row-parts}
-use Rattle.grow_split_point.specs.Level.{kids-bytes, chosen, left-bytes, chosen-fits, inner, head-bytes, after-bytes}
+use Rattle.grow_split_point.specs.Chosen.{Chosen}
+use Rattle.grow_split_point.specs.Level.{kids-bytes, chosen, left-bytes, inner, head-bytes, after-bytes}
 use Rattle.base_layout.specs.declared.Growing.{Growing}
 use Rattle.base_layout.specs.Setup.{setupOf}
 use Rattle.grow_groups.specs.declared.Output.{Output}
 use Rattle.grow_groups.specs.Used.{Env, env-with}
-use Rattle.grow_groups.specs.Group.{Cutting, groupI, Grouping, Outcome}
+use Rattle.grow_groups.specs.Step.{InStep, Step, in-step, both-steps, under-step}
+use Rattle.grow_groups.specs.Group.{Grouping}
 use Rattle.grow_split.specs.declared.Children.{Children}
-use Rattle.grow_split.specs.Cutting.{followI, separateI, follow-past, fromPlan, plan-by}
-
--- ── the steps of a plan ──
-
--- The row of a step fits, and takes no more than so much room.
-abbrev pub Room : ℕ → Cutting → Type 0
-Room n c = Fits (c .row) × (size (c .row) ≤ n)
-
--- A header's size put right.
-resized : (lb : Head) (k v : ℕ) (b : List ℕ) → over 4 (two v) (header 1 lb k ++ b) ≡ header 1 lb v ++ b
-unfolding over
-resized lb k v b = refl
-
-module _ (st : Config) (g : Growing) (u img : List ℕ) where
-  pub env-after : {at : ℕ} {r : Output} {u₁ i₁ o₁ o₀ : List ℕ} (p : Plan) → setupOf st ≡ g .setup
-      → Outcome (followI st g p u img) at r u₁ i₁ o₁ o₀ → Env g u img → length i₁ ≡ length img → Env g u₁ i₁
-  env-after p e lf env k = env-with env k (rw (lf .used) (follow-past st g e (env .few) (env .start) p u img (env .past)))
-
-  -- A step, and another after it.
-  module _ {room : ℕ} (p q : Plan) (k : Room room (followI st g (both p q) u img)) where
-    abbrev A : Cutting
-    A = followI st g p u img
-
-    abbrev B : Cutting
-    B = followI st g q (A .used) (A .img)
-
-    sizes : size (A .row) + size (B .row) ≤ room
-    sizes = omega (arith, k .1, size-⊹ (A .row) (B .row))
-
-    pub first-room : Room room A
-    first-room = (fits-parts (A .row) (B .row) (k .0) .0, omega (arith, sizes))
-
-    module _ {at : ℕ} {r : Output} {u₁ i₁ o₁ o₀ : List ℕ} (lf : Outcome A at r u₁ i₁ o₁ o₀) where
-      pub next-room : (m : ℕ) → at + room ≤ m → Room (m - r .end) (followI st g q u₁ i₁)
-      next-room m h = rw (lf .used, lf .image) (fits-parts (A .row) (B .row) (k .0) .1, omega (arith, sizes, lf .next))
-
-      pub done-both : {s : Output} {u₂ i₂ o₂ : List ℕ} → at + room ≤ length o₀ → Outcome (followI st g q u₁ i₁) (r .end) s u₂ i₂ o₂ o₁
-          → Outcome (followI st g (both p q) u img) at (record { end = s .end; full = r .full || s .full }) u₂ i₂ o₂ o₀
-      done-both {s} {u₂} {i₂} {o₂} h rt =
-          let rt′ : Outcome B (r .end) s u₂ i₂ o₂ o₁ =
-          subst (λ (z : List ℕ × List ℕ). Outcome (followI st g q (z .0) (z .1)) (r .end) s u₂ i₂ o₂ o₁) (λ i. (lf .used i, lf .image i)) rt in
-          let n = length-bytes (A .row) in
-          record {
-            used = rt′ .used;
-            image = rt′ .image;
-            filled = λ i. lf .filled i || rt′ .filled i;
-            written =
-                over-then at (r .end) (bytes (A .row)) (bytes (B .row)) o₀ o₁ o₂ (lf .written) (rt′ .written) (omega (arith, lf .next))
-                (omega (arith, sizes, length-bytes (B .row))) ∙ ap (λ (y : List ℕ). over at y o₀) (sym (bytes-⊹ (A .row) (B .row)));
-            next = omega (arith, rt′ .next, lf .next, size-⊹ (A .row) (B .row));
-          }
-
-  -- A step on the children of a node: its header is written before it, and its size after it.
-  pub done-under : {room at : ℕ} {r : Output} {u₁ i₁ o₁ o₀ : List ℕ} (h : Head) (p : Plan) → Room room (followI st g (under h p) u img)
-      → at + room ≤ length o₀ → (n v : ℕ) {o₂ o₃ : List ℕ}
-      → o₁ ≡ over at (header 1 h n) o₀ → Outcome (followI st g p u img) (at + 6) r u₁ i₁ o₂ o₁ → r .end ≡ at + v → o₃ ≡ over (at + 4) (two v) o₂
-      → Outcome (followI st g (under h p) u img) at r u₁ i₁ o₃ o₀
-  done-under {at = at} {o₁ = o₁} {o₀ = o₀} h p k room n v {o₂} {o₃} p1 lf e p3 =
-      let C = followI st g p u img .row in
-      let z : v ≡ 6 + size C = omega (arith, lf .next) in
-      let w2 : o₂ ≡ over at (header 1 h n ++ bytes C) o₀ =
-      over-then at (at + 6) (header 1 h n) (bytes C) o₀ o₁ o₂ p1 (lf .written) refl (omega (arith, k .1, length-bytes C)) in
-      let w3 : o₃ ≡ over at (header 1 h (6 + size C) ++ bytes C) o₀ =
-      p3 ∙ (λ i. over (at + 4) (two (z i)) (w2 i))
-      ∙ over-inside at 4 (header 1 h n ++ bytes C) (two (6 + size C)) o₀ (omega arith) (omega (arith, k .1, length-bytes C))
-      ∙ ap (λ (y : List ℕ). over at y o₀) (resized h n (6 + size C) (bytes C)) in
-      record {
-        used = lf .used;
-        image = lf .image;
-        filled = lf .filled;
-        written = w3 ∙ ap (λ (y : List ℕ). over at (header 1 h (6 + size C) ++ y) o₀) (sym (append-nil (bytes C)));
-        next = omega (arith, lf .next);
-      }
-
--- ── a level ──
-
-pub below-first : (n : ℕ) (r : Row) → Below n r → Below n (kidsOf r) × Below n (restOf r)
-below-first n nil h = (tt, tt)
-below-first n (agg l cs rest) h = h
-below-first n (lit l c rest) h = (tt, h)
-below-first n (rec p s r rest) h = (tt, h .1)
+use Rattle.grow_split.specs.declared.Split.{Split}
 
 -- A row to split, that stands in l from pos to end; the groups' records fit, and for the separator's row there is room.
 pub record Sep (g : Growing) (ch : Children) (l u img : List ℕ) (room : ℕ) : Type 0 where
@@ -111,114 +34,143 @@ pub record Sep (g : Growing) (ch : Children) (l u img : List ℕ) (room : ℕ) :
   pub setup : setupOf st ≡ g .setup
   pub kids : Kids l (ch .pos) (ch .end)
   pub below : Below (g .setup .pages) (kids .row)
-  pub fits : Fits (separateI st g (ch .p) (ch .pos) nil (kids .row) u img .row)
-  pub within : size (separateI st g (ch .p) (ch .pos) nil (kids .row) u img .row) ≤ room
+  pub state : Work × Mem
+  pub same : InStep g u img state
+  pub fits : Fits (separate (groupM st (g .near)) (cutFrom st (ch .p) (ch .pos) nil (kids .row)) state .0)
+  pub within : size (separate (groupM st (g .near)) (cutFrom st (ch .p) (ch .pos) nil (kids .row)) state .0) ≤ room
 
--- A group of it, whose bytes are a part of l.
-abbrev grouping : {g : Growing} {ch : Children} {l u img u′ img′ part : List ℕ} {room room′ : ℕ} (w : Sep g ch l u img room) (row : Row) → RowIs part row
-    → Below (g .setup .pages) row → Room room′ (groupI (w .st) g row u′ img′) → Grouping g part u′ img′ room′
-grouping w row is below k = record { st = w .st; setup = w .setup; row = row; is = is; below = below; fits = k .0; within = k .1 }
+module _ {g : Growing} {ch : Children} {l u img : List ℕ} {room : ℕ} (w : Sep g ch l u img room) where
+  -- Its cut, and what the model makes of it.
+  abbrev pub levelCut : Cut
+  levelCut = cutFrom (w .st) (ch .p) (ch .pos) nil (w .kids .row)
 
-module _ {g : Growing} {ch : Children} {l u img : List ℕ} {room x : ℕ} (w : Sep g ch l u img room)
-    (xe : x ≡ ch .pos + size (passed (ch .p) (ch .pos) (w .kids .row))) where
-  -- The group before the chosen child; that child and those after it, and what becomes of them.
-  abbrev L : Row
-  L = passed (ch .p) (ch .pos) (w .kids .row)
+  abbrev pub put : Row → Work × Mem → Row × (Work × Mem)
+  put = groupM (w .st) (g .near)
 
-  abbrev rest : Row
-  rest = remains (ch .p) (ch .pos) (w .kids .row)
+  -- What the code leaves of the level, and where d starts.
+  abbrev pub Separated : (at : ℕ) → Split → (out u′ img′ out′ : List ℕ) → Type 0
+  Separated at r out u′ img′ out′ =
+      Step g (w .kids .row) (w .state) (separate put levelCut (w .state)) at (r .end) (r .full) u img out u′ img′ out′ × (r .d ≡ startOf (ch .pos) levelCut)
 
-  abbrev from : Plan
-  from = fromPlan (w .st) (ch .p) x rest
+  -- A group of it, whose bytes are a part of l.
+  abbrev pub grouping : {u′ img′ part : List ℕ} {room′ : ℕ} (s : Work × Mem) (row : Row) → InStep g u′ img′ s → RowIs part row → Below (g .setup .pages) row
+      → Fits (put row s .0) × (size (put row s .0) ≤ room′) → Grouping g part u′ img′ room′
+  grouping s row same is below k =
+      record { st = w .st; setup = w .setup; row = row; is = is; below = below; state = s; same = same; fits = k .0; within = k .1 }
+
+module _ {g : Growing} {ch : Children} {l u img : List ℕ} {room x : ℕ} (w : Sep g ch l u img room) (c : Chosen (w .st) (ch .p) (ch .pos) (w .kids .row) x) where
+  -- What the model makes of the group before the chosen child, and of that child and those after it.
+  abbrev pub A : Row × (Work × Mem)
+  A = put w (c .left) (w .state)
+
+  abbrev pub T : Row × (Work × Mem)
+  T = separate (put w) (cutAt (w .st) (ch .p) x nil (c .from)) (A .1)
+
+  cut-is : levelCut w ≡ cutAt (w .st) (ch .p) x (c .left) (c .from)
+  cut-is = choose-here (w .st) (ch .p) (c .way) (c .last)
+
+  level-is : separate (put w) (levelCut w) (w .state) ≡ (A .0 ⊹ T .0, T .1)
+  unfolding separate group groupMem
+  level-is = ap (λ (k : Cut). separate (put w) k (w .state)) cut-is ∙ go (goesInto (w .st) (c .from))
+    where
+      go : (b : Bool) → let k : Row → Cut = λ left. cond b (through left (headOf (c .from)) (cutFrom (w .st) (ch .p) (x + 6) nil (kidsOf (c .from)))
+          (restOf (c .from))) (atD left (c .from)) in
+          let t = separate (put w) (k nil) (A .1) in separate (put w) (k (c .left)) (w .state) ≡ (A .0 ⊹ t .0, t .1)
+      go true = refl
+      go false = refl
+
+  pub rooms : Fits (A .0) × Fits (T .0) × (size (A .0) + size (T .0) ≤ room)
+  rooms =
+      let f = fits-parts (A .0) (T .0) (subst (λ (o : Row × (Work × Mem)). Fits (o .0)) level-is (w .fits)) in
+      (f .0, f .1, omega (arith, w .within, ap (λ (o : Row × (Work × Mem)). size (o .0)) level-is, size-⊹ (A .0) (T .0)))
+
+  pub belows : Below (g .setup .pages) (c .left) × Below (g .setup .pages) (c .from)
+  belows = below-parted (g .setup .pages) .parts (c .left) (c .from) (subst (Below (g .setup .pages)) (c .way .parts) (w .below))
 
   abbrev pub at-x : Kids l x (ch .end)
-  at-x = chosen (w .kids) (ch .p) x xe
-
-  whole : separatePlan (w .st) (ch .p) (ch .pos) nil (w .kids .row) ≡ both (grouped L) from
-  whole =
-      plan-by (w .st) (ch .p) (ch .pos) nil (w .kids .row) ∙ ap (λ (i : ℕ). both (grouped L) (fromPlan (w .st) (ch .p) i rest)) (sym xe)
-
-  pub belows : Below (g .setup .pages) L × Below (g .setup .pages) rest
-  belows = below-parted (g .setup .pages) .parts L rest (subst (Below (g .setup .pages)) (row-parts (ch .p) (ch .pos) (w .kids .row)) (w .below))
-
-  pub x-fits : (ch .pos ≤ x) × ((x + 6 ≤ ch .end) × (ch .end ≤ length l))
-  x-fits = chosen-fits (w .kids) (ch .p) x xe
-
-  level-room : Room room (followI (w .st) g (both (grouped L) from) u img)
-  level-room = subst (λ (p : Plan). Room room (followI (w .st) g p u img)) whole (w .fits, w .within)
-
-  pub left-room : Room room (groupI (w .st) g L u img)
-  left-room = first-room (w .st) g u img (grouped L) from level-room
+  at-x = chosen (w .kids) c
 
   abbrev pub left-group : Grouping g (take (x - ch .pos) (drop (ch .pos) l)) u img room
-  left-group = grouping w L (left-bytes (w .kids) (ch .p) x xe) (belows .0) left-room
+  left-group = grouping w (w .state) (c .left) (w .same) (left-bytes (w .kids) c) (belows .0) (rooms .0, omega (arith, rooms .2))
 
 -- After the left group, in an out of the same length.
 pub record Left {g : Growing} {ch : Children} {l u img : List ℕ} {room : ℕ} (w : Sep g ch l u img room) (at x : ℕ) (r : Output) (u₁ i₁ o₁ o₀ : List ℕ)
     : Type 0 where
-  pub is : x ≡ ch .pos + size (passed (ch .p) (ch .pos) (w .kids .row))
+  pub is : Chosen (w .st) (ch .p) (ch .pos) (w .kids .row) x
   pub enough : at + room ≤ length o₀
-  pub done : Outcome (groupI (w .st) g (passed (ch .p) (ch .pos) (w .kids .row)) u img) at r u₁ i₁ o₁ o₀
+  pub done : Step g (is .left) (w .state) (A w is) at (r .end) (r .full) u img o₀ u₁ i₁ o₁
   pub same : length o₁ ≡ length o₀
 
 module _ {g : Growing} {ch : Children} {l u img : List ℕ} {room at x : ℕ} {r : Output} {u₁ i₁ o₁ o₀ : List ℕ} {w : Sep g ch l u img room}
     (v : Left w at x r u₁ i₁ o₁ o₀) where
   -- The child that is chosen and those after it.
   abbrev pub F : Row
-  F = remains (ch .p) (ch .pos) (w .kids .row)
+  F = v .is .from
+
+  abbrev pub s₁ : Work × Mem
+  s₁ = A w (v .is) .1
 
   pub left-end : r .end ≤ length o₁
-  left-end = omega (arith, v .enough, v .same, left-room w (v .is) .1, v .done .next)
+  left-end = omega (arith, v .enough, v .same, rooms w (v .is) .2, v .done .next)
 
-  pub env-left : Env g u img → length i₁ ≡ length img → Env g u₁ i₁
-  env-left env k = env-after (w .st) g u img (grouped (L w (v .is))) (w .setup) (v .done) env k
+  pub env-left : Env g u img → Env g u₁ i₁
+  env-left env = env-with env (v .done .after .long) (v .done .past)
 
-  from-room : Room (length o₁ - r .end) (followI (w .st) g (fromPlan (w .st) (ch .p) x F) u₁ i₁)
-  from-room =
-      next-room (w .st) g u img (grouped (L w (v .is))) (from w (v .is)) (level-room w (v .is)) (v .done) (length o₁) (omega (arith, v .enough, v .same))
+  -- What comes of them, and the level that is then done.
+  pub from-room : Fits (T w (v .is) .0) × (size (T w (v .is) .0) ≤ length o₁ - r .end)
+  from-room = (rooms w (v .is) .1, omega (arith, v .enough, v .same, rooms w (v .is) .2, v .done .next))
 
-  done-from : {p : Plan} {s : Output} {u₂ i₂ o₂ : List ℕ} → fromPlan (w .st) (ch .p) x F ≡ p → Outcome (followI (w .st) g p u₁ i₁) (r .end) s u₂ i₂ o₂ o₁
-      → Outcome (separateI (w .st) g (ch .p) (ch .pos) nil (w .kids .row) u img) at (record { end = s .end; full = r .full || s .full }) u₂ i₂ o₂ o₀
-  done-from {p} {s} {u₂} {i₂} {o₂} e rt =
-      rw (whole w (v .is)) (done-both (w .st) g u img (grouped (L w (v .is))) (from w (v .is)) (level-room w (v .is)) (v .done) (v .enough)
-      (subst (λ (p : Plan). Outcome (followI (w .st) g p u₁ i₁) (r .end) s u₂ i₂ o₂ o₁) (sym e) rt))
+  done-from : (row : Row) (o : Row × (Work × Mem)) {e : ℕ} {f : Bool} {u₂ i₂ o₂ : List ℕ} → F ≡ row → T w (v .is) ≡ o
+      → Step g row s₁ o (r .end) e f u₁ i₁ o₁ u₂ i₂ o₂
+      → Step g (w .kids .row) (w .state) (separate (put w) (levelCut w) (w .state)) at e (r .full || f) u img o₀ u₂ i₂ o₂
+  done-from row o {e} {f} {u₂} {i₂} {o₂} k t rt =
+      let a = A w (v .is) .0 in
+      let z : size (T w (v .is) .0) ≡ size (o .0) = ap (λ (o : Row × (Work × Mem)). size (o .0)) t in
+      subst (λ (y : Row × (Row × (Work × Mem))). Step g (y .0) (w .state) (y .1) at e (r .full || f) u img o₀ u₂ i₂ o₂)
+      (λ i. ((sym (v .is .way .parts ∙ ap (λ (y : Row). v .is .left ⊹ y) k)) i, sym (level-is w (v .is) ∙ (λ j. (a ⊹ t j .0, t j .1))) i))
+      (both-steps (v .is .left) row (v .done) rt (omega (arith, v .enough, rooms w (v .is) .2, size-⊹ a (o .0))))
 
   -- ── the chosen child is d ──
 
   module _ (e : goesInto (w .st) F ≡ false) where
-    apart-is : fromPlan (w .st) (ch .p) x F ≡ grouped F
-    apart-is = rw e
-
-    pub right-room : Room (length o₁ - r .end) (groupI (w .st) g F u₁ i₁)
-    right-room = subst (λ (p : Plan). Room (length o₁ - r .end) (followI (w .st) g p u₁ i₁)) apart-is from-room
+    pub apart-is : T w (v .is) ≡ put w F s₁
+    unfolding separate group groupMem
+    apart-is = rw e refl
 
     abbrev pub right-group : Grouping g (take (ch .end - x) (drop x l)) u₁ i₁ (length o₁ - r .end)
-    right-group = grouping w F (kids-bytes (at-x w (v .is))) (belows w (v .is) .1) right-room
+    right-group =
+        grouping w s₁ F (in-step (v .done)) (kids-bytes (at-x w (v .is))) (belows w (v .is) .1)
+        (subst (λ (o : Row × (Work × Mem)). Fits (o .0) × (size (o .0) ≤ length o₁ - r .end)) apart-is from-room)
 
-    pub done-apart : {s : Output} {u₂ i₂ o₂ : List ℕ} → Outcome (groupI (w .st) g F u₁ i₁) (r .end) s u₂ i₂ o₂ o₁
-        → Outcome (separateI (w .st) g (ch .p) (ch .pos) nil (w .kids .row) u img) at (record { end = s .end; full = r .full || s .full }) u₂ i₂ o₂ o₀
-    done-apart rt = done-from apart-is rt
+    pub done-apart : {s : Output} {u₂ i₂ o₂ : List ℕ} → Step g F s₁ (put w F s₁) (r .end) (s .end) (s .full) u₁ i₁ o₁ u₂ i₂ o₂
+        → Separated w at (record { end = s .end; full = r .full || s .full; d = x }) o₀ u₂ i₂ o₂
+    done-apart rt =
+        let start : startOf (ch .pos) (cutAt (w .st) (ch .p) x (v .is .left) F) ≡ ch .pos + size (v .is .left) = rw e refl in
+        (done-from F (put w F s₁) refl apart-is rt, v .is .way .here ∙ sym start ∙ sym (ap (startOf (ch .pos)) (cut-is w (v .is))))
 
   -- ── the split goes on in the chosen child ──
 
   module _ (e : goesInto (w .st) F ≡ true) where
-    abbrev P : Plan
-    P = separatePlan (w .st) (ch .p) (x + 6) nil (kidsOf F)
+    abbrev pub innerCut : Cut
+    innerCut = cutFrom (w .st) (ch .p) (x + 6) nil (kidsOf F)
 
-    abbrev node : Plan
-    node = under (headOf F) P
+    abbrev pub B : Row × (Work × Mem)
+    B = separate (put w) innerCut s₁
 
-    into-is : fromPlan (w .st) (ch .p) x F ≡ both node (grouped (restOf F))
-    into-is = rw e
+    abbrev pub C : Row × (Work × Mem)
+    C = put w (restOf F) (B .1)
 
-    into-room : Room (length o₁ - r .end) (followI (w .st) g (both node (grouped (restOf F))) u₁ i₁)
-    into-room = subst (λ (p : Plan). Room (length o₁ - r .end) (followI (w .st) g p u₁ i₁)) into-is from-room
+    pub into-is : T w (v .is) ≡ (agg (headOf F) (B .0) (C .0), C .1)
+    unfolding separate group groupMem
+    into-is = rw e refl
 
-    pub node-room : Room (length o₁ - r .end) (followI (w .st) g node u₁ i₁)
-    node-room = first-room (w .st) g u₁ i₁ node (grouped (restOf F)) into-room
+    pub into-room : Fits (B .0) × Fits (C .0) × (r .end + (6 + size (B .0) + size (C .0)) ≤ length o₁)
+    into-room =
+        let z = subst (λ (o : Row × (Work × Mem)). Fits (o .0) × (size (o .0) ≤ length o₁ - r .end)) into-is from-room in
+        (z .0 .1, z .0 .2, omega (arith, z .1, left-end))
 
     pub header-room : r .end + 6 ≤ length o₁
-    header-room = omega (arith, node-room .1, left-end)
+    header-room = omega (arith, into-room .2)
 
     -- The level inside it, after the left group and the header.
     abbrev pub inner-sep : (k : ℕ) → k ≡ sizeAt l x → (m : ℕ) → m ≡ length o₁
@@ -227,37 +179,39 @@ module _ {g : Growing} {ch : Children} {l u img : List ℕ} {room at x : ℕ} {r
       st = w .st;
       setup = w .setup;
       kids = inner (at-x w (v .is)) (w .st) e k is;
-      below = below-first (g .setup .pages) F (belows w (v .is) .1) .0;
-      fits = node-room .0 .1;
-      within = omega (arith, node-room .1);
+      below = subst (Below (g .setup .pages)) (into-agg (w .st) F e) (belows w (v .is) .1) .0;
+      state = s₁;
+      same = in-step (v .done);
+      fits = into-room .0;
+      within = omega (arith, into-room .2);
     }
 
-    module _ {s : Output} {u₂ i₂ o₂ o₃ : List ℕ} (ml : Outcome (followI (w .st) g P u₁ i₁) (r .end + 6) s u₂ i₂ o₃ o₂) where
-      pub inner-room : (r .end + 6 ≤ s .end) × (s .end ≤ length o₁)
-      inner-room = omega (arith, ml .next, node-room .1, left-end)
+    module _ {end : ℕ} {full : Bool} {u₂ i₂ o₂ o₃ : List ℕ} (ml : Step g (kidsOf F) s₁ B (r .end + 6) end full u₁ i₁ o₂ u₂ i₂ o₃) where
+      pub inner-room : (r .end + 6 ≤ end) × (end ≤ length o₁)
+      inner-room = omega (arith, ml .next, into-room .2)
 
-      pub env-inner : Env g u₁ i₁ → length i₂ ≡ length i₁ → Env g u₂ i₂
-      env-inner env k = env-after (w .st) g u₁ i₁ P (w .setup) ml env k
-
-      -- The node, once its size is put right.
-      pub node-done : {o₄ : List ℕ} (k y : ℕ) → k ≡ sizeAt l x → y ≡ x + 6 → o₂ ≡ over (r .end) (take (y - x) (drop x l)) o₁
-          → o₄ ≡ over (r .end + 4) (two (s .end - r .end)) o₃ → Outcome (followI (w .st) g node u₁ i₁) (r .end) s u₂ i₂ o₄ o₁
-      node-done k y is ye p2 p4 =
-          done-under (w .st) g u₁ i₁ (headOf F) P node-room (omega (arith, left-end)) k (s .end - r .end)
-          (p2 ∙ ap (λ (y : List ℕ). over (r .end) y o₁) (head-bytes (at-x w (v .is)) (w .st) e k is y ye)) ml (omega (arith, inner-room)) p4
-
-    module _ {s : Output} {u₂ i₂ o₄ : List ℕ} (nd : Outcome (followI (w .st) g node u₁ i₁) (r .end) s u₂ i₂ o₄ o₁) where
-      pub rest-room : (m : ℕ) → m ≡ length o₁ → Room (m - s .end) (groupI (w .st) g (restOf F) u₂ i₂)
-      rest-room m y = next-room (w .st) g u₁ i₁ node (grouped (restOf F)) into-room nd m (omega (arith, left-end))
+      pub env-inner : Env g u₁ i₁ → Env g u₂ i₂
+      env-inner env = env-with env (ml .after .long) (ml .past)
 
       -- The group after it.
-      abbrev pub rest-group : (k : ℕ) → k ≡ sizeAt l x → (m : ℕ) → m ≡ length o₁ → Grouping g (take (ch .end - (x + k)) (drop (x + k) l)) u₂ i₂ (m - s .end)
+      abbrev pub rest-group : (k : ℕ) → k ≡ sizeAt l x → (m : ℕ) → m ≡ length o₁ → Grouping g (take (ch .end - (x + k)) (drop (x + k) l)) u₂ i₂ (m - end)
       rest-group k is m y =
-          grouping w (restOf F) (after-bytes (at-x w (v .is)) (w .st) e k is) (below-first (g .setup .pages) F (belows w (v .is) .1) .1) (rest-room m y)
+          grouping w (B .1) (restOf F) (in-step ml) (after-bytes (at-x w (v .is)) (w .st) e k is)
+          (subst (Below (g .setup .pages)) (into-agg (w .st) F e) (belows w (v .is) .1) .1) (into-room .1, omega (arith, into-room .2, ml .next))
 
-      pub done-inside : {f : Output} {u₃ i₃ o₅ : List ℕ} → Outcome (groupI (w .st) g (restOf F) u₂ i₂) (s .end) f u₃ i₃ o₅ o₄
-          → Outcome (separateI (w .st) g (ch .p) (ch .pos) nil (w .kids .row) u img) at (record { end = f .end; full = (r .full || s .full) || f .full })
-          u₃ i₃ o₅ o₀
-      done-inside {f} rl =
-          rw (or-assoc (r .full) (s .full) (f .full))
-          (done-from into-is (done-both (w .st) g u₁ i₁ node (grouped (restOf F)) into-room nd (omega (arith, left-end)) rl))
+      -- The node, once its size is put right, and the group after it.
+      pub done-inside : {f : Output} {d : ℕ} {o₄ u₃ i₃ o₅ : List ℕ} (k y : ℕ) → k ≡ sizeAt l x → y ≡ x + 6 → d ≡ startOf (x + 6) innerCut
+          → o₂ ≡ over (r .end) (take (y - x) (drop x l)) o₁ → o₄ ≡ over (r .end + 4) (two (end - r .end)) o₃
+          → Step g (restOf F) (B .1) C (end) (f .end) (f .full) u₂ i₂ o₄ u₃ i₃ o₅
+          → Separated w at (record { end = f .end; full = (r .full || full) || f .full; d = d }) o₀ u₃ i₃ o₅
+      done-inside {f} k y is ye de p2 p4 rl =
+          let start : startOf (ch .pos) (cutAt (w .st) (ch .p) x (v .is .left) F) ≡ startOf (ch .pos + size (v .is .left) + 6) innerCut = rw e refl in
+          let node = under-step (headOf F) (kidsOf F) k (end - r .end)
+          (p2 ∙ ap (λ (y : List ℕ). over (r .end) y o₁) (head-bytes (at-x w (v .is)) (w .st) e k is y ye)) ml (omega (arith, inner-room)) p4
+          (omega (arith, into-room .2)) in
+          (
+            rw (or-assoc (r .full) (full) (f .full))
+                (done-from (agg (headOf F) (kidsOf F) (restOf F)) (agg (headOf F) (B .0) (C .0), C .1) (into-agg (w .st) F e) into-is
+                (both-steps (agg (headOf F) (kidsOf F) nil) (restOf F) node rl (omega (arith, into-room .2)))),
+            de ∙ ap (λ (n : ℕ). startOf (n + 6) innerCut) (v .is .way .here) ∙ sym start ∙ sym (ap (startOf (ch .pos)) (cut-is w (v .is))),
+          )

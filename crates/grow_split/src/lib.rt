@@ -3,7 +3,6 @@ use base_layout::Growing;
 use base_layout::size_at;
 use base_numbers::copy_in;
 use base_numbers::put16;
-use grow_groups::Output;
 use grow_groups::put_group;
 use grow_split_point::child;
 use grow_split_point::enters;
@@ -11,12 +10,10 @@ use model::Settings;
 ghost use mathlib.Core.Path.{_≡_};
 ghost use Prim.Native.Nat.{_-_, _≤_, _<_};
 ghost use lib.ListN.{length};
-ghost use Rattle.model.specs.Row.{nil};
+ghost use Rattle.model.specs.Growth.{startOfD};
 ghost use Rattle.base_layout.specs.Growing.{separatorSize};
 ghost use Rattle.grow_groups.specs.Used.{Env};
-ghost use Rattle.grow_groups.specs.Group.{Outcome};
-ghost use Rattle.grow_split.specs.Cutting.{separateI};
-ghost use Rattle.grow_split.specs.Separate.{Sep};
+ghost use Rattle.grow_split.specs.Separate.{Sep, Separated};
 ghost use Rattle.grow_split.specs.Severed.{Large, Severed};
 
 // The children of a separator node, from pos to end of the record, and the split point.
@@ -24,6 +21,13 @@ pub struct Children {
     pub pos: usize,
     pub end: usize,
     pub p: usize,
+}
+
+// Where the separator's row ends in out, whether a page was taken where none was free, and where d starts in the record.
+pub struct Split {
+    pub end: usize,
+    pub full: bool,
+    pub d: usize,
 }
 
 // Writes the separator's row for a row of children of buf to out at `at`, and the groups' records to free pages.
@@ -35,12 +39,11 @@ pub fn separate(
     g: Growing,
     out: &mut [u8],
     at: usize,
-) -> Output
+) -> Split
     requires { ⌜ Env g (now widths) (now image) × ((at ≤ length (now out)) × ((length (now out) < 65536)
         × Sep g row (now buf) (now widths) (now image) (length (now out) - at))) ⌝ }
     ensures { λ r. ⌜ ((w : Sep g row (now (buf .entry)) (now (widths .entry)) (now (image .entry)) (length (now (out .entry)) - at))
-        → Outcome (separateI (w .st) g (row .p) (row .pos) nil (w .kids .row) (now (widths .entry)) (now (image .entry))) at r
-        (now (widths .exit)) (now (image .exit)) (now (out .exit)) (now (out .entry))) ⌝ }
+        → Separated w at r (now (out .entry)) (now (widths .exit)) (now (image .exit)) (now (out .exit))) ⌝ }
 {
     let pos = row.pos;
     let end = row.end;
@@ -58,15 +61,17 @@ pub fn separate(
         let b = separate(buf, kids, image, widths, g, out, a.end + 6);
         put16(out, a.end + 4, b.end - a.end);
         let c = put_group(&buf[next..end], image, widths, g, out, b.end);
-        return Output {
+        return Split {
             end: c.end,
             full: a.full | b.full | c.full,
+            d: b.d,
         };
     }
     let b = put_group(&buf[x..end], image, widths, g, out, a.end);
-    Output {
+    Split {
         end: b.end,
         full: a.full | b.full,
+        d: x,
     }
 }
 
@@ -78,10 +83,11 @@ pub fn separator(
     widths: &mut [u32; Settings::PAGES],
     g: Growing,
     out: &mut [u8],
-) -> Output
+) -> Split
     requires { ⌜ Env g (now widths) (now image) × ((length (now out) ≡ separatorSize) × Large g p (now buf) (now widths)) ⌝ }
-    ensures { λ r. ⌜ ((w : Large g p (now (buf .entry)) (now (widths .entry))) → Severed (w .st) g (w .row) (w .work) r
-        (now (widths .entry)) (now (widths .exit)) (now (image .entry)) (now (image .exit)) (now (out .entry)) (now (out .exit))) ⌝ }
+    ensures { λ r. ⌜ ((w : Large g p (now (buf .entry)) (now (widths .entry))) → Severed (w .st) g (w .row) (w .work) (r .end) (r .full)
+        (now (widths .entry)) (now (widths .exit)) (now (image .entry)) (now (image .exit)) (now (out .entry)) (now (out .exit))
+        × (r .d ≡ startOfD (w .st) (w .row))) ⌝ }
 {
     let row = Children {
         pos: 6,

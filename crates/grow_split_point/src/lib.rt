@@ -1,4 +1,4 @@
-// Where a record splits: the split point, the node d, the child of a level at which the split goes on.
+// Where a record splits: the split point, the child of a level that is chosen, whether the split goes on inside it.
 use base_layout::size_at;
 use base_node_kinds::may_stand;
 use base_numbers::wide;
@@ -7,12 +7,13 @@ ghost use mathlib.Core.Bool.{_||_};
 ghost use Prim.Native.Nat.{ℕ, _+_, _≤_, _<_};
 ghost use lib.ListN.{length};
 ghost use lib.IntN.{subℕ};
-ghost use Rattle.model.specs.Row.{Row, size, bytes, isNil, loneRec, Config};
+ghost use Rattle.model.specs.Row.{Row, bytes, isNil, loneRec, Config};
 ghost use Rattle.model.specs.Reading.{kindAt};
-ghost use Rattle.model.specs.Growth.{splitPoint, startOf};
+ghost use Rattle.model.specs.Growth.{splitPoint};
 ghost use Rattle.model.specs.Claims.{InLean};
+ghost use Rattle.theory_rows.specs.Cut.{goesInto};
 ghost use Rattle.grow_split_point.specs.Kids.{Kids};
-ghost use Rattle.grow_split_point.specs.Chosen.{passed, goesInto};
+ghost use Rattle.grow_split_point.specs.Chosen.{Chosen};
 
 // p: the nearest whole number to target × size / 256, and at an exact half the even one.
 pub fn split_point(target: usize, size: usize) -> usize
@@ -31,31 +32,10 @@ pub fn split_point(target: usize, size: usize) -> usize
     down + 1
 }
 
-// The start of d, the node at which the row from start to end is split, near the offset p.
-pub fn start_of(buf: &[u8], start: usize, end: usize, p: usize, tolerance: usize) -> usize
-    requires { ⌜ Kids (now buf) start end ⌝ }
-    ensures { λ r. ⌜ ((w : Kids (now (buf .entry)) start end) (st : Config) → st .tolerance ≡ tolerance → r ≡ startOf st p start (w .row)) ⌝ }
-{
-    let mut pos = start;
-    let mut stop = end;
-    loop {
-        let size = size_at(buf, pos);
-        let next = pos + size;
-        if next < stop && next <= p {
-            pos = next;
-        } else if may_stand(wide(buf[pos]), 1) && 6 < size && tolerance <= size {
-            pos += 6;
-            stop = next;
-        } else {
-            return pos;
-        }
-    }
-}
-
 // The last child that starts at or before p, or the first, in the row from start to end.
 pub fn child(buf: &[u8], start: usize, end: usize, p: usize) -> usize
     requires { ⌜ Kids (now buf) start end ⌝ }
-    ensures { λ r. ⌜ ((w : Kids (now (buf .entry)) start end) → r ≡ start + size (passed p start (w .row))) ⌝ }
+    ensures { λ r. ⌜ ((w : Kids (now (buf .entry)) start end) (st : Config) → Chosen st p start (w .row) r) ⌝ }
 {
     let mut pos = start;
     loop {

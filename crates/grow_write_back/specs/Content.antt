@@ -9,9 +9,8 @@ use lib.Seq.{take-all}
 use Rattle.theory_row_bytes.specs.RowAt.{RecordIs}
 use Rattle.model.specs.Limits.{capacity}
 use Rattle.model.specs.Row.{Row, nil, agg, lit, rec, size, isNil, lone, base, recordSize, header, bytes, recordBytes, noHead}
-use Rattle.theory_rows.specs.Laws.{length-bytes}
+use Rattle.theory_rows.specs.Laws.{length-bytes, size-some}
 use Rattle.theory_rows.specs.Image.{length-record}
-use Rattle.grow_split_point.specs.Chosen.{size-some}
 use Rattle.grow_pages.specs.Write.{setPage, pageBytesOf}
 use Rattle.grow_pages.specs.Links.{Below, Linked, links}
 use Rattle.grow_pages.specs.Relinked.{written}

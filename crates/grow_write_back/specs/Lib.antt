@@ -1,3 +1,2 @@
-pub mod Leaning
 pub mod Content
 pub mod Off

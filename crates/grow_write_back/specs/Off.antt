@@ -5,12 +5,15 @@ use mathlib.Core.List.{List}
 use Prim.Native.Nat.{ℕ, _+_, _*_, _<_, _≤_}
 use native.Mathlib.Omega.{arith}
 use lib.Dec.{eqb}
+use lib.IntN.{ℤ, subℕ}
 use lib.ListN.{length, getD, set, length-set, length-replicate}
 use lib.Seq.{getD-set-other}
 use Rattle.theory_row_bytes.specs.RowAt.{RecordIs}
 use Rattle.model.specs.Limits.{mostPages, pageSize, capacity}
 use Rattle.model.specs.Row.{Row, size, recordSize, count, Config}
-use Rattle.model.specs.Growth.{Work, counted, freed, splitPoint, separator}
+use Rattle.model.specs.Growth.{Work, counted, freed, splitPoint, startOfD, separator}
+use Rattle.model.specs.Claims.{InLean}
+use Rattle.grow_split_point.specs.Lean.{lean-bounds}
 use Rattle.theory_rows.specs.Laws.{cond-case}
 use Rattle.theory_rows.specs.Fits.{Fits}
 use Rattle.theory_rows.specs.Image.{length-record}
@@ -21,10 +24,13 @@ use Rattle.grow_pages.specs.Paged.{length-setPage}
 use Rattle.base_layout.specs.declared.Growing.{Growing}
 use Rattle.base_layout.specs.Setup.{setupOf}
 use Rattle.base_layout.specs.Growing.{bufferSize, separatorSize}
-use Rattle.grow_groups.specs.declared.Output.{Output}
 use Rattle.grow_groups.specs.Used.{InUse, Past, Env, env-with, set-past}
-use Rattle.grow_split.specs.Tells.{Tabled, Keeps, same-mark, tabled-set}
+use Rattle.grow_groups.specs.Tells.{Tabled, Keeps, same-mark, tabled-set}
 use Rattle.grow_split.specs.Severed.{Large, Severed}
+
+-- The lean of a record's split.
+abbrev pub leanOf : Config → Row → ℤ
+leanOf st r = subℕ (startOfD st r) (splitPoint st (recordSize r))
 
 -- What growth carries along when the record on page q is split: one split more, and page q free unless the record stays there.
 abbrev pub leaves : (st : Config) → (stays : Bool) → (q : ℕ) → Row → Work → Work
@@ -55,12 +61,14 @@ pub record Off (g : Growing) (settled : ℕ) (l u : List ℕ) : Type 0 where
   pub marked : InUse u work
   pub good : Fits (separator st (g .near) row (leaves st stays (g .near) row work) .0)
   pub most : size (separator st (g .near) row (leaves st stays (g .near) row work) .0) ≤ separatorSize
+  pub leans : InLean (leanOf st row)
+  pub low : splitPoint st (recordSize row) ≤ 8192
 
 -- What the split leaves of a record, which stays on its page or not.
-abbrev pub SplitOff : (st : Config) → (g : Growing) → (row : Row) → (work : Work) → (stays : Bool) → (r : Output) → (table u img img₁ out₀ out₁ : List ℕ)
-    → Type 0
-SplitOff st g row work stays r table u img img₁ out₀ out₁ =
-    Severed st g row (leaves st stays (g .near) row work) r (leftTable g stays table) u (leftImage g stays img) img₁ out₀ out₁
+abbrev pub SplitOff : (st : Config) → (g : Growing) → (row : Row) → (work : Work) → (stays : Bool) → (end : ℕ) → (full : Bool)
+    → (table u img img₁ out₀ out₁ : List ℕ) → Type 0
+SplitOff st g row work stays end full table u img img₁ out₀ out₁ =
+    Severed st g row (leaves st stays (g .near) row work) end full (leftTable g stays table) u (leftImage g stays img) img₁ out₀ out₁
 
 -- ── the page that is left ──
 
@@ -155,6 +163,12 @@ module _ {g : Growing} {settled : ℕ} {l u img : List ℕ} (w : Off g settled l
         most = w .most;
       }
 
-      pub off-done : {r : Output} {u″ i″ o₀ o₁ : List ℕ} → Severed (w .st) g (w .row) W r u′ u″ i′ i″ o₀ o₁
-          → SplitOff (w .st) g (w .row) (w .work) (w .stays) r u u″ img i″ o₀ o₁ × Past (g .setup .pages) u″
-      off-done s = (rw (← ue, ← ie) s, s .past)
+      module _ {d : ℕ} (de : d ≡ startOfD (w .st) (w .row)) where
+        pub off-lean : (p ≤ d + 525) × ((d ≤ p + 132) × (p ≤ 8192))
+        off-lean =
+            let b = lean-bounds (startOfD (w .st) (w .row)) (splitPoint (w .st) (recordSize (w .row))) (w .leans) in
+            (omega (arith, b, de, point-is), (omega (arith, b, de, point-is), omega (arith, point-is, w .low)))
+
+        pub off-done : {e : ℕ} {f : Bool} {z : ℤ} {u″ i″ o₀ o₁ : List ℕ} → Severed (w .st) g (w .row) W e f u′ u″ i′ i″ o₀ o₁ → z ≡ subℕ d p
+            → SplitOff (w .st) g (w .row) (w .work) (w .stays) e f u u″ img i″ o₀ o₁ × (z ≡ leanOf (w .st) (w .row))
+        off-done s z = (rw (← ue, ← ie) s, z ∙ (λ i. subℕ (de i) (point-is i)))

@@ -1,39 +1,29 @@
 // What an insert does to the record that it changed: the record goes back to its page, or it is split.
 use base_layout::Growing;
-use base_layout::Setup;
-use grow_groups::Output;
 use grow_pages::clear_page;
 use grow_pages::put_record;
 use grow_pages::relink;
 use grow_split::separator;
 use grow_split_point::lean;
 use grow_split_point::split_point;
-use grow_split_point::start_of;
 use model::Settings;
 ghost use mathlib.Core.Path.{_≡_};
 ghost use mathlib.Core.Bool.{Bool, cond};
 ghost use Prim.Native.Nat.{_+_, _*_, _≤_, _<_};
 ghost use lib.ListN.{length};
-ghost use lib.IntN.{subℕ};
 ghost use Rattle.model.specs.Limits.{mostPages, pageSize};
-ghost use Rattle.model.specs.Row.{Row, base, recordSize, recordBytes};
-ghost use Rattle.model.specs.Growth.{splitPoint, startOfD};
+ghost use Rattle.model.specs.Row.{Row, base, recordBytes};
 ghost use Rattle.base_layout.specs.Growing.{separatorSize};
 ghost use Rattle.grow_pages.specs.Relinked.{written};
-ghost use Rattle.grow_groups.specs.Used.{Past, Env};
-ghost use Rattle.grow_write_back.specs.Leaning.{Leaning};
+ghost use Rattle.grow_groups.specs.Used.{Env};
 ghost use Rattle.grow_write_back.specs.Content.{Content};
-ghost use Rattle.grow_write_back.specs.Off.{leftImage, leftTable, Off, SplitOff};
+ghost use Rattle.grow_write_back.specs.Off.{leanOf, leftImage, leftTable, Off, SplitOff};
 
-// The lean of a split: the start of d minus p.
-pub fn first_lean(buf: &[u8], setup: Setup) -> i32
-    requires { ⌜ Leaning (now buf) setup ⌝ }
-    ensures { λ r. ⌜ ((w : Leaning (now (buf .entry)) setup) → r ≡ subℕ (startOfD (w .st) (w .row)) (splitPoint (w .st) (recordSize (w .row)))) ⌝ }
-{
-    let n = buf.len();
-    let p = split_point(setup.target, n);
-    let d = start_of(buf, 6, n, p, setup.tolerance);
-    lean(d, p)
+// Where the separator's row ends in out, whether a page was taken where none was free, and the lean.
+pub struct Divided {
+    pub end: usize,
+    pub full: bool,
+    pub lean: i32,
 }
 
 // Where a record's row starts: a helper's header is not part of it.
@@ -90,14 +80,19 @@ pub fn split_off(
     g: Growing,
     settled: usize,
     out: &mut [u8],
-) -> Output
+) -> Divided
     requires { ⌜ Env g (now widths) (now image) × ((length (now out) ≡ separatorSize) × Off g settled (now buf) (now widths)) ⌝ }
     ensures { λ r. ⌜ ((w : Off g settled (now (buf .entry)) (now (widths .entry)))
-        → SplitOff (w .st) g (w .row) (w .work) (w .stays) r
+        → SplitOff (w .st) g (w .row) (w .work) (w .stays) (r .end) (r .full)
         (now (widths .entry)) (now (widths .exit)) (now (image .entry)) (now (image .exit)) (now (out .entry)) (now (out .exit))
-        × Past (g .setup .pages) (now (widths .exit))) ⌝ }
+        × (r .lean ≡ leanOf (w .st) (w .row))) ⌝ }
 {
     leave(image, widths, g, settled);
     let p = split_point(g.setup.target, buf.len());
-    separator(buf, p, image, widths, g, out)
+    let s = separator(buf, p, image, widths, g, out);
+    Divided {
+        end: s.end,
+        full: s.full,
+        lean: lean(s.d, p),
+    }
 }

@@ -7,7 +7,7 @@ use lib.ListN.{length, getD}
 use lib.Dec.{leb, ltb, eqb}
 use lib.IntN.{ℤ, pos, subℕ}
 use Rattle.model.specs.Limits.{capacity}
-use Rattle.model.specs.Row.{Head, Row, nil, agg, lit, rec, _⊹_, size, isNil, lone, loneRec, recordSize, count, outside, Config}
+use Rattle.model.specs.Row.{Head, Row, nil, agg, lit, rec, _⊹_, size, isNil, lone, loneRec, base, recordSize, count, outside, Config}
 use Rattle.model.specs.Tree.{New}
 use Rattle.model.specs.Spot.{fill, Chain, top, below, lastPage, Spot, spotOf}
 
@@ -31,6 +31,36 @@ onRow f o = (f (o .0), o .1)
 
 abbrev pub mark : Bool → ℕ → (ℕ → Bool) → (ℕ → Bool)
 mark b q used = λ x. cond (eqb x q) b (used x)
+
+-- ── the separator (step 4) ──
+
+-- A row of children cut in two along the path down to d. What is left of the path; and d with what is right of it, or else the node on the path,
+-- with the cut of its own children, and what is right of it.
+pub data Cut : Type 0 where
+  atD : (left right : Row) → Cut
+  through : (left : Row) → (node : Head) → (inner : Cut) → (right : Row) → Cut
+
+-- A later child starts at or before p too: a node of n bytes starts at `at`, and `rest` follows it.
+abbrev pub goOn : (p at n : ℕ) → (rest : Row) → Bool
+goOn p at n rest = not (isNil rest) && leb (at + n) p
+
+-- Where d starts, the children starting at `at`.
+abbrev pub startOf : (at : ℕ) → Cut → ℕ
+startOf at (atD left right) = at + size left
+startOf at (through left h inner right) = startOf (at + size left + 6) inner
+
+-- The nodes of the path stay. At each of them the children left of the path are a group, and those right of it another, in document order: whatever is put
+-- in place of a group, and whatever is carried along.
+unfoldable pub separate : {S : Type 0} → (group : Row → S → Row × S) → Cut → S → Row × S
+separate group (atD left right) s =
+    let a = group left s in
+    let b = group right (a .1) in
+    (a .0 ⊹ b .0, b .1)
+separate group (through left h inner right) s =
+    let a = group left s in
+    let b = separate group inner (a .1) in
+    let c = group right (b .1) in
+    (a .0 ⊹ agg h (b .0) (c .0), c .1)
 
 module _ (st : Config) where
   -- ── pages (step 6) ──
@@ -63,54 +93,44 @@ module _ (st : Config) where
       let down = n / 256 in
       cond (ltb (n % 256) 128) down (cond (eqb (n % 256) 128) (down + down % 2) (down + 1))
 
-  -- A later child starts at or before p too: a node of n bytes starts at `at`, and `rest` follows it.
-  abbrev pub goOn : (p at n : ℕ) → (rest : Row) → Bool
-  goOn p at n rest = not (isNil rest) && leb (at + n) p
-
   -- The chosen child, an aggregate with these children, is d: it has none in the record, or its size is below the tolerance.
   abbrev pub stops : (children : Row) → Bool
   stops cs = isNil cs || ltb (6 + size cs) (st .tolerance)
 
-  -- Where d starts.
-  unfoldable pub startOf : (p at : ℕ) → Row → ℕ
-  startOf p at nil = at
-  startOf p at (agg h cs rest) =
-      cond (goOn p at (6 + size cs) rest) (startOf p (at + (6 + size cs)) rest) (cond (stops cs) at (startOf p (at + 6) cs))
-  startOf p at (lit h c rest) = cond (goOn p at (6 + length c) rest) (startOf p (at + (6 + length c)) rest) at
-  startOf p at (rec q s r rest) = cond (goOn p at 8 rest) (startOf p (at + 8) rest) at
+  -- The cut of the children of a separator node, from the one at `at` on, those before it being `left`. The chosen child is the last that starts
+  -- at or before p, or the first.
+  unfoldable pub cutFrom : (p at : ℕ) → (left row : Row) → Cut
+  cutFrom p at left nil = atD left nil
+  cutFrom p at left (agg h cs rest) =
+      let on = cutFrom p (at + (6 + size cs)) (left ⊹ agg h cs nil) rest in
+      let down = through left h (cutFrom p (at + 6) nil cs) rest in
+      cond (goOn p at (6 + size cs) rest) on (cond (stops cs) (atD left (agg h cs rest)) down)
+  cutFrom p at left (lit h c rest) =
+      let on = cutFrom p (at + (6 + length c)) (left ⊹ lit h c nil) rest in
+      cond (goOn p at (6 + length c) rest) on (atD left (lit h c rest))
+  cutFrom p at left (rec q s r rest) =
+      let on = cutFrom p (at + 8) (left ⊹ rec q s r nil) rest in
+      cond (goOn p at 8 rest) on (atD left (rec q s r rest))
+
+  -- The cut of a record's row: its root is an aggregate, which stands alone, or a helper with the row as its children. Either's children start at byte 6.
+  abbrev pub cutRoot : (p : ℕ) → (lone : Bool) → Row → Cut
+  cutRoot p false r = cutFrom p 6 nil r
+  cutRoot p true nil = atD nil nil
+  cutRoot p true (agg h cs rest) = through nil h (cutFrom p 6 nil cs) rest
+  cutRoot p true (lit h c rest) = atD nil (lit h c rest)
+  cutRoot p true (rec q s r rest) = atD nil (rec q s r rest)
+
+  abbrev pub cutOf : Row → Cut
+  cutOf r = cutRoot (splitPoint (recordSize r)) (lone r) r
+
+  abbrev pub startOfD : Row → ℕ
+  startOfD r = startOf (base r) (cutOf r)
 
   -- A group that is one proxy stays; a single other node becomes a record, two or more a record under a helper.
   unfoldable pub group : (near : ℕ) → Row → Work → Out
   group near g w =
       let own = ownRecord near false g nil w in
       cond (isNil g || loneRec g) (g, w) own
-
-  module _ (near p : ℕ) where
-    unfoldable pub twoGroups : (left right : Row) → Work → Out
-    twoGroups left right w =
-        let a = group near left w in
-        let b = group near right (a .1) in
-        (a .0 ⊹ b .0, b .1)
-
-    -- The children of a separator node, from the one at `at` on, those before it being `left`: the groups in document order.
-    unfoldable pub separate : (at : ℕ) → (left row : Row) → Work → Out
-    separate at left nil w = group near left w
-    separate at left (agg h cs rest) w =
-        let on = separate (at + (6 + size cs)) (left ⊹ agg h cs nil) rest w in
-        let a = group near left w in
-        let b = separate (at + 6) nil cs (a .1) in
-        let c = group near rest (b .1) in
-        let down : Out = (a .0 ⊹ agg h (b .0) (c .0), c .1) in
-        let here = twoGroups left (agg h cs rest) w in
-        cond (goOn p at (6 + size cs) rest) on (cond (stops cs) here down)
-    separate at left (lit h c rest) w =
-        let on = separate (at + (6 + length c)) (left ⊹ lit h c nil) rest w in
-        let here = twoGroups left (lit h c rest) w in
-        cond (goOn p at (6 + length c) rest) on here
-    separate at left (rec q s r rest) w =
-        let on = separate (at + 8) (left ⊹ rec q s r nil) rest w in
-        let here = twoGroups left (rec q s r rest) w in
-        cond (goOn p at 8 rest) on here
 
   -- The children of a record's root, which is an aggregate (a lone node) or a helper.
   abbrev pub rootRow : (lone : Bool) → Row → Row
@@ -120,20 +140,9 @@ module _ (st : Config) where
   rootRow true (lit h c rest) = nil
   rootRow true (rec p s r rest) = nil
 
-  -- The root with other children.
-  abbrev pub withRow : (lone : Bool) → Row → (children : Row) → Row
-  withRow false r new = new
-  withRow true nil new = nil
-  withRow true (agg h cs rest) new = agg h new rest
-  withRow true (lit h c rest) new = lit h c rest
-  withRow true (rec p s r rest) new = rec p s r rest
-
-  abbrev pub startOfD : Row → ℕ
-  startOfD r = startOf (splitPoint (recordSize r)) 6 (rootRow (lone r) r)
-
   -- The separator of a record that is too large, with the proxies of its groups; a helper root is dropped.
   unfoldable pub separator : (near : ℕ) → Row → Work → Out
-  separator near r w = onRow (withRow (lone r) r) (separate near (splitPoint (recordSize r)) 6 nil (rootRow (lone r) r) w)
+  separator near r w = separate (group near) (cutOf r) w
 
   -- One split more; the lean is the start of d minus p of the first.
   abbrev pub counted : Row → Work → Work

@@ -11,14 +11,14 @@ use Rattle.model.specs.Row.{recordOn, count}
 use Rattle.model.specs.Reading.{pageOf, usedAt, kindAt, nameAt}
 use Rattle.model.specs.Spot.{Position, here, inside, fill}
 use Rattle.base_numbers.specs.Over.{over}
-use Rattle.theory_rows.specs.Laws.{size-⊹, nodes-nil, nodes-size}
+use Rattle.theory_rows.specs.Laws.{nodes-some, size-⊹, nodes-nil, nodes-size}
 use Rattle.theory_rows.specs.Bound.{isNil-⊹}
 use Rattle.theory_rows.specs.Pages.{count-⊹}
 use Rattle.theory_rows.specs.Image.{length-record}
 use Rattle.theory_decoding.specs.Valid.{names-own}
 use Rattle.theory_layout.specs.Here.{PageIn}
 use Rattle.theory_row_bytes.specs.RowAt.{FirstNode, first-node, RecordIs, kindOf, nameOf, row-bytes}
-use Rattle.theory_growth.specs.Chain.{size-fill, count-refill, nodes-some, offsetIn}
+use Rattle.theory_growth.specs.Chain.{size-fill, count-refill, offsetIn}
 use Rattle.theory_removal.specs.Keeps.{Proxy}
 use Rattle.grow_splice.specs.Position.{isInside}
 use Rattle.grow_splice.specs.Splice.{KeepsRoot, Splicing, many-keeps, take-out}

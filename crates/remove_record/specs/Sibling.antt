@@ -12,9 +12,8 @@ use Rattle.model.specs.Limits.{capacity}
 use Rattle.model.specs.Row.{Row, nil, agg, lit, rec, _⊹_, size, nodeCount, base, recordSize, recordBytes}
 use Rattle.model.specs.Reading.{kindAt, sizeAt}
 use Rattle.model.specs.Spot.{Position, here, inside, fill}
-use Rattle.theory_rows.specs.Laws.{size-⊹, ⊹-nil, nodes-nil, nodes-size}
+use Rattle.theory_rows.specs.Laws.{not-nil, size-nil, isNil-nil, size-⊹, ⊹-nil, nodes-nil, nodes-size}
 use Rattle.theory_rows.specs.Image.{length-record}
-use Rattle.theory_rows.specs.Bound.{not-nil}
 use Rattle.theory_rows.specs.Shows.{nodeCount-some}
 use Rattle.theory_rows.specs.Keeps.{nodeCount-⊹}
 use Rattle.theory_row_bytes.specs.RowAt.{RowAt, FirstNode, first-node, row-split, RecordIs, RecordAt, record-row, record-first, sizeOf, restOf, size-first}
@@ -24,12 +23,6 @@ use Rattle.grow_locate.specs.Parent.{holderIn}
 use Rattle.remove_record.specs.declared.Sibling.{Sibling}
 
 -- ── rows of few nodes ──
-
-size-nil : (r : Row) → size r ≡ 0 → r ≡ nil
-size-nil nil e = refl
-size-nil (agg h cs rest) e = absurd (omega arith)
-size-nil (lit h c rest) e = absurd (omega arith)
-size-nil (rec p s r rest) e = absurd (omega arith)
 
 nodes-first : (r : Row) → 1 ≤ nodeCount r → nodeCount r ≡ 1 + nodeCount (restOf r)
 nodes-first nil h = absurd (omega arith)
@@ -193,11 +186,11 @@ module _ {l : List ℕ} {pos par : ℕ} (w : Losing l pos par) (t : AtTop w) whe
           omega (arith, nodes, kids-nodes, left-nodes, nodeCount-some r (not-nil r (omega (arith, beyond))))
 
       two : n ≡ length l → nodeCount kids ≡ 2
-      two e = omega (arith, nodes, ap nodeCount (size-nil (restOf (restOf kids)) (omega (arith, beyond))))
+      two e = omega (arith, nodes, ap nodeCount (isNil-nil (restOf (restOf kids)) (size-nil (restOf (restOf kids)) (omega (arith, beyond)))))
 
       pub leaves-second : n ≡ length l → pos ≡ 6 → Alone l m n (fill (w .position) (w .rest))
       leaves-second e p =
-          let none = size-nil (t .left) (omega (arith, t .starts)) in
+          let none = isNil-nil (t .left) (size-nil (t .left) (omega (arith, t .starts))) in
           let is : fill (w .position) (w .rest) ≡ w .rest =
           ap (λ (s : Position). fill s (w .rest)) (t .is) ∙ ap (λ (z : Row). z ⊹ w .rest) none in
           let after : restOf kids ≡ w .rest =

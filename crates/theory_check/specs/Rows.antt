@@ -14,7 +14,7 @@ use Rattle.model.specs.Row.{Head, noHead}
 use Rattle.model.specs.Reading.{usedAt, settledAt, headAt, nameAt}
 use Rattle.theory_rows.specs.Keeps.{nodeCount-⊹}
 use Rattle.theory_rows.specs.Fits.{Fits, Shape, one, more, RecordFits}
-use Rattle.theory_rows.specs.Laws.{length-bytes, bytes-⊹}
+use Rattle.theory_rows.specs.Laws.{nodes-some, length-bytes, bytes-⊹}
 use Rattle.theory_rows.specs.Bound.{Fits-⊹}
 use Rattle.theory_rows.specs.Image.{length-record}
 use Rattle.theory_decoding.specs.Valid.{both as and-both}
@@ -40,16 +40,10 @@ some-node (agg l cs rest) h = omega arith
 some-node (lit l c rest) h = omega arith
 some-node (rec p s r rest) h = omega arith
 
-not-nil : (r : Row) → 1 ≤ nodeCount r → isNil r ≡ false
-not-nil nil h = absurd (omega arith)
-not-nil (agg l cs rest) h = refl
-not-nil (lit l c rest) h = refl
-not-nil (rec p s r rest) h = refl
-
 not-lone : (r : Row) → 2 ≤ nodeCount r → lone r ≡ false
 not-lone nil h = refl
-not-lone (agg l cs rest) h = not-nil rest (omega arith)
-not-lone (lit l c rest) h = not-nil rest (omega arith)
+not-lone (agg l cs rest) h = nodes-some rest (omega arith)
+not-lone (lit l c rest) h = nodes-some rest (omega arith)
 not-lone (rec p s r rest) h = refl
 
 -- ── bytes ──

@@ -6,10 +6,9 @@ use native.Mathlib.Omega.{arith}
 use lib.Dec.{eqb}
 use Rattle.model.specs.Row.{Head, Row, nil, agg, lit, rec, _⊹_, store, size, isNil, lone, nodeCount, base, count}
 use Rattle.model.specs.Spot.{Position, here, inside, fill, past, into, Chain, top, below, Spot, whole}
-use Rattle.theory_rows.specs.Laws.{⊹-assoc, size-⊹}
+use Rattle.theory_rows.specs.Laws.{Parted, nodes-some, ⊹-assoc, size-⊹}
 use Rattle.theory_rows.specs.Fits.{Fits, RecordFits}
 use Rattle.theory_rows.specs.Bound.{Fits-⊹, fits-parts, isNil-⊹}
-use Rattle.theory_rows.specs.Works.{Parted}
 use Rattle.theory_rows.specs.Keeps.{nodeCount-⊹}
 use Rattle.theory_rows.specs.Pages.{count-⊹}
 
@@ -112,12 +111,6 @@ chain-fits (below c s q b rest) row f =
     (g .0, g .1)
 
 -- ── a record of one node ──
-
-pub nodes-some : (r : Row) → 1 ≤ nodeCount r → isNil r ≡ false
-nodes-some nil h = absurd (omega arith)
-nodes-some (agg l cs rest) h = refl
-nodes-some (lit l c rest) h = refl
-nodes-some (rec p s r rest) h = refl
 
 -- Two nodes are not one.
 pub two-nodes : (r : Row) → 2 ≤ nodeCount r → lone r ≡ false

@@ -8,7 +8,7 @@ use Rattle.model.specs.Row.{Row, isNil, loneRec, recordSize, Config}
 use Rattle.model.specs.Growth.{Work, Out, onRow, freeFrom, group, separator, counted, freed, kept, close, rise}
 use Rattle.model.specs.Spot.{fill, Chain, top, below}
 use Rattle.theory_rows.specs.Laws.{cond-case}
-use Rattle.theory_rows.specs.Works.{split-work}
+use Rattle.theory_rows.specs.Cut.{split-carries}
 use Rattle.theory_rows.specs.Pages.{or-left}
 
 -- If no page was missing in the end, none was before.
@@ -21,7 +21,8 @@ module _ (st : Config) where
   full-group near g w = cond-case (Since w) (isNil g || loneRec g) (λ _ z. z) (λ _ z. or-left (w .full) (eqb (freeFrom st (st .pages) (w .used) near) 0) z)
 
   full-separator : (near : ℕ) (r : Row) (w : Work) → Since w (separator st near r w)
-  full-separator near r w = split-work st near (λ v. v .full ≡ false → w .full ≡ false) (λ g v f z. f (full-group near g v z)) r w (λ z. z)
+  unfolding separator
+  full-separator near r w = split-carries st (group st near) (λ v. v .full ≡ false → w .full ≡ false) (λ g v f z. f (full-group near g v z)) r w (λ z. z)
 
   full-kept : (q : ℕ) (o : Out) → Since (o .1) (kept st q o)
   unfolding kept

@@ -10,12 +10,13 @@ use Rattle.model.specs.Row.{Row, nil, agg, lit, rec, store, _⊹_, isNil, lone,
 use Rattle.model.specs.Spot.{Position, here, inside, fill, Chain, top, below, whole}
 use Rattle.model.specs.Growth.{Work, Out, onRow, splitPoint, startOfD, separator, counted, freed, kept, close, rise, rootRow}
 use Rattle.theory_rows.specs.Fits.{Ranges, Fits, Shape}
+use Rattle.theory_rows.specs.Laws.{nodes-some}
 use Rattle.theory_rows.specs.Shows.{shape-nodeCount}
 use Rattle.theory_rows.specs.Bound.{depth, SplitGood, split-good}
 use Rattle.theory_rows.specs.Keeps.{Grew, depth-height, shape-kept, base-kept, close-good}
 use Rattle.theory_rows.specs.Lean.{Leaned, Splittable, lean-kept, lean-close}
 use Rattle.theory_growth.specs.Chain.{lastSettled, size-fill, nodes-fill, fits-fill, fits-refill, chain-fits}
-use Rattle.theory_growth.specs.Chain.{nodes-some, proxy-beside, lone-proxy}
+use Rattle.theory_growth.specs.Chain.{proxy-beside, lone-proxy}
 use Rattle.theory_growth.specs.Shown.{height-close}
 use Rattle.theory_growth.specs.Parts.{Part, part-⊹, part-fill, part-whole}
 

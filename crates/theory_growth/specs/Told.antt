@@ -9,10 +9,9 @@ use borrow.Author.Tests.{eq-eqb}
 use Rattle.model.specs.Row.{Row, nil, agg, rec}
 use Rattle.model.specs.Tree.{width}
 use Rattle.model.specs.Spot.{Position, here, inside, fill, Chain, top, below, Spot, whole}
-use Rattle.theory_rows.specs.Laws.{width-⊹}
+use Rattle.theory_rows.specs.Laws.{Parted, width-⊹}
 use Rattle.theory_rows.specs.Population.{population, population-⊹}
 use Rattle.theory_places.specs.Widths.{Told, told-same, told-⊹, told-parts}
-use Rattle.theory_rows.specs.Works.{Parted}
 use Rattle.theory_growth.specs.Chain.{fill-more, fill-less, beside, along}
 
 -- It is right for what stands beside the proxies of the chain.

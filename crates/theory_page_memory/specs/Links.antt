@@ -14,7 +14,7 @@ use Rattle.theory_rows.specs.Fits.{Fits}
 use Rattle.theory_rows.specs.Image.{Stored, length-record}
 use Rattle.theory_rows.specs.Pages.{bit}
 use Rattle.theory_decoding.specs.Decode.{stored-same}
-use Rattle.theory_rows.specs.Works.{Parted}
+use Rattle.theory_rows.specs.Laws.{Parted}
 use Rattle.theory_page_memory.specs.Memory.{Mem, setMem, relink, linkMem, putMem}
 
 -- ── what holds of each proxy that stands in the row itself ──

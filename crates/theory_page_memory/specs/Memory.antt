@@ -7,9 +7,8 @@ use lib.Dec.{leb, eqb}
 use Rattle.model.specs.Limits.{pageSize, capacity}
 use Rattle.model.specs.Tree.{New}
 use Rattle.model.specs.Row.{Head, Row, nil, agg, lit, rec, _⊹_, isNil, loneRec, recordSize, two, recordPage, Config, recordOn}
-use Rattle.model.specs.Growth.{Work, freeFrom, separator, counted, freed, apart, asRow}
+use Rattle.model.specs.Growth.{Work, separate, cutOf, freeFrom, group, separator, counted, freed, apart, asRow}
 use Rattle.model.specs.Spot.{fill, Chain, top, below, lastPage}
-use Rattle.theory_rows.specs.Plan.{Plan, keep, grouped, under, both, follow, separatorPlan}
 
 abbrev pub Mem : Type 0
 Mem = ℕ → List ℕ
@@ -48,14 +47,12 @@ module _ (st : Config) where
       let own = putMem (freeFrom st (st .pages) (w .used) near) false 0 g m in
       cond (isNil g || loneRec g) m own
 
-  unfoldable pub followMem : (near : ℕ) → Plan → Work → Mem → Mem
-  followMem near (keep r) w m = m
-  followMem near (grouped r) w m = groupMem near r w m
-  followMem near (under h p) w m = followMem near p w m
-  followMem near (both p q) w m = followMem near q (follow st near p w .1) (followMem near p w m)
+  -- The model's group with its page writes.
+  abbrev pub groupM : (near : ℕ) → Row → Work × Mem → Row × (Work × Mem)
+  groupM near g s = (group st near g (s .0) .0, (group st near g (s .0) .1, groupMem near g (s .0) (s .1)))
 
-  abbrev pub separatorMem : (near : ℕ) → Row → Work → Mem → Mem
-  separatorMem near r w m = followMem near (separatorPlan st r) w m
+  unfoldable pub separatorMem : (near : ℕ) → Row → Work → Mem → Mem
+  separatorMem near r w m = separate (groupM near) (cutOf st r) (w, m) .1 .1
 
   -- ── from the last record of a chain upwards ──
 
@@ -91,8 +88,5 @@ pub record MemState : Type 0 where
   pub mem : Mem
 
 module _ (st : Config) where
-  abbrev pub followM : (near : ℕ) → Plan → Work → Mem → MemState
-  followM near p w m = record { row = follow st near p w .0; work = follow st near p w .1; mem = followMem st near p w m }
-
   abbrev pub separatorM : (near : ℕ) → Row → Work → Mem → MemState
   separatorM near r w m = record { row = separator st near r w .0; work = separator st near r w .1; mem = separatorMem st near r w m }

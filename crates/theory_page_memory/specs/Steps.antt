@@ -1,18 +1,18 @@
 -- A split keeps a memory good: the records of the separator stand on their pages, free pages stay blank, and what is elsewhere stays.
-use mathlib.Core.Path.{_≡_, refl, sym, subst, _∙_}
+use mathlib.Core.Path.{_≡_, refl, ap, subst, _∙_}
 use mathlib.Core.Bool.{Bool, true, false, cond, _||_, true≢false}
 use Prim.Native.Nat.{ℕ, _+_, _≤_, _<_}
 use native.Mathlib.Omega.{arith}
 use lib.Dec.{eqb}
 use Rattle.model.specs.Row.{Head, Row, nil, agg, rec, _⊹_, isNil, loneRec, count, Config}
-use Rattle.model.specs.Growth.{Work, Out, freeFrom, taken, group, separator}
+use Rattle.model.specs.Growth.{Work, Out, onRow, separate, cutOf, freeFrom, taken, group, separator}
 use Rattle.model.specs.Spot.{Position, fill}
 use Rattle.theory_growth.specs.Chain.{fill-more, count-refill}
 use Rattle.theory_rows.specs.Bound.{fits-parts}
 use Rattle.theory_rows.specs.Fits.{Fits}
 use Rattle.theory_rows.specs.Pages.{bit, count-⊹, or-left, or-right, free-found, tally-own}
-use Rattle.theory_page_memory.specs.Memory.{Mem, blank, putMem, groupMem, followMem, separatorMem, MemState, followM, separatorM}
-use Rattle.theory_rows.specs.Plan.{Plan, keep, grouped, under, both, planned, planned-separator, follow, separatorPlan, separator-plan}
+use Rattle.theory_page_memory.specs.Memory.{Mem, blank, putMem, groupMem, groupM, separatorMem, MemState, separatorM}
+use Rattle.theory_rows.specs.Cut.{split-related, split-keeps}
 use Rattle.theory_page_memory.specs.Links.{Loose, not-bit, all-parted, loose-agree, put-other, put-same, put-stored}
 
 -- A row, a work and a memory that go together: `e q` times is page q named elsewhere.
@@ -116,11 +116,11 @@ module _ (st : Config) (near : ℕ) where
         frame = λ p z. put-other q s h g m p (omega (arith, one p));
       }
 
-  -- A plan: if the records that it makes fit, they stand on their pages.
-  step-follow : (e : ℕ → ℕ) (p : Plan) (w : Work) (m : Mem) → Fits (follow st near p w .0) → StepKeeps e (planned p) w m (followM st near p w m)
-  unfolding follow followMem group groupMem
-  step-follow e (keep r) w m f = stay e r w m
-  step-follow e (grouped r) w m f = go (isNil r || loneRec r) f
+  -- A group stays, or becomes a record.
+  step-group : (e : ℕ → ℕ) (r : Row) (w : Work) (m : Mem) → Fits (group st near r w .0)
+      → StepKeeps e r w m (record { row = group st near r w .0; work = group st near r w .1; mem = groupMem st near r w m })
+  unfolding group groupMem
+  step-group e r w m = go (isNil r || loneRec r)
     where
       q : ℕ
       q = freeFrom st (st .pages) (w .used) near
@@ -129,18 +129,31 @@ module _ (st : Config) (near : ℕ) where
           Fits (o .0) → StepKeeps e r w m (record { row = o .0; work = o .1; mem = cond b m (putMem q false 0 r m) })
       go true f = stay e r w m
       go false f = step-own e false 0 r w m (f .1)
-  step-follow e (under h p) w m f = step-under e h (planned p) w m (followM st near p w m) (step-follow e p w m (f .1))
-  step-follow e (both p q) w m f =
-      let x = followM st near p w m in
-      let y = followM st near q (x .work) (x .mem) in
-      let fs = fits-parts (x .row) (y .row) f in
-      step-both e (planned p) (planned q) w m x y
-      (step-follow (λ k. e k + count k (planned q)) p w m (fs .0)) (step-follow (λ k. e k + count k (x .row)) q (x .work) (x .mem) (fs .1))
 
-  -- A split.
+  -- Rows and works are the model's.
+  pub split-same : (r : Row) (w : Work) (m : Mem) → let o = separate (groupM st near) (cutOf st r) (w, m) in
+      (o .0, o .1 .0) ≡ separator st near r w
+  unfolding separator
+  split-same r w m =
+      split-related st (groupM st near) (group st near) (λ r s w o u. s .0 ≡ w → (o .0, o .1 .0) ≡ u)
+      (record {
+        both = λ a b s w x y x′ y′ i j e.
+            let k = i e in
+            let l = j (ap (λ (o : Out). o .1) k) in
+            λ n. (k n .0 ⊹ l n .0, l n .1);
+        under = λ h r s w x x′ i e. ap (onRow (λ r. agg h r nil)) (i e);
+      }) (λ r s w e. ap (group st near r) e) r (w, m) w refl
+
+  -- A split: if the records that it makes fit, they stand on their pages.
   pub step-separator : (e : ℕ → ℕ) (r : Row) (w : Work) (m : Mem) → Fits (separator st near r w .0) → StepKeeps e r w m (separatorM st near r w m)
-  step-separator e r w m f =
-      let s : Out → MemState = λ o. record { row = o .0; work = o .1; mem = separatorMem st near r w m } in
-      let z = separator-plan st near r w in
-      subst (λ (o : Out). StepKeeps e r w m (s o)) z (subst (λ (x : Row). StepKeeps e x w m (s (follow st near (separatorPlan st r) w)))
-      (planned-separator st r) (step-follow e (separatorPlan st r) w m (subst (λ (o : Out). Fits (o .0)) (sym z) f)))
+  unfolding separatorMem
+  step-separator e r w m =
+      subst (λ (o : Out). Fits (o .0) → StepKeeps e r w m (record { row = o .0; work = o .1; mem = separatorMem st near r w m })) (split-same r w m)
+      (split-keeps st (groupM st near)
+      (λ r s o. (e : ℕ → ℕ) → Fits (o .0) → StepKeeps e r (s .0) (s .1) (record { row = o .0; work = o .1 .0; mem = o .1 .1 }))
+      (λ a b s x y i j e f.
+      let fs = fits-parts (x .0) (y .0) f in
+      step-both e a b (s .0) (s .1) (record { row = x .0; work = x .1 .0; mem = x .1 .1 }) (record { row = y .0; work = y .1 .0; mem = y .1 .1 })
+      (i (λ k. e k + count k b) (fs .0)) (j (λ k. e k + count k (x .0)) (fs .1)))
+      (λ h r s x i e f. step-under e h r (s .0) (s .1) (record { row = x .0; work = x .1 .0; mem = x .1 .1 }) (i e (f .1)))
+      (λ r s e. step-group e r (s .0) (s .1)) r (w, m) e)

@@ -17,6 +17,7 @@ use Rattle.theory_rows.specs.Fits.{HeadFits}
 use Rattle.theory_rows.specs.Laws.{length-bytes, bytes-⊹}
 use Rattle.theory_rows.specs.Image.{length-record}
 use Rattle.theory_decoding.specs.Decode.{two-bytes, in-trailer}
+pub use Rattle.theory_rows.specs.First.{kindOf, headOf, sizeOf, kidsOf, restOf, size-first, agg-first}
 
 -- The first bytes at pos are passed.
 past : (l : List ℕ) (pos n : ℕ) (first rest : List ℕ) → length first ≡ n → drop pos l ≡ first ++ rest → drop (pos + n) l ≡ rest
@@ -71,25 +72,7 @@ header-resized pre post pos k h n m e =
 
 -- ── the first node of a row ──
 
--- Its kind, what its header says besides, its size, its bytes past the header; for a proxy the page that it names.
-abbrev pub kindOf : Row → ℕ
-kindOf nil = 0
-kindOf (agg h cs rest) = 1
-kindOf (lit h c rest) = 2
-kindOf (rec p s r rest) = 3
-
-abbrev pub headOf : Row → Head
-headOf nil = noHead
-headOf (agg h cs rest) = h
-headOf (lit h c rest) = h
-headOf (rec p s r rest) = noHead
-
-abbrev pub sizeOf : Row → ℕ
-sizeOf nil = 0
-sizeOf (agg h cs rest) = 6 + size cs
-sizeOf (lit h c rest) = 6 + length c
-sizeOf (rec p s r rest) = 8
-
+-- Its bytes past the header; for a proxy the page that it names.
 abbrev pub bodyOf : Row → List ℕ
 bodyOf nil = []
 bodyOf (agg h cs rest) = bytes cs
@@ -101,32 +84,6 @@ nameOf nil = 0
 nameOf (agg h cs rest) = 0
 nameOf (lit h c rest) = 0
 nameOf (rec p s r rest) = p
-
--- Its children, and the nodes behind it.
-abbrev pub kidsOf : Row → Row
-kidsOf nil = nil
-kidsOf (agg h cs rest) = cs
-kidsOf (lit h c rest) = nil
-kidsOf (rec p s r rest) = nil
-
-abbrev pub restOf : Row → Row
-restOf nil = nil
-restOf (agg h cs rest) = rest
-restOf (lit h c rest) = rest
-restOf (rec p s r rest) = rest
-
-pub size-first : (r : Row) → size r ≡ sizeOf r + size (restOf r)
-size-first nil = refl
-size-first (agg h cs rest) = refl
-size-first (lit h c rest) = refl
-size-first (rec p s r rest) = refl
-
--- An aggregate is its header and its children.
-pub agg-first : (r : Row) → kindOf r ≡ 1 → (0 < size r) × (sizeOf r ≡ 6 + size (kidsOf r))
-agg-first nil e = absurd (omega arith)
-agg-first (agg h cs rest) e = (omega arith, refl)
-agg-first (lit h c rest) e = absurd (omega arith)
-agg-first (rec p s r rest) e = absurd (omega arith)
 
 -- ── a row ──
 

@@ -2,7 +2,7 @@
 use mathlib.Core.Path.{_≡_, refl, ap}
 use mathlib.Core.Bool.{Bool, true, false, cond, false≢true}
 use mathlib.Core.List.{List, [], _∷_}
-use Prim.Native.Nat.{ℕ, zero, suc, _+_, _≤_, max}
+use Prim.Native.Nat.{ℕ, zero, suc, _+_, _≤_, _<_, max}
 use native.Mathlib.Omega.{arith}
 use borrow.Author.Tests.{leb-true, leb-false}
 use lib.ListN.{length}
@@ -11,9 +11,10 @@ use Rattle.model.specs.Limits.{capacity, mostContent, mostNode}
 use Rattle.model.specs.Row.{Head, Row, nil, agg, lit, rec, _⊹_, size, lone, base, recordSize, Config, nodeCount, height}
 use Rattle.theory_rows.specs.Fits.{Ranges, HeadFits, Fits, Shape, one, more, IsByte}
 use Rattle.model.specs.Tree.{Tree, end, branch, leaf, _⊞_, shown, New, newNode, putAt, insertAt}
-use Rattle.model.specs.Growth.{Work, Out, onRow, rootRow, separator, kept, close, counted, freed, asRow, place, apart}
+use Rattle.model.specs.Growth.{Work, Out, onRow, rootRow, splitPoint, cutRoot, separate, group, separator, kept, close, counted, freed, asRow, place, apart}
 use Rattle.theory_rows.specs.Laws.{size-⊹, cond-case, isNil-nil}
 use Rattle.theory_rows.specs.Shows.{shape-nodeCount, nodeCount-some}
+use Rattle.theory_rows.specs.Cut.{by-root}
 use Rattle.theory_rows.specs.Bound.{depth, split-good, Fits-⊹}
 
 -- ── levels ──
@@ -104,12 +105,11 @@ base-kept r r′ (more r₁ h) n k = go (lone r) refl
 -- ── a record after growth ──
 
 -- The separator of a record of one node has one node.
-pub separator-lone : (st : Config) (near : ℕ) (r : Row) (w : Work) → lone r ≡ true → lone (separator st near r w .0) ≡ true
-unfolding separator
-separator-lone st near nil w e = absurd (false≢true e)
-separator-lone st near (agg l cs rest) w e = rw e e
-separator-lone st near (lit l c rest) w e = rw e e
-separator-lone st near (rec p s r rest) w e = absurd (false≢true e)
+pub separator-lone : (st : Config) (near : ℕ) (r : Row) (w : Work) → Fits r → capacity < recordSize r → lone r ≡ true → lone (separator st near r w .0) ≡ true
+unfolding separator separate group
+separator-lone st near r w =
+    by-root (λ b x. b ≡ true → lone (separate (group st near) (cutRoot st (splitPoint st (recordSize r)) b x) w .0) ≡ true)
+    (λ _ e. absurd (false≢true e)) (λ _ _ _. refl) r
 
 module _ (st : Config) (k : Ranges st) where
   -- what stands where a record's proxy stood
@@ -128,7 +128,7 @@ module _ (st : Config) (k : Ranges st) where
       (λ t.
       let w = counted st (o .0) (o .1) in
       let b = split-good st k q (o .0) w f (leb-false (recordSize (o .0)) capacity t) m h in
-      let z = separator-lone st q (o .0) w e in
+      let z = separator-lone st q (o .0) w f (leb-false (recordSize (o .0)) capacity t) e in
       record { fits = (record { fits = rw z (omega (arith, b .small)); shape = one z }, b .fits, g); grown = omega arith; keeps = omega arith })
   close-good q false rest o g f a h m =
       cond-case (Closed rest) (leb (recordSize (o .0)) capacity)

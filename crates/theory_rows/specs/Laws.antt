@@ -1,5 +1,5 @@
 -- Laws of rows, and of what a row shows.
-use mathlib.Core.Path.{_≡_, refl, ap}
+use mathlib.Core.Path.{_≡_, refl, sym, ap}
 use mathlib.Core.Bool.{Bool, true, false, cond, false≢true}
 use mathlib.Core.List.{List, [], _∷_, _++_, append-assoc}
 use Prim.Native.Nat.{ℕ, zero, suc, _+_, _-_, _≤_, _<_}
@@ -8,8 +8,17 @@ use native.Mathlib.Nat.{sub-zero, suc-sub-suc}
 use borrow.Author.Tests.{ltb-true, ltb-false}
 use lib.ListN.{length, length-append}
 use lib.Dec.{ltb, eqb}
-use Rattle.model.specs.Row.{Row, nil, agg, lit, rec, _⊹_, size, nodeCount, isNil, bytes, lone}
+use Rattle.model.specs.Row.{Head, Row, nil, agg, lit, rec, _⊹_, size, nodeCount, isNil, bytes, lone}
 use Rattle.model.specs.Tree.{Tree, end, branch, leaf, _⊞_, shown, width, breadth, New, newNode, insertAt}
+
+-- ── a row and its parts ──
+
+-- A rule that holds of a row if it holds of its parts, and the other way round.
+pub record Parted (P : Row → Type 0) : Type 0 where
+  pub join : (a b : Row) → P a → P b → P (a ⊹ b)
+  pub parts : (a b : Row) → P (a ⊹ b) → P a × P b
+  pub children : (h : Head) (cs rest : Row) → P (agg h cs rest) → P cs
+  pub anew : (h : Head) (cs cs′ rest : Row) → P (agg h cs rest) → P cs′ → P (agg h cs′ rest)
 
 -- ── bytes ──
 
@@ -143,3 +152,26 @@ nodes-size nil h = absurd (omega arith)
 nodes-size (agg l cs rest) h = omega arith
 nodes-size (lit l c rest) h = omega arith
 nodes-size (rec p s r rest) h = omega arith
+
+-- A row with bytes, or with nodes, is not empty, and the other way round.
+pub not-nil : (r : Row) → 0 < size r → isNil r ≡ false
+not-nil nil h = absurd (omega arith)
+not-nil (agg l cs rest) h = refl
+not-nil (lit l c rest) h = refl
+not-nil (rec p s r rest) h = refl
+
+pub size-some : (r : Row) → isNil r ≡ false → 0 < size r
+size-some nil e = absurd (false≢true (sym e))
+size-some (agg l cs rest) e = omega arith
+size-some (lit l c rest) e = omega arith
+size-some (rec p s r rest) e = omega arith
+
+pub nodes-some : (r : Row) → 1 ≤ nodeCount r → isNil r ≡ false
+nodes-some r h = not-nil r (omega (arith, nodes-size r h))
+
+pub size-nil : (r : Row) → size r ≡ 0 → isNil r ≡ true
+size-nil r e = go (isNil r) refl
+  where
+    go : (b : Bool) → isNil r ≡ b → b ≡ true
+    go true z = refl
+    go false z = absurd (omega (arith, size-some r z))

@@ -1,7 +1,7 @@
 pub mod Fits
 pub mod Laws
-pub mod Plan
-pub mod Works
+pub mod First
+pub mod Cut
 pub mod Shows
 pub mod Point
 pub mod Bound

@@ -10,7 +10,7 @@ use Rattle.model.specs.Row.{Head, Row, nil, agg, lit, rec, _⊹_, isNil, loneRe
 use Rattle.model.specs.Tree.{New}
 use Rattle.model.specs.Growth.{Work, Out, freeFrom, taken, ownRecord, group, separator, kept, close, counted, freed, asRow, place, apart, atRest}
 use Rattle.theory_rows.specs.Laws.{cond-case}
-use Rattle.theory_rows.specs.Plan.{Plan, keep, grouped, under, both, planned, follow, separatorPlan, planned-separator, separator-plan}
+use Rattle.theory_rows.specs.Cut.{split-keeps}
 
 pub count-⊹ : (q : ℕ) (a b : Row) → count q (a ⊹ b) ≡ count q a + count q b
 count-⊹ q nil b = omega arith
@@ -73,25 +73,17 @@ module _ (st : Config) where
   abbrev pub Tallies : (ℕ → ℕ) → Out → Type 0
   Tallies e o = Tally e (names (o .0)) (o .1)
 
-  tally-follow : (e : ℕ → ℕ) (near : ℕ) (x : Plan) (w : Work) → Tally e (names (planned x)) w → Tallies e (follow st near x w)
-  unfolding follow group
-  tally-follow e near (keep r) w t = t
-  tally-follow e near (grouped r) w t =
-      cond-case (Tallies e) (isNil r || loneRec r) (λ _. t) (λ _. tally-own e near false r nil w (λ full q. omega (arith, t full q)))
-  tally-follow e near (under h x) w t =
-      let u = tally-follow e near x w (λ full q. omega (arith, t full q)) in
-      λ full q. omega (arith, u full q)
-  tally-follow e near (both x y) w t =
-      let a = follow st near x w in
-      let b = follow st near y (a .1) in
-      let u = tally-follow (λ q. e q + count q (planned y)) near x w (λ full q. omega (arith, t full q, count-⊹ q (planned x) (planned y))) in
-      let v = tally-follow (λ q. e q + count q (a .0)) near y (a .1) (λ full q. omega (arith, u full q)) in
-      λ full q. omega (arith, v full q, count-⊹ q (a .0) (b .0))
-
   tally-separator : (e : ℕ → ℕ) (near : ℕ) (r : Row) (w : Work) → Tally e (names r) w → Tallies e (separator st near r w)
-  tally-separator e near r w t =
-      subst (Tallies e) (separator-plan st near r w)
-      (tally-follow e near (separatorPlan st r) w (subst (λ (r : Row). Tally e (names r) w) (sym (planned-separator st r)) t))
+  unfolding separator group
+  tally-separator e near r w =
+      split-keeps st (group st near) (λ r w o. (e : ℕ → ℕ) → Tally e (names r) w → Tallies e o)
+      (λ a b w x y i j e t.
+      let u = i (λ q. e q + count q b) (λ full q. omega (arith, t full q, count-⊹ q a b)) in
+      let v = j (λ q. e q + count q (x .0)) (λ full q. omega (arith, u full q)) in
+      λ full q. omega (arith, v full q, count-⊹ q (x .0) (y .0)))
+      (λ h r w x i e t. let u = i e (λ full q. omega (arith, t full q)) in λ full q. omega (arith, u full q))
+      (λ r w e t.
+      cond-case (Tallies e) (isNil r || loneRec r) (λ _. t) (λ _. tally-own e near false r nil w (λ full q. omega (arith, t full q)))) r w e
 
   pub tally-kept : (e : ℕ → ℕ) (q : ℕ) (o : Out) → Tallies e o → Tallies e (kept st q o)
   unfolding kept

@@ -10,7 +10,7 @@ use Rattle.model.specs.Growth.{Work, Out, group, separator, kept, close, counte
 use native.Mathlib.Omega.{arith}
 use Rattle.theory_rows.specs.Fits.{Fits, Shape, one, more}
 use Rattle.theory_rows.specs.Laws.{cond-case, ⊞-end, shown-⊹, newNode-⊞}
-use Rattle.theory_rows.specs.Plan.{Plan, keep, grouped, under, both, planned, follow, separatorPlan, planned-separator, separator-plan}
+use Rattle.theory_rows.specs.Cut.{split-keeps}
 
 -- ── how many nodes ──
 
@@ -43,19 +43,12 @@ abbrev pub Shows : Tree → Out → Type 0
 Shows t o = shown (o .0) ≡ t
 
 module _ (st : Config) where
-  shown-follow : (near : ℕ) (x : Plan) (w : Work) → Shows (shown (planned x)) (follow st near x w)
-  unfolding follow group
-  shown-follow near (keep r) w = refl
-  shown-follow near (grouped r) w = cond-case (Shows (shown r)) (isNil r || loneRec r) (λ e. refl) (λ e. ⊞-end (shown r))
-  shown-follow near (under h x) w = ap (λ t. branch h t end) (shown-follow near x w)
-  shown-follow near (both x y) w =
-      let a = follow st near x w in
-      let b = follow st near y (a .1) in
-      shown-⊹ (a .0) (b .0) ∙ ap₂ _⊞_ (shown-follow near x w) (shown-follow near y (a .1)) ∙ sym (shown-⊹ (planned x) (planned y))
-
   pub shown-separator : (near : ℕ) (r : Row) (w : Work) → Shows (shown r) (separator st near r w)
-  shown-separator near r w =
-      ap (λ (o : Out). shown (o .0)) (sym (separator-plan st near r w)) ∙ shown-follow near (separatorPlan st r) w ∙ ap shown (planned-separator st r)
+  unfolding separator group
+  shown-separator near =
+      split-keeps st (group st near) (λ r w o. Shows (shown r) o)
+      (λ a b w x y i j. shown-⊹ (x .0) (y .0) ∙ ap₂ _⊞_ i j ∙ sym (shown-⊹ a b)) (λ h r w x i. ap (λ t. branch h t end) i)
+      (λ r w. cond-case (Shows (shown r)) (isNil r || loneRec r) (λ e. refl) (λ e. ⊞-end (shown r)))
 
   pub shown-kept : (q : ℕ) (o : Out) → Shows (shown (o .0)) (kept st q o)
   unfolding kept

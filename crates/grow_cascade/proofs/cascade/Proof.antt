@@ -1,6 +1,6 @@
 -- `grow_cascade::cascade`: at each record, growth from there upwards gives what it gave from the first one.
--- In each need: l the loop's variables, x the place after split_off, w what cascade requires, o and k what the loop goes by, r the record that it is at.
-use mathlib.Core.Path.{_≡_, refl, sym, _∙_}
+-- In each need: l the loop's variables, x and y the places after split_off and lean_now, w what cascade requires, o and k what the loop goes by, r the record that it is at.
+use mathlib.Core.Path.{_≡_, refl, sym, ap, subst, _∙_}
 use mathlib.Core.Bool.{true, _||_, cond}
 use Prim.Native.Nat.{_+_, _-_, _≤_, _<_}
 use native.Mathlib.Omega.{arith}
@@ -13,15 +13,16 @@ use mir.Val.{toZ, ofZ}
 use mir.Facts.{toZ-ofZ}
 use Rattle.model.specs.Limits.{mostPages, capacity}
 use Rattle.model.specs.Row.{recordSize}
+use Rattle.model.specs.Claims.{InLean}
 use Rattle.base_layout.specs.Growing.{bufferSize, separatorSize, nearTo}
 use Rattle.grow_split_point.specs.Lean.{lean-signed}
 use Rattle.theory_growth.specs.Chain.{lastSettled}
-use Rattle.grow_groups.specs.Used.{Past}
-use Rattle.grow_write_back.specs.Off.{leaves, SplitOff}
-use Rattle.grow_cascade.specs.Rising.{inside, long-image, settled-is, settled-most, holder-is, holder-high, able, range, env, leaning, good, off}
-use Rattle.grow_cascade.specs.Stops.{leanNow, leaning-in, lean-in, content, low-done, severed-long, severed-content, settled-done}
+use Rattle.grow_groups.specs.Step.{front-end}
+use Rattle.grow_write_back.specs.Off.{leanOf, leaves, SplitOff}
+use Rattle.grow_cascade.specs.Rising.{inside, long-image, settled-is, settled-most, holder-is, holder-high, able, range, env, good, off}
+use Rattle.grow_cascade.specs.Stops.{leanNow, lean-in, content, low-done, severed-long, severed-content, settled-done}
 use Rattle.grow_split.specs.Severed.{is-one, is-other}
-use Rattle.grow_cascade.specs.Cascade.{Cascade, goalOf, memOf, Onward, onward-start, onward-end, severed-end, Upward, upward}
+use Rattle.grow_cascade.specs.Cascade.{Cascade, goalOf, memOf, Onward, onward-start, onward-end, Upward, upward}
 use Rattle.grow_cascade.proofs.cascade.Statement.{statement}
 use Rattle.grow_cascade.proofs.cascade.Tie as tie
 
@@ -118,63 +119,66 @@ returns c =
     onward-end o (low-done r fit (b .back-at .ensures .0 ∙ holder-is r)
     (c .before .before .keep .ensures (content r fit) (lastSettled (o .now .chain)) (bit-of b w)))
 
-slice-reshare-prefix-lean-now : tie.Need-slice-reshare-prefix-lean-now Inv-loop μ-loop
-slice-reshare-prefix-lean-now c = fits-buffer (c .before .before .before .before .before)
-
-slice-aggregate-lean-now : tie.Need-slice-aggregate-lean-now Inv-loop μ-loop
-slice-aggregate-lean-now c = taken-length (c .before .before .before .before .before .before)
-
-lean-now-requires : tie.Need-lean-now-requires Inv-loop μ-loop
-lean-now-requires c κs =
-    let r = here (c .before .before .before .before .before .before) .now .rising in
-    (range r, leaning r (omega (arith, r .long, c .before .if1 .left)))
-
-add-splits : tie.Need-add-splits Inv-loop μ-loop
-add-splits c = omega (arith, here (c .before .before .before .before .before .before .before) .now .rising .short)
-
 slice-reshare-prefix-split-off : tie.Need-slice-reshare-prefix-split-off Inv-loop μ-loop
-slice-reshare-prefix-split-off c = fits-buffer (c .before .before .before .before .before .before .before)
+slice-reshare-prefix-split-off c = fits-buffer (c .before .before .before .before .before)
 
 slice-aggregate-split-off : tie.Need-slice-aggregate-split-off Inv-loop μ-loop
-slice-aggregate-split-off c = taken-length (c .before .before .before .before .before .before .before .before)
+slice-aggregate-split-off c = taken-length (c .before .before .before .before .before .before)
 
 slice-aggregate-split-off-2 : tie.Need-slice-aggregate-split-off-2 Inv-loop μ-loop
 slice-aggregate-split-off-2 c = refl
 
 split-off-requires : tie.Need-split-off-requires Inv-loop μ-loop
 split-off-requires c κs =
-    let b = c .before .before .before .before .before .before .before in
+    let b = c .before .before .before .before .before in
     let s = b .before .before .before .before .before .before .before .before in
     let d = s .args .start .dry in
     let r = b .before .before .before .before .loop .inv .0 (s .pre .1) .now .rising in
-    (env r d, (refl, off r (omega (arith, r .long, c .before .before .before .before .before .before .if1 .left)) d _ (bit-of b (s .pre .1))))
+    (env r d, (refl, off r (omega (arith, r .long, c .before .before .before .before .if1 .left)) d _ (bit-of b (s .pre .1))))
 
 -- the record is split
 abbrev at-loop : tie.After-split-off Inv-loop μ-loop → tie.At-loop Inv-loop μ-loop
-at-loop x = x .before .before .before .before .before .before .before .before .before .before .before .before
+at-loop x = x .before .before .before .before .before .before .before .before .before .before
 
 large : (x : tie.After-split-off Inv-loop μ-loop) → let l = at-loop x in (w : Given (at-start l)) → capacity < recordSize (l .loop .inv .0 w .now .row)
-large x w = omega (arith, at-loop x .loop .inv .0 w .now .rising .long, x .before .before .before .before .before .before .before .if1 .left)
+large x w = omega (arith, at-loop x .loop .inv .0 w .now .rising .long, x .before .before .before .before .before .if1 .left)
 
 cut-of : (x : tie.After-split-off Inv-loop μ-loop) → let l = at-loop x in let s = at-start l in (w : Given s)
-    → let k = l .loop .inv .0 w .now in let z = x .split-off .last .1 in
-    SplitOff (k .st) (nearTo (s .args .start) (l .loop .near)) (k .row) (k .work) (lastSettled (k .chain)) (x .split-off .result)
-    (l .loop .widths) (z .1 .0) (l .loop .image) (z .0) (replicate separatorSize 0) (z .1 .1 .1 .1 .0) × Past (s .args .start .setup .pages) (z .1 .0)
+    → let k = l .loop .inv .0 w .now in let z = x .split-off .last .1 in let r = x .split-off .result in
+    SplitOff (k .st) (nearTo (s .args .start) (l .loop .near)) (k .row) (k .work) (lastSettled (k .chain)) (r .end) (r .full)
+    (l .loop .widths) (z .1 .0) (l .loop .image) (z .0) (replicate separatorSize 0) (z .1 .1 .1 .1 .0) × (r .lean ≡ leanOf (k .st) (k .row))
 cut-of x w =
-    let x₁ = x .before .before .before .before .before .before .before in
     let l = at-loop x in
-    x .split-off .ensures (off (l .loop .inv .0 w .now .rising) (large x w) (at-start l .args .start .dry) _ (bit-of (x₁ .before) w))
+    x .split-off .ensures (off (l .loop .inv .0 w .now .rising) (large x w) (at-start l .args .start .dry) _ (bit-of (x .before .before .before .before .before .before) w))
 
-lean-of : (x : tie.After-split-off Inv-loop μ-loop) → let y = at-loop x in let l = y .loop in (w : Given (at-start y))
-    → let k =
-    l .inv .0 w .now in toZ w32 (ofZ w32 (x .before .before .before .before .before .lean-now .result)) ≡ leanNow (k .st) (k .row) (l .splits)
-    (toZ w32 (l .lean))
-lean-of x w =
+-- its lean
+lean-last : (x : tie.After-split-off Inv-loop μ-loop) → let z = x .split-off .result .lean in InLean z × (toZ w32 (ofZ w32 z) ≡ z)
+lean-last x =
+    let w = at-start (at-loop x) .pre .1 in
+    let k = at-loop x .loop .inv .0 w .now in
+    let y = subst InLean (sym (cut-of x w .1)) (good (k .rising) (large x w) (k .work) .lean) in
+    (y, toZ-ofZ {w = w32} (lean-signed _ y))
+
+lean-now-requires : tie.Need-lean-now-requires Inv-loop μ-loop
+lean-now-requires c κs =
+    let x = c .before .before .before .before in
+    (range (here (at-loop x) .now .rising), subst InLean (sym (lean-last x .1)) (lean-last x .0))
+
+abbrev at-split : tie.After-lean-now Inv-loop μ-loop → tie.After-split-off Inv-loop μ-loop
+at-split y = y .before .before .before .before .before
+
+lean-of : (y : tie.After-lean-now Inv-loop μ-loop) → let u = at-loop (at-split y) in let l = u .loop in (w : Given (at-start u))
+    → let k = l .inv .0 w .now in toZ w32 (ofZ w32 (y .lean-now .result)) ≡ leanNow (l .splits) (toZ w32 (l .lean)) (leanOf (k .st) (k .row))
+lean-of y w =
+    let x = at-split y in
     let l = at-loop x .loop in
-    let k = l .inv .0 w .now in
-    let t = leaning (k .rising) (large x w) in
-    let e = x .before .before .before .before .before .lean-now .ensures t in
-    toZ-ofZ {w = w32} (lean-signed _ (rw e (lean-in (k .st) (k .row) (l .splits) (toZ w32 (l .lean)) (range (k .rising)) (leaning-in t)))) ∙ e
+    let now = leanNow (l .splits) (toZ w32 (l .lean)) in
+    let e : y .lean-now .result ≡ now (x .split-off .result .lean) = y .lean-now .ensures ∙ ap now (lean-last x .1) in
+    toZ-ofZ {w = w32} (lean-signed _ (subst InLean (sym e) (lean-in (l .splits) _ _ (range (l .inv .0 w .now .rising)) (lean-last x .0)))) ∙ e
+    ∙ ap now (cut-of x w .1)
+
+add-splits : tie.Need-add-splits Inv-loop μ-loop
+add-splits c = omega (arith, here (at-loop (at-split c)) .now .rising .short)
 
 -- the separator is within its array
 ends : (x : tie.After-split-off Inv-loop μ-loop) → x .split-off .result .end ≤ length (x .split-off .last .1 .1 .1 .1 .1 .0)
@@ -183,29 +187,26 @@ ends x =
     let w = at-start l .pre .1 in
     let k = l .loop .inv .0 w .now in
     let v = leaves (k .st) (lastSettled (k .chain)) (l .loop .near) (k .row) (k .work) in
-    severed-end (cut-of x w .0) (omega (arith, good (k .rising) (large x w) v .small))
+    front-end (cut-of x w .0) (omega (arith, good (k .rising) (large x w) v .small))
 
 taken-end : (x : tie.After-split-off Inv-loop μ-loop) → let r = x .split-off .result .end in r ≡ length (take r (x .split-off .last .1 .1 .1 .1 .1 .0))
 taken-end x = sym (length-take-le _ _ (ends x))
 
 array-share-prefix-sep : tie.Need-array-share-prefix-sep Inv-loop μ-loop
-array-share-prefix-sep c = ends (c .before .before .before .before .before .before)
+array-share-prefix-sep c = ends (c .before .before .before .before .before .before .before .before)
 
 slice-aggregate-keep-2 : tie.Need-slice-aggregate-keep-2 Inv-loop μ-loop
-slice-aggregate-keep-2 c = taken-end (c .before .before .before .before .before .before .before)
+slice-aggregate-keep-2 c = taken-end (c .before .before .before .before .before .before .before .before .before)
 
 -- the split record is settled
-stays-of : (x : tie.After-split-off Inv-loop μ-loop)
-    → let a = x .before .before .before .before .before .before .before .before .before .before in let l = at-loop x in
-    a .settled-at .result ≡ 1 → (w : Given (at-start l)) → lastSettled (l .loop .inv .0 w .now .chain) ≡ true
-stays-of x e w =
-    let b = x .before .before .before .before .before .before .before .before in
-    is-one (lastSettled (at-loop x .loop .inv .0 w .now .chain)) _ 0 (bit-of b w) (λ z. omega arith) e
+stays-of : (x : tie.After-split-off Inv-loop μ-loop) → let l = at-loop x in x .before .before .before .before .before .before .before .before .settled-at .result ≡ 1 → (w : Given (at-start l))
+    → lastSettled (l .loop .inv .0 w .now .chain) ≡ true
+stays-of x e w = is-one (lastSettled (at-loop x .loop .inv .0 w .now .chain)) _ 0 (bit-of (x .before .before .before .before .before .before) w) (λ z. omega arith) e
 
 keep-requires-2 : tie.Need-keep-requires-2 Inv-loop μ-loop
 keep-requires-2 c κs =
-    let x = c .before .before .before .before .before .before .before in
-    let b = x .before .before .before .before .before .before .before .before in
+    let x = c .before .before .before .before .before .before .before .before .before in
+    let b = x .before .before .before .before .before .before in
     let w = at-start (at-loop x) .pre .1 in
     let r = at-loop x .loop .inv .0 w .now .rising in
     let i = inside r in
@@ -217,7 +218,7 @@ keep-requires-2 c κs =
 
 same-length-3 : tie.Need-same-length-3 Inv-loop μ-loop
 same-length-3 c =
-    let x = c .before .before .before .before .before .before .before .before .before .before in
+    let x = c .before .before .before .before .before .before .before .before .before .before .before .before in
     c .before .before .keep2 .kept .0 ∙ x .split-off .kept .1 .0 ∙ here (at-loop x) .same
 
 same-length-4 : tie.Need-same-length-4 Inv-loop μ-loop
@@ -226,58 +227,58 @@ same-length-4 c = search needs
 returns-2 : tie.Need-returns-2 Inv-loop μ-loop
 returns-2 c =
     λ w.
-    let x = c .before .before .before .before .before .before .before .before .before .before in
-    let b = x .before .before .before .before .before .before .before .before in
+    let z = c .before .before .before .before .before .before .before in
+    let x = at-split z in
+    let b = x .before .before .before .before .before .before in
     let o = at-loop x .loop .inv .0 w in
     let r = o .now .rising in
     let y = stays-of x (c .before .before .before .before .before .if2 .taken) w in
     let v = cut-of x w .0 in
-    onward-end o (settled-done r (large x w) y v (lean-of x w) (b .back-at .ensures .0 ∙ holder-is r)
+    onward-end o (settled-done r (large x w) y v (lean-of z w) (b .back-at .ensures .0 ∙ holder-is r)
     (c .before .before .keep2 .ensures (severed-content r (large x w) y v) (lastSettled (o .now .chain)) (bit-of b w)))
 
 array-share-prefix-sep-2 : tie.Need-array-share-prefix-sep-2 Inv-loop μ-loop
-array-share-prefix-sep-2 c = ends (c .before .before .before .before .before .before)
+array-share-prefix-sep-2 c = ends (c .before .before .before .before .before .before .before .before)
 
 slice-aggregate-lift : tie.Need-slice-aggregate-lift Inv-loop μ-loop
-slice-aggregate-lift c = taken-end (c .before .before .before .before .before .before .before)
+slice-aggregate-lift c = taken-end (c .before .before .before .before .before .before .before .before .before)
 
 -- the record above
-above : (x : tie.After-split-off Inv-loop μ-loop)
-    → let b = x .before .before .before .before .before .before .before .before in let y = at-loop x in let l = y .loop in let s = at-start y in
+above : (y : tie.After-lean-now Inv-loop μ-loop) → let x = at-split y in
+    let b = x .before .before .before .before .before .before in let u = at-loop x in let l = u .loop in let s = at-start u in
     let z = x .split-off .last .1 in let q = x .split-off .result in (b .before .before .settled-at .result ≡ 1 → ⊥) → (w : Given s)
     → Upward (goalOf w) (memOf w) (s .args .image .now) (nearTo (s .args .start) (l .near)) (b .back-at .result) (q .end) (l .full || q .full) (l .splits + 1)
-    (toZ w32 (ofZ w32 (x .before .before .before .before .before .lean-now .result))) (l .buf) (z .1 .0) (z .0) (z .1 .1 .1 .1 .0)
-above x e w =
-    let b = x .before .before .before .before .before .before .before .before in
+    (toZ w32 (ofZ w32 (y .lean-now .result))) (l .buf) (z .1 .0) (z .0) (z .1 .1 .1 .1 .0)
+above y e w =
+    let x = at-split y in
+    let b = x .before .before .before .before .before .before in
     let o = at-loop x .loop .inv .0 w in
-    let v = cut-of x w in
-    upward o (large x w) (is-other (lastSettled (o .now .chain)) _ 0 (bit-of b w) e) (b .back-at .ensures .0 ∙ holder-is (o .now .rising)) (v .0) (v .1)
-    (lean-of x w)
+    upward o (large x w) (is-other (lastSettled (o .now .chain)) _ 0 (bit-of b w) e) (b .back-at .ensures .0 ∙ holder-is (o .now .rising))
+    (cut-of x w .0) (lean-of y w)
 
 lift-requires : tie.Need-lift-requires Inv-loop μ-loop
 lift-requires c κs =
-    let x = c .before .before .before .before .before .before .before .before in
-    let l = at-loop x in
-    (above x (c .before .before .before .if2 .left) (at-start l .pre .1) .lift, omega (arith, l .loop .inv .1))
+    let y = c .before .before .before .before .before in
+    let l = at-loop (at-split y) in
+    (above y (c .before .before .before .if2 .left) (at-start l .pre .1) .lift, omega (arith, l .loop .inv .1))
 
 loop-less : tie.Need-loop-less Inv-loop μ-loop
 loop-less c =
-    let x = c .before .before .before .before .before .before .before .before .before .before .before in
-    let a = above x (c .before .before .before .before .before .before .if2 .left) (at-start (at-loop x) .pre .1) in
+    let y = c .before .before .before .before .before .before .before .before in
+    let a = above y (c .before .before .before .before .before .before .if2 .left) (at-start (at-loop (at-split y)) .pre .1) in
     let e = c .before .before .lift .ensures (a .lift) in
     omega (arith, a .next _ _ (e .0) (e .1) .now .rising .short)
 
 loop-again : tie.Need-loop-again Inv-loop μ-loop
 loop-again c =
-    let x = c .before .before .before .before .before .before .before .before .before .before .before in
+    let y = c .before .before .before .before .before .before .before .before in
     let t = c .before .before .lift in
     let n = c .before .before .before .before .before .before .if2 .left in
-    (λ w. let a = above x n w in let e = t .ensures (a .lift) in a .next _ _ (e .0) (e .1), t .kept .1 .1 .1 .1 .0 ∙ at-loop x .loop .inv .1)
+    (λ w. let a = above y n w in let e = t .ensures (a .lift) in a .next _ _ (e .0) (e .1), t .kept .1 .1 .1 .1 .0 ∙ at-loop (at-split y) .loop .inv .1)
 
 pub cascade-spec : {M : Type 1} → statement M
 cascade-spec =
     tie.close (tie.spec Inv-loop μ-loop loop-holds mul-settled-at settled-at-requires mul-back-at back-at-requires slice-reshare-prefix-keep
-    slice-aggregate-keep keep-requires same-length same-length-2 returns slice-reshare-prefix-lean-now slice-aggregate-lean-now lean-now-requires
-    add-splits slice-reshare-prefix-split-off slice-aggregate-split-off slice-aggregate-split-off-2 split-off-requires array-share-prefix-sep
-    slice-aggregate-keep-2 keep-requires-2 same-length-3 same-length-4 returns-2 array-share-prefix-sep-2 slice-aggregate-lift lift-requires loop-less
-    loop-again)
+    slice-aggregate-keep keep-requires same-length same-length-2 returns slice-reshare-prefix-split-off slice-aggregate-split-off
+    slice-aggregate-split-off-2 split-off-requires lean-now-requires add-splits array-share-prefix-sep slice-aggregate-keep-2 keep-requires-2
+    same-length-3 same-length-4 returns-2 array-share-prefix-sep-2 slice-aggregate-lift lift-requires loop-less loop-again)

@@ -19,7 +19,7 @@ copy-in-requires : tie.Need-copy-in-requires
 copy-in-requires c κs =
     let s = c .before .before .before .before .before .before in
     let w = s .pre .1 .1 in
-    omega (arith, kept-room w (sym (c .before .if1 .taken) ∙ c .before .before .stays .ensures (w .row) (w .is)), s .pre .1 .0)
+    omega (arith, kept-room (s .pre .0) w (sym (c .before .if1 .taken) ∙ c .before .before .stays .ensures (w .row) (w .is)), s .pre .1 .0)
 
 add-t15 : tie.Need-add-t15
 add-t15 c = search needs
@@ -29,7 +29,7 @@ same-length c = search needs
 
 returns : tie.Need-returns
 returns c =
-    λ w. group-kept w (sym (c .before .before .before .before .if1 .taken) ∙ c .before .before .before .before .before .stays .ensures (w .row) (w .is)) _ _ _
+    λ w. group-kept (c .before .before .before .before .before .before .before .before .before .pre .0) w (sym (c .before .before .before .before .if1 .taken) ∙ c .before .before .before .before .before .stays .ensures (w .row) (w .is)) _ _ _
     (c .before .before .copy-in .ensures)
 
 first-free-requires : tie.Need-first-free-requires
@@ -40,7 +40,7 @@ number-requires c κs =
     let s = c .before .before .before .before .before .before .before .before in
     let w = s .pre .1 .1 in
     let h = sym (c .before .before .before .if1 .left) ∙ c .before .before .before .before .stays .ensures (w .row) (w .is) in
-    group-linked w h (s .pre .0 .few)
+    group-linked (s .pre .0) w h
 
 mul-widths : tie.Need-mul-widths
 mul-widths c =
@@ -59,7 +59,7 @@ put-nodes-requires c κs =
     let v = s .pre .0 in
     let w = s .pre .1 .1 in
     let h = sym (f .before .before .if1 .left) ∙ f .before .before .before .stays .ensures (w .row) (w .is) in
-    (v .few, (v .image, (found-inside v _ (f .first-free .ensures), group-record w h)))
+    (v .few, (v .image, (found-inside v _ (f .first-free .ensures), group-record v w h)))
 
 put-proxy-requires : tie.Need-put-proxy-requires
 put-proxy-requires c κs =
@@ -68,7 +68,7 @@ put-proxy-requires c κs =
     let v = s .pre .0 in
     let w = s .pre .1 .1 in
     let h = sym (f .before .before .if1 .left) ∙ f .before .before .before .stays .ensures (w .row) (w .is) in
-    omega (arith, v .few, s .pre .1 .0, proxy-room w h, found-inside v _ (f .first-free .ensures))
+    omega (arith, v .few, s .pre .1 .0, proxy-room v w h, found-inside v _ (f .first-free .ensures))
 
 add-t19 : tie.Need-add-t19
 add-t19 c = search needs
@@ -90,8 +90,8 @@ returns-2 c =
     let d = s .args .g .dry in
     let i = s .args .image .now in
     let h = sym (c₁ .if1 .left) ∙ c₁ .before .stays .ensures (w .row) (w .is) in
-    group-moved w h _ _ _ _ _ _ (f .first-free .ensures (w .st) (pages-of (w .setup))) (n .number .ensures (group-linked w h (s .pre .0 .few)))
-    (⊎-elim (λ v. wet d _ i _ (v .0 .taken) (v .5 ∙ v .2 .ensures (group-record w h)))
+    group-moved (s .pre .0) w h _ _ _ _ _ _ (f .first-free .ensures (w .st) (pages-of (w .setup))) (n .number .ensures (group-linked (s .pre .0) w h))
+    (⊎-elim (λ v. wet d _ i _ (v .0 .taken) (v .5 ∙ v .2 .ensures (group-record (s .pre .0) w h)))
     (λ v. still d _ _ (written (f .first-free .result) false 0 (w .row) i) (v .0 .left) (v .1)) (c .before .before .before .before .if2 .came))
     (c .before .before .put-proxy .ensures)
 

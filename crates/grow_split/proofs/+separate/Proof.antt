@@ -1,6 +1,6 @@
 -- `grow_split::separate`: a level of the separator. The measure is the length of the row.
 -- In each need: s the start, w the row that stands there, g, z, y, v, o the places after put_group, size_at, copy_in, separate and put16;
--- ml and nd are what the inner level and the node around it leave.
+-- ml is what the inner level leaves.
 use mathlib.Core.Path.{_≡_, refl, sym, _∙_}
 use mathlib.Core.Bool.{true, false}
 use native.Mathlib.Omega.{arith}
@@ -10,10 +10,10 @@ use borrow.Fn.Kinds.{In}
 use borrow.Fn.PlainCycle.{Measures, is, falls, and}
 use Rattle.base_layout.specs.Growing.{tolerance-of}
 use Rattle.grow_split_point.specs.Kids.{first-low}
-use Rattle.grow_split_point.specs.Level.{inner-fits}
-use Rattle.grow_split_point.specs.Chosen.{remains, goesInto}
-use Rattle.grow_split.specs.Separate.{Sep, Left, at-x, x-fits, left-group, left-end, env-left, right-group, done-apart}
-use Rattle.grow_split.specs.Separate.{header-room, inner-sep, inner-room, env-inner, node-done, rest-group, done-inside}
+use Rattle.grow_split_point.specs.Level.{chosen-fits, inner-fits}
+use Rattle.theory_rows.specs.Cut.{goesInto}
+use Rattle.grow_split.specs.Separate.{Sep, Left, at-x, left-group, left-end, env-left, right-group, done-apart}
+use Rattle.grow_split.specs.Separate.{header-room, inner-sep, inner-room, env-inner, rest-group, done-inside}
 use Rattle.grow_split.proofs.separate.Reads as separate
 use Rattle.grow_split.proofs.separate.Kinds as separate-kinds
 use Rattle.grow_split.proofs.+separate.Lts-separate as separate-lts
@@ -75,7 +75,7 @@ module _ (t : ℕ) where
   -- the chosen child is in the row
   x-in : (c : separate-lts.After-child (claims t) (separate-at t) separate.Post) → let a = to-start c .args in
       (a .row .pos ≤ c .child .result) × ((c .child .result + 6 ≤ a .row .end) × (a .row .end ≤ length (a .buf .now)))
-  x-in c = let w = to-start c .pre .1 .1 .1 .1 in x-fits w (c .child .ensures (w .kids))
+  x-in c = let w = to-start c .pre .1 .1 .1 .1 in chosen-fits (w .kids) (c .child .ensures (w .kids) (w .st))
 
   child-requires : separate-lts.Need-child-requires (claims t) (separate-at t) separate.Post
   child-requires c κs = c .before .before .before .pre .1 .1 .1 .1 .kids
@@ -94,14 +94,14 @@ module _ (t : ℕ) where
       let x = c .before .before .before .before in
       let s = to-start x in
       let w = s .pre .1 .1 .1 .1 in
-      (s .pre .1 .0, (s .pre .1 .1 .0, left-group w (x .child .ensures (w .kids))))
+      (s .pre .1 .0, (s .pre .1 .1 .0, left-group w (x .child .ensures (w .kids) (w .st))))
 
   -- what the left group leaves
   left : (c : separate-lts.After-put-group (claims t) (separate-at t) separate.Post)
       → let a = to-start (to-child c) .args in let z = c .put-group .last .1 in (w : Given (to-start (to-child c)))
       → Left w (a .at) (to-child c .child .result) (c .put-group .result) (z .1 .0) (z .0) (z .1 .1 .1 .0) (a .out .now)
   left c w =
-      let is = to-child c .child .ensures (w .kids) in
+      let is = to-child c .child .ensures (w .kids) (w .st) in
       record {
         is = is;
         enough = omega (arith, to-start (to-child c) .pre .1 .1 .0);
@@ -113,7 +113,7 @@ module _ (t : ℕ) where
   enters-requires c κs =
       let x = to-child (c .before .before .before .before) in
       let w = to-start x .pre .1 .1 .1 .1 in
-      (omega (arith, x-in x), first-low (at-x w (x .child .ensures (w .kids))))
+      (omega (arith, x-in x), first-low (at-x w (x .child .ensures (w .kids) (w .st))))
 
   add-inner : separate-lts.Need-add-inner (claims t) (separate-at t) separate.Post
   add-inner c = omega (arith, x-in (to-child (c .before .before .before .before .before .before)))
@@ -122,8 +122,8 @@ module _ (t : ℕ) where
   size-at-requires c κs = omega (arith, x-in (to-child (c .before .before .before .before .before .before)))
 
   -- the split goes on in the chosen child,
-  into : (c : separate-lts.After-size-at (claims t) (separate-at t) separate.Post) → let s = to-start (to-child (to-group c)) in
-      (w : Given s) → goesInto (w .st) (remains (s .args .row .p) (s .args .row .pos) (w .kids .row)) ≡ true
+  into : (c : separate-lts.After-size-at (claims t) (separate-at t) separate.Post) → (w : Given (to-start (to-child (to-group c))))
+      → goesInto (w .st) (left (to-group c) w .is .from) ≡ true
   into c w =
       sym (c .before .before .enters .ensures _ (at-x w (left (to-group c) w .is)) (w .st) (tolerance-of (w .setup))) ∙ c .before .if1 .taken
 
@@ -173,7 +173,7 @@ module _ (t : ℕ) where
       let k = y .copy-in .kept .1 .0 in (
         omega (arith, s .pre .0, x-in (to-child g), inner-in z),
         (
-          env-left (left g w) (s .pre .1 .0) (g .put-group .kept .1 .0),
+          env-left (left g w) (s .pre .1 .0),
           (omega (arith, header-in z, k), (omega (arith, header-in z, k), inner-sep (left g w) (into z w) _ (z .size-at .ensures .0) _ k)),
         ),
       )
@@ -189,7 +189,7 @@ module _ (t : ℕ) where
       let w = to-start (to-child g) .pre .1 .1 .1 .1 in
       let k = y .copy-in .kept .1 .0 in
       let ml = v .separate .ensures (inner-sep (left g w) (into z w) _ (z .size-at .ensures .0) (length (y .copy-in .last .1 .0)) k) in
-      omega (arith, inner-room (left g w) (into z w) ml, header-in z, v .separate .kept .1 .1 .1 .1 .1 .0, k)
+      omega (arith, inner-room (left g w) (into z w) (ml .0), header-in z, v .separate .kept .1 .1 .1 .1 .1 .0, k)
 
   add-put16 : separate-lts.Need-add-put16 (claims t) (separate-at t) separate.Post
   add-put16 c = omega (arith, inner-out (c .before .before .before .before .before .before))
@@ -220,10 +220,9 @@ module _ (t : ℕ) where
       let w = s .pre .1 .1 .1 .1 in
       let k = y .copy-in .kept .1 .0 in
       let ml = v .separate .ensures (inner-sep (left g w) (into z w) _ (z .size-at .ensures .0) (length (y .copy-in .last .1 .0)) k) in
-      let nd = node-done (left g w) (into z w) ml _ _ (z .size-at .ensures .0) refl (y .copy-in .ensures) (o .put16 .ensures) in
       let m = o .put16 .kept .0 ∙ v .separate .kept .1 .1 .1 .1 .1 .0 ∙ k in (
-        env-inner (left g w) (into z w) ml (env-left (left g w) (s .pre .1 .0) (g .put-group .kept .1 .0)) (v .separate .kept .1 .1 .0),
-        (omega (arith, inner-out v, m, header-in z), rest-group (left g w) (into z w) nd _ (z .size-at .ensures .0) _ m),
+        env-inner (left g w) (into z w) (ml .0) (env-left (left g w) (s .pre .1 .0)),
+        (omega (arith, inner-out v, m, header-in z), rest-group (left g w) (into z w) (ml .0) _ (z .size-at .ensures .0) _ m),
       )
 
   same-length : separate-lts.Need-same-length (claims t) (separate-at t) separate.Post
@@ -252,10 +251,10 @@ module _ (t : ℕ) where
       let g = to-group z in
       let k = y .copy-in .kept .1 .0 in
       let ml = v .separate .ensures (inner-sep (left g w) (into z w) _ (z .size-at .ensures .0) (length (y .copy-in .last .1 .0)) k) in
-      let nd = node-done (left g w) (into z w) ml _ _ (z .size-at .ensures .0) refl (y .copy-in .ensures) (o .put16 .ensures) in
       let m = o .put16 .kept .0 ∙ v .separate .kept .1 .1 .1 .1 .1 .0 ∙ k in
-      done-inside (left g w) (into z w) nd
-      (p .put-group2 .ensures (rest-group (left g w) (into z w) nd _ (z .size-at .ensures .0) (length (o .put16 .last .0)) m))
+      done-inside (left g w) (into z w) (ml .0) _ _ (z .size-at .ensures .0) refl (ml .1) (y .copy-in .ensures) (o .put16 .ensures)
+      (p .put-group2 .ensures
+      (rest-group (left g w) (into z w) (ml .0) _ (z .size-at .ensures .0) (length (o .put16 .last .0)) m))
 
   sub-put-group-3 : separate-lts.Need-sub-put-group-3 (claims t) (separate-at t) separate.Post
   sub-put-group-3 c = omega (arith, x-in (to-child (c .before .before .before .before .before .before)))
@@ -268,8 +267,7 @@ module _ (t : ℕ) where
 
   -- the chosen child is d
   stops : (c : separate-lts.Else1 (claims t) (separate-at t) separate.Post)
-      → let s = to-start (to-child (c .before .before .before .before .before .before)) in
-      (w : Given s) → goesInto (w .st) (remains (s .args .row .p) (s .args .row .pos) (w .kids .row)) ≡ false
+      → let g = c .before .before .before .before .before .before in (w : Given (to-start (to-child g))) → goesInto (w .st) (left g w .is .from) ≡ false
   stops c w =
       let g = c .before .before .before .before .before .before in
       sym (c .before .enters .ensures _ (at-x w (left g w .is)) (w .st) (tolerance-of (w .setup))) ∙ c .if1 .left
@@ -280,7 +278,7 @@ module _ (t : ℕ) where
       let g = e .before .before .before .before .before .before in
       let s = to-start (to-child g) in
       let w = s .pre .1 .1 .1 .1 in
-      (env-left (left g w) (s .pre .1 .0) (g .put-group .kept .1 .0), (left-end (left g w), right-group (left g w) (stops e w)))
+      (env-left (left g w) (s .pre .1 .0), (left-end (left g w), right-group (left g w) (stops e w)))
 
   same-length-3 : separate-lts.Need-same-length-3 (claims t) (separate-at t) separate.Post
   same-length-3 c =

@@ -31,7 +31,7 @@ separate-requires c κs =
     let e = stays-lone w (y .before .before .before .if1 .taken) in
     let k = lone-room w (length (y .copy-in .last .1 .0) - 6) e (omega (arith, y .copy-in .kept .1 .0, s .pre .1 .0)) in
     let m = y .copy-in .kept .1 .0 in
-    (s .pre .0, (omega (arith, m, s .pre .1 .0), (omega (arith, m, s .pre .1 .0), large-sep w (s .pre .0) _ k)))
+    (s .pre .0, (omega (arith, m, s .pre .1 .0), (omega (arith, m, s .pre .1 .0), large-sep w _ _ k)))
 
 put16-requires : tie.Need-put16-requires
 put16-requires c κs =
@@ -41,9 +41,9 @@ put16-requires c κs =
     let w = s .pre .1 .1 in
     let e = stays-lone w (y .before .before .before .if1 .taken) in
     let k = lone-room w (length (y .copy-in .last .1 .0) - 6) e (omega (arith, y .copy-in .kept .1 .0, s .pre .1 .0)) in
-    let ml = v .separate .ensures (large-sep w (s .pre .0) _ k) in
+    let ml = v .separate .ensures (large-sep w _ _ k) in
     let m = y .copy-in .kept .1 .0 in
-    (omega (arith, v .separate .kept .1 .1 .1 .1 .1 .0, m, s .pre .1 .0), omega (arith, end-small w (s .pre .0) _ k ml, m, s .pre .1 .0))
+    (omega (arith, v .separate .kept .1 .1 .1 .1 .1 .0, m, s .pre .1 .0), omega (arith, end-small w _ _ k {r = v .separate .result} ml, m, s .pre .1 .0))
 
 same-length : tie.Need-same-length
 same-length c = search needs
@@ -59,15 +59,15 @@ returns c =
     let s = y .before .before .before .before .before .before .before .before in
     let e = stays-lone w (y .before .before .before .if1 .taken) in
     let k = lone-room w (length (y .copy-in .last .1 .0) - 6) e (omega (arith, y .copy-in .kept .1 .0, s .pre .1 .0)) in
-    let ml = v .separate .ensures (large-sep w (s .pre .0) _ k) in
-    done-lone w (s .pre .0) _ k e (omega (arith, y .copy-in .kept .1 .0, s .pre .1 .0)) (y .copy-in .ensures) ml (c .before .before .put16 .ensures)
+    let ml = v .separate .ensures (large-sep w _ _ k) in
+    done-lone w _ _ k e (omega (arith, y .copy-in .kept .1 .0, s .pre .1 .0)) (y .copy-in .ensures) ml (c .before .before .put16 .ensures)
 
 separate-requires-2 : tie.Need-separate-requires-2
 separate-requires-2 c κs =
     let s = c .before .before .before .before .before .before .before .before in
     let w = s .pre .1 .1 in
     let k = helper-room w (length (s .args .out .now) - 0) (drops-helper w (c .before .before .before .if1 .left)) (omega (arith, s .pre .1 .0)) in
-    (s .pre .0, (omega arith, (omega (arith, s .pre .1 .0), large-sep w (s .pre .0) _ k)))
+    (s .pre .0, (omega arith, (omega (arith, s .pre .1 .0), large-sep w _ _ k)))
 
 same-length-3 : tie.Need-same-length-3
 same-length-3 c = search needs
@@ -81,7 +81,7 @@ returns-2 c =
     let s = c .before .before .before .before .before .before .before .before .before .before .before .before .before in
     let e = drops-helper w (c .before .before .before .before .before .before .before .before .if1 .left) in
     let k = helper-room w (length (s .args .out .now) - 0) e (omega (arith, s .pre .1 .0)) in
-    done-helper w (s .pre .0) _ k e (c .before .before .before .before .separate2 .ensures (large-sep w (s .pre .0) _ k))
+    done-helper w _ _ k e (c .before .before .before .before .separate2 .ensures (large-sep w _ _ k))
 
 pub separator-spec : {M : Type 1} → statement M
 separator-spec =

@@ -1,7 +1,11 @@
 -- `grow_write_back::split_off`: the page is left, then the record is split.
--- In each need: s the start, w the record, d what `leave` did.
+-- In each need: s the start, x the place after the separator, w the record, d what `leave` did, p what the split point is.
+use mathlib.Core.Path.{_∙_}
+use mir.Syntax.{w32}
+use mir.Facts.{toZ-ofZ}
 use Rattle.base_layout.specs.Growing.{target-of}
-use Rattle.grow_write_back.specs.Off.{off-sizes, off-env, off-large, off-done}
+use Rattle.grow_split_point.specs.Lean.{lean-signed}
+use Rattle.grow_write_back.specs.Off.{off-sizes, off-env, off-large, off-lean, off-done}
 use borrow.Author.Needs.{needs}
 use Rattle.grow_write_back.proofs.split_off.Statement.{statement}
 use Rattle.grow_write_back.proofs.split_off.Tie as tie
@@ -22,6 +26,15 @@ separator-requires c κs =
     let p = c .before .before .before .split-point .ensures (w .st) (target-of (w .setup)) in
     (off-env w (s .pre .0) (d .0) (d .1), (s .pre .1 .0, off-large w (s .pre .0) (d .0) (d .1) p))
 
+lean-requires : tie.Need-lean-requires
+lean-requires c κs =
+    let x = c .before .before .before .before in
+    let s = x .before .before .before .before .before .before .before .before .before .before .before .before .before in
+    let w = s .pre .1 .1 in
+    let d = x .before .before .before .before .before .before .before .leave .ensures (w .stays) (w .bit) in
+    let p = x .before .before .before .before .split-point .ensures (w .st) (target-of (w .setup)) in
+    off-lean w (s .pre .0) (d .0) (d .1) p (x .separator .ensures (off-large w (s .pre .0) (d .0) (d .1) p) .1)
+
 same-length : tie.Need-same-length
 same-length c = search needs
 
@@ -31,11 +44,14 @@ same-length-2 c = search needs
 returns : tie.Need-returns
 returns c =
     λ w.
-    let s = c .before .before .before .before .before .before .before .before .before .before .before .before .before .before .before .before .before in
-    let d = c .before .before .before .before .before .before .before .before .before .before .before .leave .ensures (w .stays) (w .bit) in
-    let p = c .before .before .before .before .before .before .before .before .split-point .ensures (w .st) (target-of (w .setup)) in
-    off-done w (s .pre .0) (d .0) (d .1) p (c .before .before .before .before .separator .ensures (off-large w (s .pre .0) (d .0) (d .1) p))
+    let x = c .before .before .before .before .before in
+    let s = x .before .before .before .before .before .before .before .before .before .before .before .before .before in
+    let d = x .before .before .before .before .before .before .before .leave .ensures (w .stays) (w .bit) in
+    let p = x .before .before .before .before .split-point .ensures (w .st) (target-of (w .setup)) in
+    let v = x .separator .ensures (off-large w (s .pre .0) (d .0) (d .1) p) in
+    let z = c .lean .ensures in
+    off-done w (s .pre .0) (d .0) (d .1) p (v .1) (v .0) (toZ-ofZ {w = w32} (lean-signed (c .lean .result) (z .1)) ∙ z .0)
 
 pub split-off-spec : {M : Type 1} → statement M
 split-off-spec =
-    tie.close (tie.spec leave-requires split-point-requires separator-requires same-length same-length-2 returns)
+    tie.close (tie.spec leave-requires split-point-requires separator-requires lean-requires same-length same-length-2 returns)

@@ -1,27 +1,21 @@
--- The split keeps the table right: each new record's entry is how many nodes it shows, and the pages in use before keep theirs.
+-- A split keeps the table right: each new record's entry is how many nodes it shows, and the pages in use before keep theirs.
 use mathlib.Core.Path.{_≡_, refl, sym, ap, _∙_}
-use mathlib.Core.Bool.{Bool, true, false, not, _||_, true≢false}
+use mathlib.Core.Bool.{Bool, true, false, not, true≢false}
 use mathlib.Core.List.{List}
 use Prim.Native.Nat.{ℕ, zero, suc, _+_, _<_, _≤_}
 use native.Mathlib.Omega.{arith}
 use lib.Dec.{eqb}
 use lib.ListN.{length, getD, set, length-set}
 use lib.Seq.{getD-set-same, getD-set-other}
-use Rattle.model.specs.Limits.{mostPages}
-use Rattle.model.specs.Row.{Row, nil, agg, lit, rec, _⊹_, isNil, loneRec, count, Config}
+use Rattle.model.specs.Row.{Row, nil, agg, lit, rec, _⊹_, isNil, count}
 use Rattle.model.specs.Tree.{width}
-use Rattle.model.specs.Growth.{freeFrom}
 use Rattle.theory_rows.specs.Laws.{cond-case}
-use Rattle.theory_rows.specs.Pages.{count-⊹, or-left, or-right, free-found}
+use Rattle.theory_rows.specs.Pages.{count-⊹}
 use Rattle.theory_rows.specs.Population.{population, population-⊹, width-population}
 use Rattle.theory_decoding.specs.Valid.{names-own}
 use Rattle.theory_places.specs.Widths.{Told, told-same, told-⊹, told-parts, either}
-use Rattle.base_layout.specs.declared.Growing.{Growing}
-use Rattle.grow_pages.specs.Write.{usedBy, used-taken, free-below}
+use Rattle.grow_pages.specs.Write.{usedBy, used-taken}
 use Rattle.grow_widths.specs.Tally.{mostEntry, numberOf, entry-some, entry-is, tallied-told}
-use Rattle.grow_groups.specs.Group.{Cutting, groupI}
-use Rattle.theory_rows.specs.Plan.{Plan, keep, grouped, under, both, planned}
-use Rattle.grow_split.specs.Cutting.{followI}
 
 -- The table is right for a row, marks the pages that the row names, and an entry takes the number of its nodes.
 pub record Tabled (u : List ℕ) (r : Row) : Type 0 where
@@ -35,9 +29,6 @@ pub record Keeps (u u′ : List ℕ) (row : Row) : Type 0 where
   pub named : (q : ℕ) → 1 ≤ count q row → usedBy u′ q ≡ true
   pub frame : (q : ℕ) → usedBy u q ≡ true → getD u′ q 0 ≡ getD u q 0
   pub long : length u′ ≡ length u
-
-abbrev pub Tells : (table : List ℕ) → Cutting → Type 0
-Tells u c = Keeps u (c .used) (c .row)
 
 -- ── tables and rows ──
 
@@ -54,7 +45,7 @@ mark-some u q h = go (getD u q 0) h
     go zero e = absurd (true≢false (sym e))
     go (suc n) e = omega arith
 
-tabled-parts : (u : List ℕ) (a b : Row) → Tabled u (a ⊹ b) → Tabled u a × Tabled u b
+pub tabled-parts : (u : List ℕ) (a b : Row) → Tabled u (a ⊹ b) → Tabled u a × Tabled u b
 tabled-parts u a b t =
     let k = told-parts u a b (t .told) in
     let n = population-⊹ a b in (
@@ -63,7 +54,7 @@ tabled-parts u a b t =
     )
 
 -- With the same entries on the pages that the row names.
-tabled-same : {u u′ : List ℕ} (r : Row) → ((q : ℕ) → 1 ≤ count q r → getD u′ q 0 ≡ getD u q 0) → Tabled u r → Tabled u′ r
+pub tabled-same : {u u′ : List ℕ} (r : Row) → ((q : ℕ) → 1 ≤ count q r → getD u′ q 0 ≡ getD u q 0) → Tabled u r → Tabled u′ r
 tabled-same {u} {u′} r f t = record {
   told = told-same u u′ r f (t .told);
   named = λ q h. same-mark u u′ q (f q h) (t .named q h);
@@ -74,13 +65,13 @@ pub tabled-set : (u : List ℕ) (p v : ℕ) (row : Row) → count p row ≡ 0 �
 tabled-set u p v row z t = tabled-same row (λ q h. getD-set-other u p q v 0 (λ e. omega (arith, ap (λ (i : ℕ). count i row) e))) t
 
 -- The same for a later table.
-keeps-row : {u u′ : List ℕ} → ((q : ℕ) → usedBy u q ≡ true → getD u′ q 0 ≡ getD u q 0) → length u′ ≡ length u → (r : Row) → Tabled u r → Keeps u u′ r
+pub keeps-row : {u u′ : List ℕ} → ((q : ℕ) → usedBy u q ≡ true → getD u′ q 0 ≡ getD u q 0) → length u′ ≡ length u → (r : Row) → Tabled u r → Keeps u u′ r
 keeps-row f l r t =
     let m = tabled-same r (λ q h. f q (t .named q h)) t in
     record { told = m .told; named = m .named; frame = f; long = l }
 
 -- Two rows in one, the second kept by a later table than the first.
-keeps-both : {u u′ u″ : List ℕ} (x y : Row) → Keeps u u′ x → Keeps u′ u″ y → Keeps u u″ (x ⊹ y)
+pub keeps-both : {u u′ u″ : List ℕ} (x y : Row) → Keeps u u′ x → Keeps u′ u″ y → Keeps u u″ (x ⊹ y)
 keeps-both {u} {u′} {u″} x y a b =
     let same : (q : ℕ) → 1 ≤ count q x → getD u″ q 0 ≡ getD u′ q 0 = λ q h. b .frame q (a .named q h) in
     record {
@@ -101,7 +92,7 @@ shows-some u (lit h c rest) e t = omega arith
 shows-some u (rec p s r rest) e t = omega (arith, t .told .0, mark-some u p (t .named p (names-own p s r rest)))
 
 -- A free page gets the number of the row that becomes its record.
-own-keeps : (u : List ℕ) (q : ℕ) (r : Row) → q < length u → usedBy u q ≡ false → isNil r ≡ false → Tabled u r
+pub own-keeps : (u : List ℕ) (q : ℕ) (r : Row) → q < length u → usedBy u q ≡ false → isNil r ≡ false → Tabled u r
     → Keeps u (set u q (numberOf u r)) (rec q false r nil)
 own-keeps u q r h free e t =
     let n = numberOf u r in
@@ -118,26 +109,3 @@ own-keeps u q r h free e t =
       frame = m .frame;
       long = m .long;
     }
-
-module _ (st : Config) (many : st .pages ≤ mostPages) (g : Growing) (inside : g .near < mostPages) where
-  pub follow-tells : (p : Plan) (u img : List ℕ) → length u ≡ mostPages → Tabled u (planned p) → followI st g p u img .full ≡ false
-      → Tells u (followI st g p u img)
-  unfolding groupI
-  follow-tells (keep r) u img l t f = keeps-row (λ _ _. refl) refl r t
-  follow-tells (grouped r) u img l t f =
-      let q = freeFrom st (st .pages) (usedBy u) (g .near) in
-      cond-case (λ (c : Cutting). c .full ≡ false → Tells u c) (isNil r || loneRec r) (λ _ _. keeps-row (λ _ _. refl) refl r t)
-      (λ e f. own-keeps u q r (omega (arith, free-below st many (usedBy u) (st .pages) (g .near) inside))
-      (free-found st (st .pages) (usedBy u) (g .near) f) (or-left (isNil r) (loneRec r) e) t) f
-  follow-tells (under h p) u img l t f =
-      let few : population (planned p) ≤ mostEntry = omega (arith, t .few) in
-      let a = follow-tells p u img l (record { told = t .told .0; named = λ q k. t .named q (omega arith); few = few }) f in
-      record { told = (a .told, tt); named = λ q k. a .named q (omega arith); frame = a .frame; long = a .long }
-  follow-tells (both p q) u img l t f =
-      let c = followI st g p u img in
-      let d = followI st g q (c .used) (c .img) in
-      let k = tabled-parts u (planned p) (planned q) t in
-      let a = follow-tells p u img l (k .0) (or-left (c .full) (d .full) f) in
-      let t′ : Tabled (c .used) (planned q) = tabled-same (planned q) (λ x h. a .frame x (k .1 .named x h)) (k .1) in
-      let b = follow-tells q (c .used) (c .img) (a .long ∙ l) t′ (or-right (c .full) (d .full) f) in
-      keeps-both (c .row) (d .row) a b
