@@ -32,25 +32,21 @@ onRow f o = (f (o .0), o .1)
 abbrev pub mark : Bool → ℕ → (ℕ → Bool) → (ℕ → Bool)
 mark b q used = λ x. cond (eqb x q) b (used x)
 
--- ── the separator (step 4) ──
+-- ── a cut and its separator (step 4) ──
 
--- A row of children cut in two along the path down to d. What is left of the path; and d with what is right of it, or else the node on the path,
--- with the cut of its own children, and what is right of it.
+-- The children of a separator node, cut along the path down to d. `through`: those left of the path, the next node on the path with the cut of its own
+-- children, and those right of it. `atD`: those left of the path, and d with those right of it.
 pub data Cut : Type 0 where
   atD : (left right : Row) → Cut
   through : (left : Row) → (node : Head) → (inner : Cut) → (right : Row) → Cut
 
--- A later child starts at or before p too: a node of n bytes starts at `at`, and `rest` follows it.
-abbrev pub goOn : (p at n : ℕ) → (rest : Row) → Bool
-goOn p at n rest = not (isNil rest) && leb (at + n) p
-
--- Where d starts, the children starting at `at`.
+-- Where d starts, if the children start at `at`.
 abbrev pub startOf : (at : ℕ) → Cut → ℕ
 startOf at (atD left right) = at + size left
 startOf at (through left h inner right) = startOf (at + size left + 6) inner
 
--- The nodes of the path stay. At each of them the children left of the path are a group, and those right of it another, in document order: whatever is put
--- in place of a group, and whatever is carried along.
+-- The separator: the nodes on the path stay. At each of them the children left of the path form one group, those right of it another, in document order;
+-- what is put in a group's place, and what is carried along, is given.
 unfoldable pub separate : {S : Type 0} → (group : Row → S → Row × S) → Cut → S → Row × S
 separate group (atD left right) s =
     let a = group left s in
@@ -61,6 +57,10 @@ separate group (through left h inner right) s =
     let b = separate group inner (a .1) in
     let c = group right (b .1) in
     (a .0 ⊹ agg h (b .0) (c .0), c .1)
+
+-- A later child starts at or before the split point p too (step 3): a node of n bytes starts at `at`, and `rest` follows it.
+abbrev pub goOn : (p at n : ℕ) → (rest : Row) → Bool
+goOn p at n rest = not (isNil rest) && leb (at + n) p
 
 module _ (st : Config) where
   -- ── pages (step 6) ──
@@ -97,8 +97,8 @@ module _ (st : Config) where
   abbrev pub stops : (children : Row) → Bool
   stops cs = isNil cs || ltb (6 + size cs) (st .tolerance)
 
-  -- The cut of the children of a separator node, from the one at `at` on, those before it being `left`. The chosen child is the last that starts
-  -- at or before p, or the first.
+  -- The cut of the children of a separator node, from the one at `at` on, those before it being `left`. The path goes through the last child that starts
+  -- at or before p, or the first, unless that is d.
   unfoldable pub cutFrom : (p at : ℕ) → (left row : Row) → Cut
   cutFrom p at left nil = atD left nil
   cutFrom p at left (agg h cs rest) =

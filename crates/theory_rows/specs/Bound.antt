@@ -4,12 +4,11 @@ use mathlib.Core.Bool.{Bool, true, false, cond, _||_, false≢true, true≢false
 use Prim.Native.Nat.{ℕ, _+_, _*_, _≤_, _<_, max}
 use native.Mathlib.Omega.{arith}
 use native.Mathlib.Nat.{mul-le-mul-right}
-use borrow.Author.Tests.{ltb-true, ltb-false, leb-true, leb-false}
-use lib.ListN.{length}
+use borrow.Author.Tests.{ltb-true, ltb-false}
 use lib.IntN.{subℕ}
-use lib.Dec.{ltb, T}
-use Rattle.model.specs.Limits.{capacity, mostContent, mostNode}
-use Rattle.model.specs.Row.{Row, base, nil, agg, lit, rec, _⊹_, size, isNil, lone, loneRec, base, recordSize, Config}
+use lib.Dec.{ltb}
+use Rattle.model.specs.Limits.{capacity, mostNode}
+use Rattle.model.specs.Row.{Row, nil, agg, lit, rec, _⊹_, size, isNil, lone, loneRec, nodeCount, base, recordSize, Config}
 use Rattle.theory_rows.specs.Fits.{Ranges, Fits, Shape, one, more}
 use Rattle.model.specs.Growth.{Work, Out, Cut, atD, through, separate, startOf, startOfD, cutFrom, cutRoot, cutOf, group, rootRow, splitPoint, separator}
 use Rattle.model.specs.Claims.{InLean}
@@ -54,26 +53,29 @@ depth-some (agg l cs rest) e = omega arith
 depth-some (lit l c rest) e = omega arith
 depth-some (rec p s r rest) e = omega arith
 
--- The levels of the path to d.
-abbrev levels : Cut → ℕ
-levels (atD left right) = 1
-levels (through left h inner right) = 1 + levels inner
-
 module _ (st : Config) (p : ℕ) (tol : st .tolerance ≤ 512) where
-  levels-depth : (at : ℕ) (c : Cut) → Follows st p tol at c → levels c ≤ depth (cutRow c)
-  levels-depth at (atD left right) k = omega (arith, depth-⊹ left right, depth-some right (k .1))
-  levels-depth at (through left h inner right) k =
-      omega (arith, depth-⊹ left (agg h (cutRow inner) right), levels-depth (at + size left + 6) inner (k .2))
-
   start-low : (at : ℕ) (c : Cut) → Follows st p tol at c → Fits (cutRow c) → p < at + size (cutRow c) → p < startOf at c + mostNode
   start-low at (atD left right) k f h = omega (arith, size-⊹ left right, k .2 (fits-parts left right f .1), k .3 (omega (arith, size-⊹ left right)))
   start-low at (through left hd inner right) k f h =
       let node : Row = agg hd (cutRow inner) right in
       start-low (at + size left + 6) inner (k .2) (fits-parts left node f .1 .1) (omega (arith, k .1 (omega (arith, size-⊹ left node))))
 
-  start-high : (at : ℕ) (c : Cut) → Follows st p tol at c → startOf at c + 6 ≤ max p at + 6 * levels c
-  start-high at (atD left right) k = omega (arith, k .0)
-  start-high at (through left h inner right) k = omega (arith, k .0, start-high (at + size left + 6) inner (k .2))
+  start-high : (at : ℕ) (c : Cut) → Follows st p tol at c → startOf at c + 6 ≤ max p at + 6 * depth (cutRow c)
+  start-high at (atD left right) k = omega (arith, k .0, depth-⊹ left right, depth-some right (k .1))
+  start-high at (through left h inner right) k =
+      omega (arith, k .0, depth-⊹ left (agg h (cutRow inner) right), start-high (at + size left + 6) inner (k .2))
+
+  -- The separator, without the root's header, if so little is put for each group.
+  separate-size : {S : Type 0} (f : Row → S → Row × S) → ((g : Row) (s : S) → size (f g s .0) ≤ 8) → (at : ℕ) (c : Cut) (s : S) → Follows st p tol at c
+      → size (separate f c s .0) + 6 ≤ 22 * depth (cutRow c)
+  unfolding separate
+  separate-size f small at (atD left right) s k =
+      rw size-⊹ (omega (arith, small left s, small right (f left s .1), depth-⊹ left right, depth-some right (k .1)))
+  separate-size f small at (through left h inner right) s k =
+      let a = f left s in
+      let b = separate f inner (a .1) in
+      let n = depth-⊹ left (agg h (cutRow inner) right) in
+      rw size-⊹ (omega (arith, small left s, small right (b .1), separate-size f small (at + size left + 6) inner (a .1) (k .2)))
 
 -- ── the groups fit ──
 
@@ -81,19 +83,17 @@ pub base-le : (r : Row) → base r ≤ 6
 base-le r = cond-case (λ n. n ≤ 6) (lone r) (λ e. omega arith) (λ e. omega arith)
 
 group-shape : (g : Row) → isNil g || loneRec g ≡ false → Shape false g
-group-shape nil e = absurd (true≢false e)
-group-shape (agg l cs nil) e = one refl
-group-shape (agg l cs (agg l₁ x y)) e = more (agg l cs (agg l₁ x y)) (omega arith)
-group-shape (agg l cs (lit l₁ x y)) e = more (agg l cs (lit l₁ x y)) (omega arith)
-group-shape (agg l cs (rec q s x y)) e = more (agg l cs (rec q s x y)) (omega arith)
-group-shape (lit l c nil) e = one refl
-group-shape (lit l c (agg l₁ x y)) e = more (lit l c (agg l₁ x y)) (omega arith)
-group-shape (lit l c (lit l₁ x y)) e = more (lit l c (lit l₁ x y)) (omega arith)
-group-shape (lit l c (rec q s x y)) e = more (lit l c (rec q s x y)) (omega arith)
-group-shape (rec p s r nil) e = absurd (true≢false e)
-group-shape (rec p s r (agg l₁ x y)) e = more (rec p s r (agg l₁ x y)) (omega arith)
-group-shape (rec p s r (lit l₁ x y)) e = more (rec p s r (lit l₁ x y)) (omega arith)
-group-shape (rec p s r (rec q s₁ x y)) e = more (rec p s r (rec q s₁ x y)) (omega arith)
+group-shape g e = go (lone g) refl
+  where
+    many : (g : Row) → isNil g || loneRec g ≡ false → lone g ≡ false → 2 ≤ nodeCount g
+    many nil e z = absurd (true≢false e)
+    many (agg l cs rest) e z = omega (arith, nodeCount-some rest z)
+    many (lit l c rest) e z = omega (arith, nodeCount-some rest z)
+    many (rec p s r rest) e z = omega (arith, nodeCount-some rest e)
+
+    go : (b : Bool) → lone g ≡ b → Shape false g
+    go true z = one z
+    go false z = more g (many g e z)
 
 module _ (st : Config) (near : ℕ) where
   pub group-fits : (g : Row) (w : Work) → Fits g → size g + 6 ≤ capacity → Fits (group st near g w .0)
@@ -103,28 +103,15 @@ module _ (st : Config) (near : ℕ) where
       (λ e. f)
       (λ e. (record { fits = omega (arith, base-le g); shape = group-shape g e }, f, tt))
 
-  lone-size : (g : Row) → T (isNil g || loneRec g) → size g ≤ 8
-  lone-size nil t = omega arith
-  lone-size (agg l cs rest) t = absurd t
-  lone-size (lit l c rest) t = absurd t
-  lone-size (rec p s r nil) t = omega arith
-  lone-size (rec p s r (agg l cs rest)) t = absurd t
-  lone-size (rec p s r (lit l c rest)) t = absurd t
-  lone-size (rec p s r (rec p′ s′ r′ rest)) t = absurd t
+  lone-size : (g : Row) → isNil g || loneRec g ≡ true → size g ≤ 8
+  lone-size nil e = omega arith
+  lone-size (agg l cs rest) e = absurd (false≢true e)
+  lone-size (lit l c rest) e = absurd (false≢true e)
+  lone-size (rec p s r rest) e = omega (arith, ap size (isNil-nil rest e))
 
   pub group-size : (g : Row) (w : Work) → size (group st near g w .0) ≤ 8
   unfolding group
-  group-size g w = cond-case (λ (o : Out). size (o .0) ≤ 8) (isNil g || loneRec g) (λ e. lone-size g (subst T (sym e) tt)) (λ e. omega arith)
-
--- The separator, without the root's header, if so little is put for each group.
-separate-size : {S : Type 0} (f : Row → S → Row × S) → ((g : Row) (s : S) → size (f g s .0) ≤ 8) → (c : Cut) (s : S)
-    → size (separate f c s .0) + 6 ≤ 22 * levels c
-unfolding separate
-separate-size f small (atD left right) s = rw size-⊹ (omega (arith, small left s, small right (f left s .1)))
-separate-size f small (through left h inner right) s =
-    let a = f left s in
-    let b = separate f inner (a .1) in
-    rw size-⊹ (omega (arith, small left s, small right (b .1), separate-size f small inner (a .1)))
+  group-size g w = cond-case (λ (o : Out). size (o .0) ≤ 8) (isNil g || loneRec g) (λ e. lone-size g e) (λ e. omega arith)
 
 pub isNil-⊹ : (a b : Row) → isNil b ≡ false → isNil (a ⊹ b) ≡ false
 isNil-⊹ nil b e = e
@@ -186,11 +173,10 @@ module _ (st : Config) (k : Ranges st) (near : ℕ) where
       let e = cut-row st p row 6 nil in
       let g = subst Fits (sym e) f in
       let z = ap size e in
-      let m = levels-depth st p (k .tol) 6 c n in
       let lo = p-low st k size-of over most in
       let hi = p-high st k size-of over most in (
         separate-fits st p (k .tol) size-of (omega arith) (omega arith) (group st near) (group-fits st near) 6 c w n g (omega arith) (omega arith),
-        omega (arith, ap depth e, separate-size (group st near) (group-size st near) c w),
+        omega (arith, ap depth e, separate-size st p (k .tol) (group st near) (group-size st near) 6 c w n),
         in-lean (startOf 6 c) p (omega (arith, ap depth e, start-high st p (k .tol) 6 c n)) (omega (arith, start-low st p (k .tol) 6 c n g (omega arith))),
       )
 

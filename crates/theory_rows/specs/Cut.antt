@@ -7,9 +7,9 @@ use borrow.Author.Tests.{ltb-true, leb-true, leb-false, not-false}
 use lib.Dec.{leb, ltb}
 use Rattle.model.specs.Limits.{capacity, mostNode}
 use Rattle.model.specs.Row.{Head, Row, nil, agg, lit, rec, _⊹_, size, isNil, isAgg, lone, recordSize, Config}
-use Rattle.model.specs.Growth.{Work, Cut, atD, through, separate, goOn, stops, cutFrom, cutRoot, cutOf, splitPoint, group, separator}
+use Rattle.model.specs.Growth.{Cut, atD, through, separate, goOn, stops, cutFrom, cutRoot, cutOf, splitPoint}
 use Rattle.theory_rows.specs.Fits.{Fits}
-use Rattle.theory_rows.specs.Laws.{⊹-nil, ⊹-assoc, size-⊹, isNil-nil, cond-case}
+use Rattle.theory_rows.specs.Laws.{⊹-assoc, size-⊹, isNil-nil, cond-case}
 use Rattle.theory_rows.specs.First.{headOf, sizeOf, kidsOf, restOf, oneOf, size-first, size-one, row-first, by-first}
 
 -- The row that is cut.
