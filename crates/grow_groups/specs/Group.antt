@@ -12,7 +12,7 @@ use Rattle.theory_row_bytes.specs.RowAt.{RowIs}
 use Rattle.model.specs.Limits.{mostPages, capacity}
 use Rattle.model.specs.Row.{Row, nil, agg, lit, rec, size, isNil, lone, loneRec, recordSize, two, header, bytes, recordBytes, Config, noHead}
 use Rattle.model.specs.Reading.{twoAt, pageOf}
-use Rattle.model.specs.Growth.{Work, freeFrom, group}
+use Rattle.model.specs.Growth.{Work, freeFrom, taken, group}
 use Rattle.theory_rows.specs.Laws.{length-bytes, isNil-nil, size-some, size-nil}
 use Rattle.theory_rows.specs.Fits.{Fits}
 use Rattle.theory_rows.specs.Pages.{or-left, free-found}
@@ -115,6 +115,41 @@ module _ (l : List ℕ) (n : ℕ) (w : NewRecord l n) where
 pub page-with : (q : ℕ) (x y img out : List ℕ) → out ≡ setPage q (pageBytesOf x 0 0) img → x ≡ y → out ≡ setPage q (pageBytesOf y 0 0) img
 page-with q x y img out e k = e ∙ ap (λ (z : List ℕ). setPage q (pageBytesOf z 0 0) img) k
 
+-- ── a record of its own ──
+
+-- A row becomes a record on the first free page, and its proxy stands at `at`.
+pub own-step : {g : Growing} {u img : List ℕ} → Env g u img → (st : Config) → setupOf st ≡ g .setup → (settled : Bool) (holder : ℕ) (row : Row)
+    → Below (g .setup .pages) row → recordSize row ≤ capacity → isNil row ≡ false → (s : Work × Mem) → InStep g u img s
+    → (k n at : ℕ) (b out o : List ℕ) → k ≡ freeFrom st (g .setup .pages) (usedBy u) (g .near) → n ≡ numberOf u row
+    → b ≡ cond (g .dry) img (written k settled holder row img) → o ≡ over at (proxyBytes k) out
+    → let q = freeFrom st (st .pages) (s .0 .used) (g .near) in
+    Step g row s (rec q settled row nil, (taken st q (s .0), putMem q settled holder row (s .1))) at (at + 8) (eqb k 0) u img out (set u k n) b o
+own-step {g} {u} {img} env st setup settled holder row below small some s same k n at b out o e en pb po =
+    let pages = pages-of setup in
+    let many : st .pages ≤ mostPages = omega (arith, pages, env .few) in
+    let at-k : k ≡ freeFrom st (st .pages) (usedBy u) (g .near) = e ∙ ap (λ (i : ℕ). freeFrom st i (usedBy u) (g .near)) (sym pages) in
+    let z : k ≡ freeFrom st (st .pages) (s .0 .used) (g .near) =
+    at-k ∙ free-same st many (usedBy u) (s .0 .used) (same .used .same) (st .pages) (g .near) (omega (arith, env .start)) in
+    let inside : k < g .setup .pages =
+    omega (arith, at-k, free-within st (g .setup .pages) (g .near) (usedBy u) pages (env .few) (env .start) (env .past) (st .pages)) in
+    let low : k < length u = omega (arith, same .used .long, env .few) in
+    let put = after-written (g .setup .pages) k holder settled row img below small (env .image) inside (g .dry) in
+    rw (← z, en, pb) (record {
+      used = record {
+        long = length-set u k (numberOf u row) ∙ same .used .long;
+        same = λ x i. used-taken u k (numberOf u row) x (entry-some _) low ∙ ap (λ (y : Bool). cond (eqb x k) true y) (same .used .same x i);
+      };
+      full = refl;
+      past = set-past (g .setup .pages) k (numberOf u row) u inside (env .past);
+      after = record { long = put .long; same = put .same; pages = λ d. put .pages d ∙ ap (putMem k settled holder row) (same .pages d) };
+      below = (inside, tt);
+      written = po;
+      next = omega arith;
+      tells = λ t f.
+          own-keeps settled u k row low
+          (ap (usedBy u) at-k ∙ free-found st (st .pages) (usedBy u) (g .near) (ap (λ (i : ℕ). eqb i 0) (sym at-k) ∙ f)) some t;
+    })
+
 -- ── a group ──
 
 -- The image of a run that writes, and of a dry one.
@@ -190,33 +225,5 @@ module _ {g : Growing} {l u img : List ℕ} {room : ℕ} (env : Env g u img) (w 
         → Step g (w .row) (w .state) put at (at + 8) (eqb k 0) u img out (set u k n) b o
     unfolding group groupMem
     group-moved k n at b out o e en pb po =
-        let pages = pages-of (w .setup) in
-        let many : w .st .pages ≤ mostPages = omega (arith, pages, env .few) in
-        let at-k : k ≡ freeFrom (w .st) (w .st .pages) (usedBy u) (g .near) = e ∙ ap (λ (i : ℕ). freeFrom (w .st) i (usedBy u) (g .near)) (sym pages) in
-        let z : k ≡ q = at-k ∙ free-same (w .st) many (usedBy u) (w .state .0 .used) (w .same .used .same) (w .st .pages) (g .near) (omega (arith, env .start)) in
-        let inside : k < g .setup .pages =
-        omega (arith, at-k, free-within (w .st) (g .setup .pages) (g .near) (usedBy u) pages (env .few) (env .start) (env .past) (w .st .pages)) in
-        let long = w .same .used .long in
-        let low : k < length u = omega (arith, long, env .few) in
-        rw (sym h, ← z, en) (record {
-          used = record {
-            long = length-set u k (numberOf u (w .row)) ∙ long;
-            same = λ x i. used-taken u k (numberOf u (w .row)) x (entry-some _) low ∙ ap (λ (y : Bool). cond (eqb x k) true y) (w .same .used .same x i);
-          };
-          full = refl;
-          past = set-past (g .setup .pages) k (numberOf u (w .row)) u inside (env .past);
-          after = after-from (w .same .pages)
-              (rw pb (after-written (g .setup .pages) k 0 false (w .row) img (w .below) (fits-own .0 .fits) (env .image) inside (g .dry)));
-          below = (inside, tt);
-          written = po;
-          next = omega arith;
-          tells = λ t f. own-keeps u k (w .row) low (free-at at-k f) (or-left (isNil (w .row)) (loneRec (w .row)) (sym h)) t;
-        })
-      where
-        free-at : k ≡ freeFrom (w .st) (w .st .pages) (usedBy u) (g .near) → eqb k 0 ≡ false → usedBy u k ≡ false
-        free-at z f =
-            ap (usedBy u) z ∙ free-found (w .st) (w .st .pages) (usedBy u) (g .near) (ap (λ (i : ℕ). eqb i 0) (sym z) ∙ f)
-
-        after-from : {new : List ℕ} → (g .dry ≡ false → pageOf img ≡ w .state .1) → After (g .dry) new img (putMem k false 0 (w .row) (pageOf img))
-            → After (g .dry) new img (putMem k false 0 (w .row) (w .state .1))
-        after-from p a = record { long = a .long; same = a .same; pages = λ d. a .pages d ∙ ap (putMem k false 0 (w .row)) (p d) }
+        rw (sym h) (own-step env (w .st) (w .setup) false 0 (w .row) (w .below) (fits-own .0 .fits) (or-left (isNil (w .row)) (loneRec (w .row)) (sym h))
+        (w .state) (w .same) k n at b out o e en pb po)

@@ -92,9 +92,9 @@ shows-some u (lit h c rest) e t = omega arith
 shows-some u (rec p s r rest) e t = omega (arith, t .told .0, mark-some u p (t .named p (names-own p s r rest)))
 
 -- A free page gets the number of the row that becomes its record.
-pub own-keeps : (u : List ℕ) (q : ℕ) (r : Row) → q < length u → usedBy u q ≡ false → isNil r ≡ false → Tabled u r
-    → Keeps u (set u q (numberOf u r)) (rec q false r nil)
-own-keeps u q r h free e t =
+pub own-keeps : (s : Bool) (u : List ℕ) (q : ℕ) (r : Row) → q < length u → usedBy u q ≡ false → isNil r ≡ false → Tabled u r
+    → Keeps u (set u q (numberOf u r)) (rec q s r nil)
+own-keeps s u q r h free e t =
     let n = numberOf u r in
     let u′ = set u q n in
     let z : numberOf u r ≡ width r =

@@ -1,6 +1,6 @@
 -- An insert once its tests are passed: from the tree's place to growth's start.
 use mathlib.Core.Path.{_≡_, refl, sym, ap, subst, _∙_}
-use mathlib.Core.Bool.{Bool, true, false, cond, or-true}
+use mathlib.Core.Bool.{Bool, true, false, or-true}
 use mathlib.Core.List.{List}
 use Prim.Native.Nat.{ℕ, _+_, _*_, _<_, _≤_}
 use native.Mathlib.Omega.{arith}
@@ -9,13 +9,13 @@ use lib.Dec.{eqb}
 use lib.ListN.{length, getD, take}
 use lib.IntN.{pos}
 use Rattle.theory_row_bytes.specs.RowAt.{RowIs}
-use Rattle.model.specs.Limits.{pageSize, capacity, mostNode}
-use Rattle.model.specs.Row.{Head, Row, nil, store, _⊹_, size, base, bytes, recordSize, recordBytes, recordPage, count, outside, image, Config, recordOn}
+use Rattle.model.specs.Limits.{pageSize, mostNode}
+use Rattle.model.specs.Row.{Head, Row, nil, store, _⊹_, size, base, recordSize, recordBytes, recordPage, count, outside, image, Config, recordOn}
 use Rattle.model.specs.Reading.{pageOf}
 use Rattle.model.specs.Tree.{width, New}
 use Rattle.model.specs.Growth.{Work, Out, apart, asRow, place, atRest, grow, rise}
 use Rattle.theory_rows.specs.Fits.{Valid}
-use Rattle.theory_rows.specs.Laws.{cond-case, length-bytes, width-⊹}
+use Rattle.theory_rows.specs.Laws.{cond-case, width-⊹}
 use Rattle.theory_rows.specs.Keeps.{nodeCount-⊹}
 use Rattle.model.specs.Claims.{InLean}
 use Rattle.theory_growth.specs.Store.{NewFits, received-grows, grow-good, grow-valid, grow-rises, asPlaced, place-row, placed-some, placed-width}
@@ -28,7 +28,6 @@ use Rattle.theory_decoding.specs.Reading.{reads-valid, reads-length}
 use Rattle.theory_layout.specs.Here.{nesting, OnPage, root-nesting}
 use Rattle.theory_rows.specs.Image.{Stored, length-record}
 use Rattle.theory_growth.specs.Full.{full-rise}
-use Rattle.grow_groups.specs.Used.{marked-beyond}
 use Rattle.base_numbers.specs.Over.{over, take-over}
 use Rattle.model.specs.Spot.{Position, fill, Chain, lastPage, whole, lastHolder}
 use Rattle.theory_growth.specs.Chain.{both, fill-more, lastSettled, beside, along, count-chain}
@@ -36,24 +35,23 @@ use Rattle.theory_growth.specs.Keeps.{Grows}
 use Rattle.theory_growth.specs.Gap.{Gap, spot-gap}
 use Rattle.theory_insert_point.specs.Bytes.{lastHeld, chain-page, chain-bytes}
 use Rattle.theory_insert_point.specs.Nesting.{chain-nesting}
-use Rattle.theory_page_memory.specs.Memory.{Mem, setMem, linkMem, placeMem, riseMem}
+use Rattle.theory_page_memory.specs.Memory.{Mem, placeMem, riseMem}
 use Rattle.theory_page_memory.specs.Kept.{Ready, ready-place}
 use Rattle.theory_page_memory.specs.Images as images
-use Rattle.grow_pages.specs.Write.{pageBytesOf, recordPage-is, length-pageBytesOf}
-use Rattle.grow_pages.specs.Paged.{length-setPage}
 use Rattle.grow_pages.specs.Links.{Below, below-count, below-parted}
-use Rattle.grow_pages.specs.Relinked.{mem-set}
 use Rattle.base_layout.specs.declared.Setup.{Setup}
 use Rattle.base_layout.specs.declared.Growing.{Growing}
 use Rattle.base_layout.specs.Setup.{setupOn, setupOf, reads-setup}
 use Rattle.base_layout.specs.Growing.{nearTo, pages-of}
-use Rattle.grow_groups.specs.Used.{InUse, Past, Env, free-within}
+use Rattle.grow_groups.specs.Used.{InUse, Past, Env}
 use Rattle.grow_locate.specs.declared.Receiver.{Receiver}
 use Rattle.grow_new_node.specs.declared.Fresh.{Fresh}
 use Rattle.grow_cascade.specs.declared.Grown.{Grown}
 use Rattle.grow_locate.specs.Aim.{Aimed, receiverOf}
 use Rattle.grow_locate.specs.Parent.{at-before}
-use Rattle.grow_new_node.specs.Placed.{ownPage, imagePlaced, NodePlaced, as-lone}
+use Rattle.grow_new_node.specs.Placed.{NodePlaced, node-tabled}
+use Rattle.grow_groups.specs.Step.{front-is}
+use Rattle.grow_groups.specs.Tells.{Keeps}
 use Rattle.grow_new_node.specs.Marks.{rest-past}
 use Rattle.grow_cascade.specs.Rising.{Rising, LeftTable, Risen}
 use Rattle.grow_cascade.specs.Cascade.{Cascade, goalOf, memOf}
@@ -80,37 +78,12 @@ module _ (st : Config) (x : New) (fits : NewFits x) where
   pub node-most : size (asRow st x nil) ≤ mostNode
   node-most = cond-case (λ (r : Row). size r ≤ mostNode) (eqb (x .kind) 1) (λ _. omega arith) (λ _. omega (arith, fits .long))
 
-  node-record : length (recordBytes (asRow st x nil)) ≤ capacity
-  node-record = rw (as-lone st x) (omega (arith, length-bytes (asRow st x nil), node-most))
-
-  -- A new node holds no record.
-  node-bare : (q : ℕ) (m : Mem) → linkMem q (asRow st x nil) m ≡ m
-  unfolding linkMem
-  node-bare q m = cond-case (λ (r : Row). linkMem q r m ≡ m) (eqb (x .kind) 1) (λ _. refl) (λ _. refl)
-
   module _ (h : Head) (page : ℕ) (w : Work) where
     pub placed-most : size (asPlaced st x h page w) ≤ mostNode
     placed-most = cond-case (λ (r : Row). size r ≤ mostNode) (apart st h (x .head)) (λ _. omega arith) (λ _. node-most)
 
-    placed-below : (n : ℕ) → ownPage st x h page w < n → Below n (asPlaced st x h page w)
-    placed-below n k =
-        cond-case (Below n) (apart st h (x .head)) (λ _. (k, tt)) (λ _. cond-case (Below n) (eqb (x .kind) 1) (λ _. (tt, tt)) (λ _. tt))
-
-    placed-length : (img : List ℕ) → pageSize * ownPage st x h page w + pageSize ≤ length img → length (imagePlaced st x h page w img) ≡ length img
-    placed-length img k =
-        let r = recordBytes (asRow st x nil) in
-        cond-case (λ (i : List ℕ). length i ≡ length img) (apart st h (x .head))
-        (λ _. length-setPage (ownPage st x h page w) (pageBytesOf r 1 page) img (length-pageBytesOf r 1 page node-record) k) (λ _. refl)
-
-    placed-mem : (img : List ℕ) → pageSize * ownPage st x h page w + pageSize ≤ length img
-        → pageOf (imagePlaced st x h page w img) ≡ placeMem st x h page w (pageOf img)
-    placed-mem img k =
-        let q = ownPage st x h page w in
-        let r = recordBytes (asRow st x nil) in
-        both (λ (i : List ℕ) (m : Mem). pageOf i ≡ m) (apart st h (x .head))
-        (λ _. mem-set q (pageBytesOf r 1 page) img (length-pageBytesOf r 1 page node-record) k
-        ∙ ap (λ (z : List ℕ). setMem q z (pageOf img)) (sym (recordPage-is (recordOn q true page (asRow st x nil)))) ∙ sym (node-bare q _))
-        (λ _. refl)
+    place-work : (rest : Row) → place st x h page rest w .1 ≡ place st x h page nil w .1
+    place-work rest = both (λ (o u : Out). o .1 ≡ u .1) (apart st h (x .head)) (λ _. refl) (λ _. refl)
 
     place-counts : (rest : Row) → (place st x h page rest w .1 .splits ≡ w .splits) × (place st x h page rest w .1 .lean ≡ w .lean)
     place-counts rest =
@@ -221,36 +194,16 @@ module _ {dry : Bool} {img u₀ : List ℕ} {above : ℕ} {t : Receiver} {label 
       past = subst (λ (i : ℕ). Past i u₀) (pages-of setup) (rest-past st root u₀ (w .marked));
     }
 
-    pub own-inside : ownPage st (w .x) h (lastPage c) W < st .pages
-    own-inside =
-        free-within st (st .pages) (lastPage c) (W .used) refl (valid .ranges .many) (inside .1)
-        (marked-beyond (w .marked) (rest-past st root u₀ (w .marked))) (st .pages)
-
-    own-room : pageSize * ownPage st (w .x) h (lastPage c) W + pageSize ≤ length img
-    own-room = omega (arith, long, own-inside)
-
     module _ {o₀ u img₁ out : List ℕ} {f : Fresh} (placed : NodePlaced st (w .x) h g W u₀ img o₀ f u img₁ out) where
-      put : NodePlaced st (w .x) h (nearTo g (lastPage c)) W u₀ img o₀ f u img₁ out
+      pub put : NodePlaced st (w .x) h (nearTo g (lastPage c)) W u₀ img o₀ f u img₁ out
       put = subst (λ (i : ℕ). NodePlaced st (w .x) h (nearTo g i) W u₀ img o₀ f u img₁ out) at-page placed
 
       pub placed-size : f .size ≤ mostNode
-      placed-size = omega (arith, put .long, placed-most st (w .x) (w .fits) h (lastPage c) W)
+      placed-size = omega (arith, put .next, placed-most st (w .x) (w .fits) h (lastPage c) W)
 
-      pub placed-is : take (f .size) out ≡ bytes P
-      placed-is = (λ i. take (put .long i) (put .row i)) ∙ take-over (size P) (bytes P) o₀ (length-bytes P)
-
-      pub same₁ : length img₁ ≡ length img
-      same₁ =
-          ap length (put .image)
-          ∙ cond-case (λ (i : List ℕ). length i ≡ length img) dry (λ _. refl) (λ _. placed-length st (w .x) (w .fits) h (lastPage c) W img own-room)
-
-      still₁ : dry ≡ true → img₁ ≡ img
-      still₁ e = put .image ∙ ap (λ (b : Bool). cond b img (imagePlaced st (w .x) h (lastPage c) W img)) e
-
-      mem₁ : dry ≡ false → pageOf img₁ ≡ placeMem st (w .x) h (lastPage c) W (pageOf img)
-      mem₁ e =
-          ap pageOf (put .image ∙ ap (λ (b : Bool). cond b img (imagePlaced st (w .x) h (lastPage c) W img)) e)
-          ∙ placed-mem st (w .x) (w .fits) h (lastPage c) W img own-room
+      -- What growth carries along does not depend on what follows the node.
+      work-is : O .1 ≡ place st (w .x) h (lastPage c) nil W .1
+      work-is = place-work st (w .x) (w .fits) h (lastPage c) W rest
 
       -- a run that writes
       wet-room : dry ≡ false → rise st c (row, O .1) .1 .full ≡ false
@@ -262,20 +215,23 @@ module _ {dry : Bool} {img u₀ : List ℕ} {above : ℕ} {t : Receiver} {label 
           let z = ready-place st root valid (pageOf img) (subst (λ (l : List ℕ). Stored (pageOf l) 0 (store root)) (sym same) (stored-image st root valid))
           (λ q f. ap (λ (l : List ℕ). pageOf l q) same ∙ images.before-free st root valid q f) c s rest held (w .x) h (grows .grew .fits)
           (full-rise st c (row, O .1) (wet-room e)) in
-          subst (λ (m : Mem). Ready st (pageOf img 0) c (fill s rest) row (O .1) m × (m (lastPage c) ≡ pageOf img (lastPage c))) (sym (mem₁ e)) z
+          subst (λ (m : Mem). Ready st (pageOf img 0) c (fill s rest) row (O .1) m × (m (lastPage c) ≡ pageOf img (lastPage c))) (sym (put .after .pages e)) z
 
       pub page-same : pageOf img₁ (lastPage c) ≡ recordPage (lastHeld c (fill s rest))
       page-same = go dry refl ∙ chain-bytes img st root (w .aim .reads) c (fill s rest) held
         where
           go : (b : Bool) → dry ≡ b → pageOf img₁ (lastPage c) ≡ pageOf img (lastPage c)
-          go true e = ap (λ (l : List ℕ). pageOf l (lastPage c)) (still₁ e)
+          go true e = ap (λ (l : List ℕ). pageOf l (lastPage c)) (put .after .same e)
           go false e = readied e .1
 
       -- ── the table ──
 
       module _ (e : dry ≡ false) where
         not-full : f .full ≡ false
-        not-full = put .full rest ∙ full-rise st c (row, O .1) (wet-room e)
+        not-full = put .full ∙ ap (λ (v : Work). v .full) (sym work-is) ∙ full-rise st c (row, O .1) (wet-room e)
+
+        kept : Keeps u₀ u P
+        kept = put .tells (node-tabled st (w .x) u₀) not-full
 
         -- The pages that the store names are in use, so their entries stay.
         named-same : (q : ℕ) → 1 ≤ beside c q + along c q + count q (fill s rest) → getD u q 0 ≡ getD u₀ q 0
@@ -283,7 +239,7 @@ module _ {dry : Bool} {img u₀ : List ℕ} {above : ℕ} {t : Receiver} {label 
             let k : 1 ≤ count q root = omega (arith, ap (count q) held, count-chain q c (fill s rest)) in
             let i = named-inside st root valid q (omega arith) in
             let e = w .marked .same q (omega (arith, i .1, valid .ranges .many)) in
-            put .frame not-full q (e ∙ rw (lt-ltb 0 (count q root) k) (or-true (outside (st .pages) q)))
+            kept .frame q (e ∙ rw (lt-ltb 0 (count q root) k) (or-true (outside (st .pages) q)))
 
         -- So the table is right for the store with the node in it.
         row-told : Told u (whole c row)
@@ -292,7 +248,7 @@ module _ {dry : Bool} {img u₀ : List ℕ} {above : ℕ} {t : Receiver} {label 
             let n : width (P ⊹ rest) ≡ width rest + 1 = omega (arith, width-⊹ P rest, placed-width st (w .x) h (lastPage c) W) in
             let old = told-same u₀ u (fill s rest) (λ q z. named-same q (omega arith)) (a .told) in
             told-whole u c row (around-same u₀ u c (λ q z. named-same q (omega arith)) (a .around))
-            (subst (Told u) (sym row-is) (fill-more (told-parted u) s P rest old (put .told not-full)))
+            (subst (Told u) (sym row-is) (fill-more (told-parted u) s P rest old (kept .told)))
             (along-same u₀ u c row (λ q z. named-same q (omega arith)) (subst (ToldAlong u₀ c) (sym row-is) (a .along (P ⊹ rest) n)))
 
       -- ── the node goes into the record ──
@@ -307,21 +263,20 @@ module _ {dry : Bool} {img u₀ : List ℕ} {above : ℕ} {t : Receiver} {label 
         up = lastHolder c;
         on =
             let o = stands .here .on in
-            record { low = omega (arith, o .low, at-page); high = omega (arith, o .high, at-page); inside = omega (arith, o .inside, at-page, same₁) };
+            record { low = omega (arith, o .low, at-page); high = omega (arith, o .high, at-page); inside = omega (arith, o .inside, at-page, put .after .long) };
         is = ap (pageOf img₁) at-page ∙ page-same ∙ ap (λ (i : ℕ). recordPage (recordOn i (lastSettled c) (lastHolder c) (fill s rest))) (sym at-page);
         small = stands .fits;
-        comes = placed-is;
+        comes = front-is put;
         most = placed-most st (w .x) (w .fits) h (lastPage c) W;
         offset = ap (λ (r : Receiver). r .at) (w .receiver) ∙ sym (at-before s (base (fill s rest)));
         holder = ap (λ (r : Receiver). r .par) (w .receiver);
         root = into.steady-keeps s rest (P ⊹ rest) (omega (arith, nodeCount-⊹ P rest, placed-some st (w .x) h (lastPage c) W)) (gap .steady);
       }
 
-      below-row : Below (st .pages) row
+      below-row : Below (se .pages) row
       below-row =
-          let old = below-count (st .pages) (fill s rest) (λ q z. omega (arith, stands .here .names q z .inside, long)) in
-          subst (Below (st .pages)) (sym row-is)
-          (fill-more (below-parted (st .pages)) s P rest old (placed-below st (w .x) (w .fits) h (lastPage c) W (st .pages) own-inside))
+          let old = below-count (se .pages) (fill s rest) (λ q z. omega (arith, stands .here .names q z .inside, long, pages-of setup)) in
+          subst (Below (se .pages)) (sym row-is) (fill-more (below-parted (se .pages)) s P rest old (put .below))
 
       module _ {len : ℕ} {l : List ℕ} (buf : List ℕ) (len-is : len ≡ recordSize (fill s (P ⊹ rest)))
           (l-is : l ≡ over 0 (recordBytes (fill s (P ⊹ rest))) buf) where
@@ -335,15 +290,15 @@ module _ {dry : Bool} {img u₀ : List ℕ} {above : ℕ} {t : Receiver} {label 
               (length-record (fill s (P ⊹ rest))) ∙ ap recordBytes (sym row-is);
           long = len-is ∙ ap recordSize (sym row-is);
           grows = grows;
-          below = subst (λ (i : ℕ). Below i row) (pages-of setup) below-row;
-          marked = put .used rest;
+          below = below-row;
+          marked = subst (InUse u) (sym work-is) (put .used);
           past = put .past;
-          full = put .full rest;
+          full = put .full ∙ ap (λ (v : Work). v .full) (sym work-is);
           splits = sym (place-counts st (w .x) (w .fits) h (lastPage c) W rest .0);
           lean = sym (place-counts st (w .x) (w .fits) h (lastPage c) W rest .1);
           short = omega (arith, chain-nesting c (fill s rest), ap nesting held, root-nesting img st root (w .aim .reads));
-          same = same₁;
-          still = still₁;
+          same = put .after .long;
+          still = put .after .same;
           wet = λ e. record {
             room = wet-room e;
             first = pageOf img 0;
@@ -363,10 +318,10 @@ module _ {dry : Bool} {img u₀ : List ℕ} {above : ℕ} {t : Receiver} {label 
           full = r .full ∙ ap (λ (o : Out). o .1 .full) goal-is;
           splits = r .splits ∙ ap (λ (o : Out). o .1 .splits) goal-is;
           lean = r .lean ∙ ap (λ (o : Out). o .1 .lean) goal-is;
-          still = λ d. r .still d ∙ still₁ d;
+          still = λ d. r .still d ∙ put .after .same d;
           writes = λ d.
-              images.insert-image st (w .x) (w .fits) root valid (w .aim .path) (w .k) (w .short) (w .aim .t) gap img₂ (r .same ∙ same₁ ∙ long)
-              (r .pages d ∙ ap (riseMem st c row (O .1)) (mem₁ d ∙ ap (λ (l : List ℕ). placeMem st (w .x) h (lastPage c) W (pageOf l)) (w .aim .reads .same)))
+              images.insert-image st (w .x) (w .fits) root valid (w .aim .path) (w .k) (w .short) (w .aim .t) gap img₂ (r .same ∙ put .after .long ∙ long)
+              (r .pages d ∙ ap (riseMem st c row (O .1)) (put .after .pages d ∙ ap (λ (l : List ℕ). placeMem st (w .x) h (lastPage c) W (pageOf l)) (w .aim .reads .same)))
               (wet-room d)
               ∙ ap (λ (o : Out). image st (o .0)) goal-is;
           table = λ d. subst (λ (o : Out). LeftTable o u₂) goal-is (r .table d);

@@ -3,7 +3,7 @@ use mathlib.Core.Path.{sym, _∙_}
 use borrow.Author.Needs.{needs}
 use Rattle.model.specs.Growth.{asRow}
 use Rattle.model.specs.Row.{nil}
-use Rattle.grow_new_node.specs.Placed.{as-lone, placed-apart, placed-within}
+use Rattle.grow_new_node.specs.Placed.{node-lone, placed-apart, placed-within}
 use Rattle.grow_new_node.proofs.place_node.Statement.{statement}
 use Rattle.grow_new_node.proofs.place_node.Tie as tie
 
@@ -25,8 +25,8 @@ returns c =
     let i = f .before .before .before .before in
     let s = i .before .before .before .before .before .before .before in
     λ st root r e w t x h eh ex b.
-    placed-apart st x h (s .args .out .now) e (s .pre .0) t _ _ _ _
-    (sym (i .before .is-apart .ensures st root r e h (x .head) eh ex) ∙ i .if1 .taken) (f .place-apart .ensures st e (asRow st x nil) (as-lone st x) b)
+    placed-apart st x h (s .args .out .now) e (s .pre .0) t (s .args .node .now) b _ _ _ _ (s .pre .1 .1 .0)
+    (sym (i .before .is-apart .ensures st root r e h (x .head) eh ex) ∙ i .if1 .taken) (f .place-apart .ensures st e (asRow st x nil) (node-lone st x) b)
 
 copy-in-requires : tie.Need-copy-in-requires
 copy-in-requires c κs = search needs
@@ -42,8 +42,8 @@ returns-2 c =
     let i = c .before .before .before .before in
     let s = i .before .before .before .before .before .before .before in
     λ st root r e w t x h eh ex b.
-    placed-within st x h (s .args .out .now) e (s .pre .0) t
-    (s .args .node .now) _ (sym (i .before .is-apart .ensures st root r e h (x .head) eh ex) ∙ i .if1 .left) b (c .before .before .copy-in .ensures)
+    placed-within st x h (s .args .out .now) e (s .pre .0) t (s .args .node .now) b _
+    (sym (i .before .is-apart .ensures st root r e h (x .head) eh ex) ∙ i .if1 .left) (c .before .before .copy-in .ensures)
 
 pub place-node-spec : {M : Type 1} → statement M
 place-node-spec =
