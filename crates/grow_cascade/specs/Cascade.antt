@@ -1,5 +1,5 @@
 -- What the loop goes by: growth from the record it is at gives what it gave from the first one.
-use mathlib.Core.Path.{_≡_, refl, ap, subst, _∙_}
+use mathlib.Core.Path.{_≡_, refl, sym, ap, subst, _∙_}
 use mathlib.Core.Bool.{Bool, true, false, _||_, true≢false}
 use mathlib.Core.List.{List}
 use Prim.Native.Nat.{ℕ, _+_, _<_, _≤_}
@@ -98,22 +98,27 @@ module _ {goal : Out} {mem : Mem} {img₀ : List ℕ} {g : Growing} {len : ℕ} 
           → Upward goal mem img₀ g holder end (filled || full) (counts + 1) leans′ l u′ img₁ out₁
       go top w y m un at sev = absurd (true≢false un)
       go (below c s q true rest) w y m un at sev = absurd (true≢false un)
-      go (below c s q false rest) w y m un at sev = record {
-        lift = up-lift w big sev at;
-        next = λ len′ new e z. record {
-          now = record {
-            st = k .st;
-            was = k .was;
-            root = k .root;
-            chain = c;
-            old = _;
-            row = _;
-            work = _;
-            rising = up-rising w big sev at le e z;
-          };
-          goes = next-goal w big sev ∙ y;
-          writes = λ d. next-mem w big sev d ∙ m d;
-          same = split-after w big sev .long ∙ o .same;
-          still = λ d. split-after w big sev .same d ∙ o .still d;
-        };
-      }
+      go (below c s q false rest) w y m un at sev =
+          let at-q = w .at in
+          let w = subst (λ (p : ℕ). Rising (k .st) (k .was) (k .root) (below c s q false rest) (k .old) (k .row) (k .work) (nearTo g p) len filled counts leans l u img) at-q w in
+          let cut = subst (λ (p : ℕ). SplitOff (k .st) (nearTo g p) (k .row) (k .work) false end full u u′ img img₁ out₀ out₁) at-q sev in
+          subst (λ (p : ℕ × ℕ). Upward goal mem img₀ (nearTo g (p .0)) (p .1) end (filled || full) (counts + 1) leans′ l u′ img₁ out₁)
+          (λ i. (sym at-q i, sym at i)) (record {
+            lift = up-lift g w big cut;
+            next = λ len′ new e z. record {
+              now = record {
+                st = k .st;
+                was = k .was;
+                root = k .root;
+                chain = c;
+                old = _;
+                row = _;
+                work = _;
+                rising = up-rising g w big cut le e z;
+              };
+              goes = next-goal g w big cut ∙ y;
+              writes = λ d. next-mem g w big cut d ∙ m d;
+              same = split-after g w big cut .long ∙ o .same;
+              still = λ d. split-after g w big cut .same d ∙ o .still d;
+            };
+          })

@@ -177,20 +177,23 @@ module _ {st : Config} {was : List ℕ} {root : Row} {c : Chain} {old row : Row}
         let y = good (leaves st (lastSettled c) (g .near) row work) in
         record {
           st = st;
-          setup = w .setup;
-          range = omega (arith, target-of (w .setup), valid .ranges .high);
+          row = row;
           stays = lastSettled c;
           bit = e;
-          row = row;
-          is = w .is;
-          fits = able .fits;
-          big = big;
-          small = omega (arith, able .most);
-          below = w .below;
           work = work;
           marked = w .marked;
-          good = y .fits;
-          most = omega (arith, y .small);
+          over = record {
+            setup = w .setup;
+            is = w .is;
+            fits = able .fits;
+            big = big;
+            small = omega (arith, able .most);
+            below = w .below;
+            good = y .fits;
+            most = omega (arith, y .small);
+          };
+          range = omega (arith, target-of (w .setup), valid .ranges .high);
+          small = omega (arith, able .most);
           leans = y .lean;
           low = omega (arith, p-high st (valid .ranges) (recordSize row) big (able .most));
         }

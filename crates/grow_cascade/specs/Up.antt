@@ -7,7 +7,8 @@ use native.Mathlib.Omega.{arith}
 use native.Mathlib.Numerals.{add-one}
 use borrow.Author.Tests.{eq-eqb, lt-leb}
 use lib.Dec.{eqb, leb}
-use lib.ListN.{length, getD, take}
+use lib.ListN.{length, getD, set, take}
+use lib.Seq.{getD-set-other}
 use lib.IntN.{ℤ}
 use Rattle.model.specs.Limits.{pageSize, capacity}
 use Rattle.model.specs.Row.{Row, rec, _⊹_, size, bytes, recordSize, recordBytes, recordPage, count, Config, recordOn}
@@ -35,17 +36,16 @@ use Rattle.grow_pages.specs.Links.{Below, below-count, below-parted}
 use Rattle.grow_pages.specs.Relinked.{After, after-then, mem-cleared}
 use Rattle.base_layout.specs.declared.Growing.{Growing}
 use Rattle.base_layout.specs.Growing.{separatorSize, nearTo}
-use Rattle.grow_split.specs.Severed.{Severed}
 use Rattle.grow_splice.specs.Splice.{KeepsRoot}
 use Rattle.grow_replace_proxy.specs.Above.{above-stands, above-once}
 use Rattle.grow_replace_proxy.specs.Keeps.{shape-keeps}
 use Rattle.grow_replace_proxy.specs.Lift.{Lift}
-use Rattle.grow_write_back.specs.Off.{leanOf, leftImage, leftTable, length-left, left-tabled, left-frame, SplitOff}
+use Rattle.grow_write_back.specs.Off.{leanOf, leftImage, length-left, SplitOff}
 use Rattle.theory_rows.specs.Population.{population}
 use Rattle.theory_places.specs.Widths.{Told, told-same}
 use Rattle.theory_growth.specs.Told.{told-parted, told-chain, told-swap, width-fill, along-own}
 use Rattle.grow_widths.specs.Tally.{mostEntry}
-use Rattle.grow_groups.specs.Tells.{Keeps}
+use Rattle.grow_groups.specs.Tells.{Keeps, same-mark, tabled-set}
 use Rattle.grow_groups.specs.Step.{front-is}
 use Rattle.grow_cascade.specs.Rising.{Rising, valid, inside as page-inside, long-image, good, named-once, named-used, tabled}
 
@@ -57,11 +57,12 @@ left-after g img h = record { long = length-left g false img h; same = λ e. rw 
 
 -- ── one step up ──
 
+-- The record is on page q, whose proxy stands in the record above.
 module _ {st : Config} {was : List ℕ} {root : Row} {c : Chain} {s : Position} {q : ℕ} {rest old row : Row} {work : Work}
-    {g : Growing} {len : ℕ} {filled : Bool} {counts : ℕ} {leans : ℤ} {l u img : List ℕ}
-    (w : Rising st was root (below c s q false rest) old row work g len filled counts leans l u img) (big : capacity < recordSize row)
+    (g : Growing) {len : ℕ} {filled : Bool} {counts : ℕ} {leans : ℤ} {l u img : List ℕ}
+    (w : Rising st was root (below c s q false rest) old row work (nearTo g q) len filled counts leans l u img) (big : capacity < recordSize row)
     {end : ℕ} {full : Bool} {u′ img₁ out₀ out₁ : List ℕ}
-    (sev : SplitOff st g row work false end full u u′ img img₁ out₀ out₁) where
+    (cut : SplitOff st (nearTo g q) row work false end full u u′ img img₁ out₀ out₁) where
   abbrev v : Work
   v = freed st q (counted st row work)
 
@@ -75,18 +76,8 @@ module _ {st : Config} {was : List ℕ} {root : Row} {c : Chain} {s : Position} 
   abbrev pub next : Row
   next = fill s (S .0 ⊹ rest)
 
-  -- The same, counted from page q.
-  abbrev gq : Growing
-  gq = nearTo g q
-
-  cut : Severed st gq row v end full (leftTable gq false u) u′ (leftImage gq false img) img₁ out₀ out₁
-  cut = subst (λ (p : ℕ). SplitOff st (nearTo g p) row work false end full u u′ img img₁ out₀ out₁) (w .at) sev
-
   split : SplitGood (S .0) (splitPoint st (recordSize row)) (startOfD st row)
-  split = subst (λ (p : ℕ). SplitGood (separator st p row v .0) (splitPoint st (recordSize row)) (startOfD st row)) (w .at) (good w big v)
-
-  room : pageSize * q + pageSize ≤ length img
-  room = omega (arith, page-inside w, w .at)
+  split = good w big v
 
   too-large : leb (recordSize row) capacity ≡ false
   too-large = lt-leb (recordSize row) capacity big
@@ -95,7 +86,7 @@ module _ {st : Config} {was : List ℕ} {root : Row} {c : Chain} {s : Position} 
   next-goal = sym (rise-goes st c s q false rest row work too-large)
 
   pub split-after : After (g .dry) img₁ img (separatorMem st q row v (setMem q blank (pageOf img)))
-  split-after = after-then (separatorMem st q row v) (left-after gq img room) (cut .after)
+  split-after = after-then (separatorMem st q row v) (left-after (nearTo g q) img (omega (arith, page-inside w))) (cut .after)
 
   pub next-mem : g .dry ≡ false → riseMem st c next (S .1) (pageOf img₁) ≡ riseMem st (below c s q false rest) row work (pageOf img)
   next-mem z = ap (riseMem st c next (S .1)) (split-after .pages z) ∙ sym (mem-goes st c s q false rest row work too-large (pageOf img))
@@ -132,9 +123,9 @@ module _ {st : Config} {was : List ℕ} {root : Row} {c : Chain} {s : Position} 
     left-unnamed = omega (arith, named-once w z q, count-chain q (below c s q false rest) row, along-own c s q false rest)
 
     -- the table is right for the separator,
-    sep-table : Keeps (leftTable gq false u) u′ (S .0)
+    sep-table : Keeps (set u q 0) u′ (S .0)
     sep-table =
-        cut .tells (left-tabled gq false u row left-unnamed (tabled w z))
+        cut .tells (tabled-set u q 0 row left-unnamed (tabled w z))
         (or-right (v .full) full (cut .full ∙ full-rise st c (next, S .1) (full-goal z)))
 
     -- and as it was for the store with the record's nodes in place of its proxy, which shows as many,
@@ -165,7 +156,8 @@ module _ {st : Config} {was : List ℕ} {root : Row} {c : Chain} {s : Position} 
         same : (p : ℕ) → 1 ≤ count p (whole c inlined) → getD u′ p 0 ≡ getD u p 0
         same p h =
             let other : p ≡ q → ⊥ = λ e. omega (arith, inlined-names p, named-once w z p, ap {B = ℕ} (λ b. cond b 1 0) (eq-eqb p q e)) in
-            left-frame gq false u sep-table p other (named-used w z p (omega (arith, inlined-names p)))
+            let e = getD-set-other u q p 0 0 other in
+            sep-table .frame p (same-mark u (set u q 0) p e (named-used w z p (omega (arith, inlined-names p)))) ∙ e
 
     -- and so for the store with the separator there.
     next-told : Told u′ (whole c next)
@@ -176,7 +168,16 @@ module _ {st : Config} {was : List ℕ} {root : Row} {c : Chain} {s : Position} 
         told-swap u′ c inlined next (width-fill s (row ⊹ rest) (S .0 ⊹ rest) n) inlined-same
         (fill-more (told-parted u′) s (S .0) rest (fill-less (told-parted u′) s row rest k .0) (sep-table .told))
 
-  -- ── the separator ──
+  -- ── the record above ──
+
+  pub on-above : OnPage was (lastPage c) (lastHolder c) above
+  on-above = above-stands was st root (w .reads) c s q false rest old (w .held)
+
+  pub lift-on : PageIn img₁ (lastPage c)
+  lift-on = let o = on-above .here .on in record { low = o .low; high = o .high; inside = omega (arith, o .inside, next-same) }
+
+  pub keeps-root : KeepsRoot s (rec q false old rest) (S .0 ⊹ rest)
+  keeps-root = shape-keeps s q false old rest (S .0) (chain-fits c above (w .grows .fits) .0 .shape) (nodeCount-some (S .0) (split .some))
 
   pub sep-is : take end out₁ ≡ bytes (S .0)
   sep-is = front-is cut
@@ -184,94 +185,61 @@ module _ {st : Config} {was : List ℕ} {root : Row} {c : Chain} {s : Position} 
   pub sep-most : size (S .0) ≤ separatorSize
   sep-most = omega (arith, split .small)
 
-  keeps-root : KeepsRoot s (rec q false old rest) (S .0 ⊹ rest)
-  keeps-root =
-      shape-keeps s q false old rest (S .0) (chain-fits c above (w .grows .fits) .0 .shape)
-      (nodeCount-some (S .0) (split .some))
+  -- What the code that puts the separator in it requires.
+  abbrev pub up-lift : Lift img₁ (lastPage c) q (take end out₁)
+  up-lift = record {
+    position = s;
+    settled = false;
+    old = old;
+    rest = rest;
+    put = S .0;
+    above = lastSettled c;
+    up = lastHolder c;
+    on = lift-on;
+    is = above-page ∙ chain-bytes was st root (w .reads) c above (w .held);
+    small = on-above .fits;
+    once = above-once was st root (w .reads) c s q false rest old (w .held);
+    names = λ m h. omega (arith, on-above .here .names m h .high);
+    comes = sep-is;
+    most = sep-most;
+    root = keeps-root;
+  }
 
-  on-above : OnPage was (lastPage c) (lastHolder c) above
-  on-above = above-stands was st root (w .reads) c s q false rest old (w .held)
+  next-below : Below (g .setup .pages) next
+  next-below =
+      let n = g .setup .pages in
+      let k : Below n above = below-count n above (λ p h. omega (arith, on-above .here .names p h .inside, w .same, long-image w)) in
+      refill (below-parted n) s (rec q false old rest) (S .0 ⊹ rest) k
+      (below-parted n .join (S .0) rest (cut .below) (in-fill (below-parted n) s (rec q false old rest) k .1))
 
-  -- The record above, by the code's numbers.
-  module _ {holder : ℕ} (at : holder ≡ lastPage c) where
-    pub lift-on : PageIn img₁ holder
-    lift-on =
-        let o = on-above .here .on in
-        record { low = omega (arith, o .low, at); high = omega (arith, o .high, at); inside = omega (arith, o .inside, at, next-same) }
-
-    pub lift-is : pageOf img₁ holder ≡ recordPage (recordOn holder (lastSettled c) (lastHolder c) (fill s (rec (g .near) false old rest)))
-    lift-is =
-        let e : pageOf img₁ (lastPage c) ≡ recordPage (lastHeld c above) = above-page ∙ chain-bytes was st root (w .reads) c above (w .held) in
-        ap (pageOf img₁) at ∙ e ∙ (λ i. recordPage ((recordOn (sym at i) (lastSettled c) (lastHolder c) (fill s (rec (sym (w .at) i) false old rest)))))
-
-    pub lift-near : let above = fill s (rec (g .near) false old rest) in
-        (recordSize above ≤ capacity) × (count (g .near) above ≡ 1) × ((m : ℕ) → 1 ≤ count m above → m < 65536)
-        × KeepsRoot s (rec (g .near) false old rest) (S .0 ⊹ rest)
-    lift-near =
-        subst (λ (p : ℕ). let above = fill s (rec p false old rest) in
-        (recordSize above ≤ capacity) × (count p above ≡ 1) × ((m : ℕ) → 1 ≤ count m above → m < 65536) × KeepsRoot s (rec p false old rest) (S .0 ⊹ rest))
-        (sym (w .at)) (
-          on-above .fits,
-          above-once was st root (w .reads) c s q false rest old (w .held),
-          λ m h. omega (arith, on-above .here .names m h .high),
-          keeps-root,
-        )
-
-    -- What the code that puts the separator in it requires.
-    abbrev pub up-lift : Lift img₁ holder (g .near) (take end out₁)
-    up-lift = record {
-      position = s;
-      settled = false;
-      old = old;
-      rest = rest;
-      put = S .0;
-      above = lastSettled c;
-      up = lastHolder c;
-      on = lift-on;
-      is = lift-is;
-      small = lift-near .0;
-      once = lift-near .1;
-      names = lift-near .2;
-      comes = sep-is;
-      most = sep-most;
-      root = lift-near .3;
-    }
-
-    next-below : Below (g .setup .pages) next
-    next-below =
-        let n = g .setup .pages in
-        let k : Below n above = below-count n above (λ p h. omega (arith, on-above .here .names p h .inside, w .same, long-image w)) in
-        refill (below-parted n) s (rec q false old rest) (S .0 ⊹ rest) k
-        (below-parted n .join (S .0) rest (cut .below) (in-fill (below-parted n) s (rec q false old rest) k .1))
-
-    -- The record above goes on.
-    pub up-rising : {leans′ : ℤ} {len′ : ℕ} {l′ : List ℕ} → leans′ ≡ leanNow counts leans (leanOf st row)
-        → len′ ≡ recordSize next → l′ ≡ over 0 (recordBytes next) l
-        → Rising st was root c above next (S .1) (nearTo g holder) len′ (filled || full) (counts + 1) leans′ l′ u′ img₁
-    up-rising {leans′} {len′} {l′} le e k =
-        record {
-          setup = w .setup;
-          reads = w .reads;
-          held = w .held;
-          at = at;
-          is = (λ i. take (e i) (k i)) ∙ take-over (recordSize next) (recordBytes next) l (length-record next);
-          long = e;
-          grows = grows-goes st (valid w .ranges) c s q false rest old (row, work) too-large (w .grows);
-          below = next-below;
-          marked = cut .used;
-          past = cut .past;
-          full = ap (λ (b : Bool). b || full) (w .full) ∙ cut .full;
-          splits = add-one counts ∙ ap suc (w .splits) ∙ sym (split-counts st q row v .0);
-          lean = le ∙ (λ i. leanNow (w .splits i) (w .lean i) (leanOf st row)) ∙ sym (split-counts st q row v .1);
-          short = omega (arith, w .short);
-          same = next-same;
-          still = next-still;
-          wet = λ z. record {
-            room = full-goal z;
-            first = w .wet z .first;
-            ready = went z .0;
-            own = went z .1;
-            told = next-told z;
-            few = subst (λ (o : Out). population (o .0) ≤ mostEntry) (sym next-goal) (w .wet z .few);
-          };
-        }
+  -- The record above goes on.
+  pub up-rising : {leans′ : ℤ} {len′ : ℕ} {l′ : List ℕ} → leans′ ≡ leanNow counts leans (leanOf st row)
+      → len′ ≡ recordSize next → l′ ≡ over 0 (recordBytes next) l
+      → Rising st was root c above next (S .1) (nearTo g (lastPage c)) len′ (filled || full) (counts + 1) leans′ l′ u′ img₁
+  up-rising {leans′} {len′} {l′} le e k =
+      record {
+        setup = w .setup;
+        reads = w .reads;
+        held = w .held;
+        at = refl;
+        is = (λ i. take (e i) (k i)) ∙ take-over (recordSize next) (recordBytes next) l (length-record next);
+        long = e;
+        grows = grows-goes st (valid w .ranges) c s q false rest old (row, work) too-large (w .grows);
+        below = next-below;
+        marked = cut .used;
+        past = cut .past;
+        full = ap (λ (b : Bool). b || full) (w .full) ∙ cut .full;
+        splits = add-one counts ∙ ap suc (w .splits) ∙ sym (split-counts st q row v .0);
+        lean = le ∙ (λ i. leanNow (w .splits i) (w .lean i) (leanOf st row)) ∙ sym (split-counts st q row v .1);
+        short = omega (arith, w .short);
+        same = next-same;
+        still = next-still;
+        wet = λ z. record {
+          room = full-goal z;
+          first = w .wet z .first;
+          ready = went z .0;
+          own = went z .1;
+          told = next-told z;
+          few = subst (λ (o : Out). population (o .0) ≤ mostEntry) (sym next-goal) (w .wet z .few);
+        };
+      }

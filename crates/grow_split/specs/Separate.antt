@@ -5,7 +5,7 @@ use mathlib.Core.List.{List}
 use Prim.Native.Nat.{ℕ, _+_, _-_, _≤_}
 use native.Mathlib.Omega.{arith}
 use lib.ListN.{length, take, drop}
-use Rattle.model.specs.Row.{Row, nil, agg, lit, rec, _⊹_, size, two, Config}
+use Rattle.model.specs.Row.{Row, nil, agg, lit, rec, _⊹_, size, two, header, Config}
 use Rattle.model.specs.Reading.{sizeAt}
 use Rattle.model.specs.Growth.{Work, Cut, atD, through, startOf, separate, cutFrom, group}
 use Rattle.theory_rows.specs.Bound.{fits-parts}
@@ -14,7 +14,7 @@ use Rattle.theory_rows.specs.Laws.{size-⊹}
 use Rattle.theory_rows.specs.Fits.{Fits}
 use Rattle.theory_row_bytes.specs.RowAt.{RowIs}
 use Rattle.theory_page_memory.specs.Memory.{Mem, groupMem, groupM}
-use Rattle.base_numbers.specs.Over.{over}
+use Rattle.base_numbers.specs.Over.{over, length-over}
 use Rattle.grow_pages.specs.Links.{Below, below-parted}
 use Rattle.grow_split_point.specs.Kids.{Kids, headOf, kidsOf, restOf}
 use Rattle.grow_split_point.specs.Chosen.{Chosen}
@@ -150,16 +150,16 @@ module _ {g : Growing} {ch : Children} {l u img : List ℕ} {room at x : ℕ} {r
 
   -- ── the split goes on in the chosen child ──
 
+  abbrev pub innerCut : Cut
+  innerCut = cutFrom (w .st) (ch .p) (x + 6) nil (kidsOf F)
+
+  abbrev pub B : Row × (Work × Mem)
+  B = separate (put w) innerCut s₁
+
+  abbrev pub C : Row × (Work × Mem)
+  C = put w (restOf F) (B .1)
+
   module _ (e : goesInto (w .st) F ≡ true) where
-    abbrev pub innerCut : Cut
-    innerCut = cutFrom (w .st) (ch .p) (x + 6) nil (kidsOf F)
-
-    abbrev pub B : Row × (Work × Mem)
-    B = separate (put w) innerCut s₁
-
-    abbrev pub C : Row × (Work × Mem)
-    C = put w (restOf F) (B .1)
-
     pub into-is : T w (v .is) ≡ (agg (headOf F) (B .0) (C .0), C .1)
     unfolding separate group groupMem
     into-is = rw e refl
@@ -172,46 +172,57 @@ module _ {g : Growing} {ch : Children} {l u img : List ℕ} {room at x : ℕ} {r
     pub header-room : r .end + 6 ≤ length o₁
     header-room = omega (arith, into-room .2)
 
-    -- The level inside it, after the left group and the header.
-    abbrev pub inner-sep : (k : ℕ) → k ≡ sizeAt l x → (m : ℕ) → m ≡ length o₁
-        → Sep g (record { pos = x + 6; end = x + k; p = ch .p }) l u₁ i₁ (m - (r .end + 6))
-    inner-sep k is m y = record {
-      st = w .st;
-      setup = w .setup;
-      kids = inner (at-x w (v .is)) (w .st) e k is;
-      below = subst (Below (g .setup .pages)) (into-agg (w .st) F e) (belows w (v .is) .1) .0;
-      state = s₁;
-      same = in-step (v .done);
-      fits = into-room .0;
-      within = omega (arith, into-room .2);
-    }
+    -- Its header is written; k is its size.
+    module _ {k : ℕ} (is : k ≡ sizeAt l x) {o₂ : List ℕ} (head : o₂ ≡ over (r .end) (take (x + 6 - x) (drop x l)) o₁) where
+      pub header-is : o₂ ≡ over (r .end) (header 1 (headOf F) k) o₁
+      header-is = head ∙ ap (λ (y : List ℕ). over (r .end) y o₁) (head-bytes (at-x w (v .is)) (w .st) e k is (x + 6) refl)
 
-    module _ {end : ℕ} {full : Bool} {u₂ i₂ o₂ o₃ : List ℕ} (ml : Step g (kidsOf F) s₁ B (r .end + 6) end full u₁ i₁ o₂ u₂ i₂ o₃) where
-      pub inner-room : (r .end + 6 ≤ end) × (end ≤ length o₁)
-      inner-room = omega (arith, ml .next, into-room .2)
+      -- The level inside it.
+      abbrev pub inner-sep : Sep g (record { pos = x + 6; end = x + k; p = ch .p }) l u₁ i₁ (length o₂ - (r .end + 6))
+      inner-sep = record {
+        st = w .st;
+        setup = w .setup;
+        kids = inner (at-x w (v .is)) (w .st) e k is;
+        below = subst (Below (g .setup .pages)) (into-agg (w .st) F e) (belows w (v .is) .1) .0;
+        state = s₁;
+        same = in-step (v .done);
+        fits = into-room .0;
+        within = omega (arith, into-room .2, ap length header-is, length-over (r .end) (header 1 (headOf F) k) o₁ header-room);
+      }
 
-      pub env-inner : Env g u₁ i₁ → Env g u₂ i₂
-      env-inner env = env-with env (ml .after .long) (ml .past)
+  -- After the level inside it, which leaves b.
+  pub record Inside (k : ℕ) (b : Split) (o₂ u₂ i₂ o₃ : List ℕ) : Type 0 where
+    pub into : goesInto (w .st) F ≡ true
+    pub is : k ≡ sizeAt l x
+    pub head : o₂ ≡ over (r .end) (take (x + 6 - x) (drop x l)) o₁
+    pub done : Separated (inner-sep into is head) (r .end + 6) b o₂ u₂ i₂ o₃
+    pub same : length o₃ ≡ length o₁
 
-      -- The group after it.
-      abbrev pub rest-group : (k : ℕ) → k ≡ sizeAt l x → (m : ℕ) → m ≡ length o₁ → Grouping g (take (ch .end - (x + k)) (drop (x + k) l)) u₂ i₂ (m - end)
-      rest-group k is m y =
-          grouping w (B .1) (restOf F) (in-step ml) (after-bytes (at-x w (v .is)) (w .st) e k is)
-          (subst (Below (g .setup .pages)) (into-agg (w .st) F e) (belows w (v .is) .1) .1) (into-room .1, omega (arith, into-room .2, ml .next))
+  module _ {k : ℕ} {b : Split} {o₂ u₂ i₂ o₃ : List ℕ} (i : Inside k b o₂ u₂ i₂ o₃) where
+    pub inner-room : (r .end + 6 ≤ b .end) × (b .end ≤ length o₁)
+    inner-room = omega (arith, i .done .0 .next, into-room (i .into) .2)
 
-      -- The node, once its size is put right, and the group after it.
-      pub done-inside : {f : Output} {d : ℕ} {o₄ u₃ i₃ o₅ : List ℕ} (k y : ℕ) → k ≡ sizeAt l x → y ≡ x + 6 → d ≡ startOf (x + 6) innerCut
-          → o₂ ≡ over (r .end) (take (y - x) (drop x l)) o₁ → o₄ ≡ over (r .end + 4) (two (end - r .end)) o₃
-          → Step g (restOf F) (B .1) C (end) (f .end) (f .full) u₂ i₂ o₄ u₃ i₃ o₅
-          → Separated w at (record { end = f .end; full = (r .full || full) || f .full; d = d }) o₀ u₃ i₃ o₅
-      done-inside {f} k y is ye de p2 p4 rl =
-          let start : startOf (ch .pos) (cutAt (w .st) (ch .p) x (v .is .left) F) ≡ startOf (ch .pos + size (v .is .left) + 6) innerCut = rw e refl in
-          let node = under-step (headOf F) (kidsOf F) k (end - r .end)
-          (p2 ∙ ap (λ (y : List ℕ). over (r .end) y o₁) (head-bytes (at-x w (v .is)) (w .st) e k is y ye)) ml (omega (arith, inner-room)) p4
-          (omega (arith, into-room .2)) in
-          (
-            rw (or-assoc (r .full) (full) (f .full))
-                (done-from (agg (headOf F) (kidsOf F) (restOf F)) (agg (headOf F) (B .0) (C .0), C .1) (into-agg (w .st) F e) into-is
-                (both-steps (agg (headOf F) (kidsOf F) nil) (restOf F) node rl (omega (arith, into-room .2)))),
-            de ∙ ap (λ (n : ℕ). startOf (n + 6) innerCut) (v .is .way .here) ∙ sym start ∙ sym (ap (startOf (ch .pos)) (cut-is w (v .is))),
-          )
+    pub env-inner : Env g u img → Env g u₂ i₂
+    env-inner env = env-with (env-left env) (i .done .0 .after .long) (i .done .0 .past)
+
+    -- The group after it.
+    abbrev pub rest-group : {m : ℕ} → m ≡ length o₃ → Grouping g (take (ch .end - (x + k)) (drop (x + k) l)) u₂ i₂ (m - b .end)
+    rest-group y =
+        grouping w (B .1) (restOf F) (in-step (i .done .0)) (after-bytes (at-x w (v .is)) (w .st) (i .into) k (i .is))
+        (subst (Below (g .setup .pages)) (into-agg (w .st) F (i .into)) (belows w (v .is) .1) .1)
+        (into-room (i .into) .1, omega (arith, into-room (i .into) .2, i .done .0 .next, i .same))
+
+    -- The node, once its size is put right, and the group after it.
+    pub done-inside : {f : Output} {o₄ u₃ i₃ o₅ : List ℕ} → o₄ ≡ over (r .end + 4) (two (b .end - r .end)) o₃
+        → Step g (restOf F) (B .1) C (b .end) (f .end) (f .full) u₂ i₂ o₄ u₃ i₃ o₅
+        → Separated w at (record { end = f .end; full = (r .full || b .full) || f .full; d = b .d }) o₀ u₃ i₃ o₅
+    done-inside {f} p4 rl =
+        let e = i .into in
+        let start : startOf (ch .pos) (cutAt (w .st) (ch .p) x (v .is .left) F) ≡ startOf (ch .pos + size (v .is .left) + 6) innerCut = rw e refl in
+        let node = under-step (headOf F) (kidsOf F) k (b .end - r .end) (header-is e (i .is) (i .head)) (i .done .0) (omega (arith, inner-room)) p4
+        (omega (arith, into-room e .2)) in (
+          rw (or-assoc (r .full) (b .full) (f .full))
+              (done-from (agg (headOf F) (kidsOf F) (restOf F)) (agg (headOf F) (B .0) (C .0), C .1) (into-agg (w .st) F e) (into-is e)
+              (both-steps (agg (headOf F) (kidsOf F) nil) (restOf F) node rl (omega (arith, into-room e .2)))),
+          i .done .1 ∙ ap (λ (n : ℕ). startOf (n + 6) innerCut) (v .is .way .here) ∙ sym start ∙ sym (ap (startOf (ch .pos)) (cut-is w (v .is))),
+        )

@@ -1,6 +1,6 @@
 -- The content of a record: what the code that writes it to its page needs.
 use mathlib.Core.Path.{_≡_, refl, sym, ap, _∙_}
-use mathlib.Core.Bool.{Bool, true, false, cond}
+use mathlib.Core.Bool.{Bool, true, false, cond, false≢true}
 use mathlib.Core.List.{List, _++_}
 use Prim.Native.Nat.{ℕ, _+_, _-_, _≤_}
 use native.Mathlib.Omega.{arith}
@@ -26,30 +26,22 @@ pub record Content (l : List ℕ) (n : ℕ) : Type 0 where
 -- ── where its row starts ──
 
 -- A helper's first byte is 4, a node's is not.
-first-kind : (r : Row) → getD (recordBytes r) 0 0 ≡ 4 → lone r ≡ false
-first-kind nil e = refl
-first-kind (agg h cs nil) e = absurd (omega arith)
-first-kind (agg h cs (agg a b c)) e = refl
-first-kind (agg h cs (lit a b c)) e = refl
-first-kind (agg h cs (rec a b c d)) e = refl
-first-kind (lit h cs nil) e = absurd (omega arith)
-first-kind (lit h cs (agg a b c)) e = refl
-first-kind (lit h cs (lit a b c)) e = refl
-first-kind (lit h cs (rec a b c d)) e = refl
-first-kind (rec p s r rest) e = refl
+pub helper-start : (l : List ℕ) (r : Row) → l ≡ recordBytes r → getD l 0 0 ≡ 4 → 6 ≡ base r
+helper-start l r is e = rw (go r (lone r) refl (ap (λ (z : List ℕ). getD z 0 0) (sym is) ∙ e)) refl
+  where
+    go : (r : Row) (b : Bool) → lone r ≡ b → getD (cond b (bytes r) (header 4 noHead (6 + size r) ++ bytes r)) 0 0 ≡ 4 → b ≡ false
+    go r false k e = refl
+    go nil true k e = absurd (false≢true k)
+    go (agg h cs rest) true k e = absurd (omega arith)
+    go (lit h c rest) true k e = absurd (omega arith)
+    go (rec p s r rest) true k e = absurd (false≢true k)
 
-other-kind : (r : Row) → (getD (recordBytes r) 0 0 ≡ 4 → ⊥) → lone r ≡ true
-other-kind r e = go (lone r) e
+pub node-start : (l : List ℕ) (r : Row) → l ≡ recordBytes r → (getD l 0 0 ≡ 4 → ⊥) → 0 ≡ base r
+node-start l r is e = rw (go (lone r) (λ k. e (ap (λ (z : List ℕ). getD z 0 0) is ∙ k))) refl
   where
     go : (b : Bool) → (getD (cond b (bytes r) (header 4 noHead (6 + size r) ++ bytes r)) 0 0 ≡ 4 → ⊥) → b ≡ true
     go true e = refl
     go false e = absurd (e refl)
-
-pub helper-start : (l : List ℕ) (r : Row) → l ≡ recordBytes r → getD l 0 0 ≡ 4 → 6 ≡ base r
-helper-start l r is e = rw (first-kind r (ap (λ (z : List ℕ). getD z 0 0) (sym is) ∙ e)) refl
-
-pub node-start : (l : List ℕ) (r : Row) → l ≡ recordBytes r → (getD l 0 0 ≡ 4 → ⊥) → 0 ≡ base r
-node-start l r is e = rw (other-kind r (λ k. e (ap (λ (z : List ℕ). getD z 0 0) is ∙ k))) refl
 
 drop-base : (r : Row) → drop (base r) (recordBytes r) ≡ bytes r
 drop-base r = go (lone r)

@@ -1,6 +1,6 @@
 -- A record that is too large leaves its page, unless it is settled, and is split: what the code requires, and what it leaves.
 use mathlib.Core.Path.{_≡_, refl, ap, _∙_}
-use mathlib.Core.Bool.{Bool, true, false, cond, _||_, or-false}
+use mathlib.Core.Bool.{Bool, true, false, cond, _||_, or-true, or-false}
 use mathlib.Core.List.{List}
 use Prim.Native.Nat.{ℕ, _+_, _*_, _<_, _≤_}
 use native.Mathlib.Omega.{arith}
@@ -26,7 +26,7 @@ use Rattle.base_layout.specs.Setup.{setupOf}
 use Rattle.base_layout.specs.Growing.{bufferSize, separatorSize}
 use Rattle.grow_groups.specs.Used.{InUse, Past, Env, env-with, set-past}
 use Rattle.grow_groups.specs.Tells.{Tabled, Keeps, same-mark, tabled-set}
-use Rattle.grow_split.specs.Severed.{Large, Severed}
+use Rattle.grow_split.specs.Severed.{Oversize, Large, Severed}
 
 -- The lean of a record's split.
 abbrev pub leanOf : Config → Row → ℤ
@@ -44,23 +44,17 @@ leftImage g stays img = cond (g .dry || stays) img (setPage (g .near) blank img)
 abbrev pub leftTable : (g : Growing) → (stays : Bool) → (table : List ℕ) → List ℕ
 leftTable g stays u = cond stays u (set u (g .near) 0)
 
--- The bytes l are a record that is too large, and its separator has room.
+-- The bytes l are a record that is too large, and its separator has room once the page is left.
 pub record Off (g : Growing) (settled : ℕ) (l u : List ℕ) : Type 0 where
   pub st : Config
-  pub setup : setupOf st ≡ g .setup
-  pub range : g .setup .target ≤ 192
+  pub row : Row
   pub stays : Bool
   pub bit : settled ≡ cond stays 1 0
-  pub row : Row
-  pub is : RecordIs l row
-  pub fits : Fits row
-  pub big : capacity < recordSize row
-  pub small : recordSize row ≤ bufferSize
-  pub below : Below (g .setup .pages) row
   pub work : Work
   pub marked : InUse u work
-  pub good : Fits (separator st (g .near) row (leaves st stays (g .near) row work) .0)
-  pub most : size (separator st (g .near) row (leaves st stays (g .near) row work) .0) ≤ separatorSize
+  pub over : Oversize g l st row (leaves st stays (g .near) row work)
+  pub range : g .setup .target ≤ 192
+  pub small : recordSize row ≤ bufferSize
   pub leans : InLean (leanOf st row)
   pub low : splitPoint st (recordSize row) ≤ 8192
 
@@ -74,11 +68,7 @@ SplitOff st g row work stays end full table u img img₁ out₀ out₁ =
 
 pub left-settled : (settled : ℕ) (g : Growing) (u img : List ℕ) → (settled ≡ 0 → ⊥) → (stays : Bool) → settled ≡ cond stays 1 0
     → (u ≡ leftTable g stays u) × (img ≡ leftImage g stays img)
-left-settled settled g u img h true e = (refl, go (g .dry))
-  where
-    go : (d : Bool) → img ≡ cond (d || true) img (setPage (g .near) blank img)
-    go true = refl
-    go false = refl
+left-settled settled g u img h true e = (refl, rw or-true refl)
 left-settled settled g u img h false e = absurd (h e)
 
 pub left-marked : (settled : ℕ) (g : Growing) (u img b : List ℕ) → settled ≡ 0 → b ≡ cond (g .dry) img (setPage (g .near) blank img)
@@ -92,10 +82,6 @@ length-left g stays img h =
     cond-case (λ (i : List ℕ). length i ≡ length img) (g .dry || stays) (λ _. refl)
     (λ _. length-setPage (g .near) blank img (length-replicate {A = ℕ} pageSize 0) h)
 
-past-left : (n q : ℕ) (stays : Bool) (u : List ℕ) → q < n → Past n u → Past n (cond stays u (set u q 0))
-past-left n q true u h past = past
-past-left n q false u h past = set-past n q 0 u h past
-
 marked-left : (st : Config) (q : ℕ) (stays : Bool) (u : List ℕ) (r : Row) (w : Work) → q < mostPages → InUse u w
     → InUse (cond stays u (set u q 0)) (leaves st stays q r w)
 marked-left st q true u r w h m = record { long = m .long; same = m .same }
@@ -104,19 +90,6 @@ marked-left st q false u r w h m = record {
   same = λ x k. used-set u q 0 x (omega (arith, m .long)) ∙ ap (λ (b : Bool). cond (eqb x q) false b) (m .same x k);
 }
 
--- A table that is right for the record's row is so with the page free, since the row does not name it;
-pub left-tabled : (g : Growing) (stays : Bool) (u : List ℕ) (row : Row) → count (g .near) row ≡ 0 → Tabled u row → Tabled (leftTable g stays u) row
-left-tabled g true u row z t = t
-left-tabled g false u row z t = tabled-set u (g .near) 0 row z t
-
--- and the other pages in use keep their entries.
-pub left-frame : (g : Growing) (stays : Bool) (u : List ℕ) {used : List ℕ} {row : Row} → Keeps (leftTable g stays u) used row
-    → (q : ℕ) → (q ≡ g .near → ⊥) → usedBy u q ≡ true → getD used q 0 ≡ getD u q 0
-left-frame g true u k q other h = k .frame q h
-left-frame g false u k q other h =
-    let e = getD-set-other u (g .near) q 0 0 other in
-    k .frame q (same-mark u (set u (g .near) 0) q e h) ∙ e
-
 -- ── the split ──
 
 module _ {g : Growing} {settled : ℕ} {l u img : List ℕ} (w : Off g settled l u) (env : Env g u img) where
@@ -124,51 +97,37 @@ module _ {g : Growing} {settled : ℕ} {l u img : List ℕ} (w : Off g settled l
   W = leaves (w .st) (w .stays) (g .near) (w .row) (w .work)
 
   off-length : length l ≡ recordSize (w .row)
-  off-length = ap length (w .is) ∙ length-record (w .row)
+  off-length = ap length (w .over .is) ∙ length-record (w .row)
 
   pub off-sizes : (g .setup .target ≤ 192) × (length l ≤ bufferSize)
-  off-sizes = (w .range, omega (arith, off-length, w .small))
+  off-sizes = (w .range, omega (arith, off-length))
 
   off-page : (g .near < mostPages) × (pageSize * g .near + pageSize ≤ length img)
-  off-page = omega (arith, env .few, env .start, env .image)
+  off-page = omega arith
 
-  module _ {u′ i′ : List ℕ} (ue : u′ ≡ leftTable g (w .stays) u) (ie : i′ ≡ leftImage g (w .stays) img) where
+  module _ {u′ i′ : List ℕ} (left : (u′ ≡ leftTable g (w .stays) u) × (i′ ≡ leftImage g (w .stays) img)) where
     pub marks : InUse u′ W
-    marks = rw ue (marked-left (w .st) (g .near) (w .stays) u (w .row) (w .work) (off-page .0) (w .marked))
+    marks = rw (left .0) (marked-left (w .st) (g .near) (w .stays) u (w .row) (w .work) (off-page .0) (w .marked))
 
     past : Past (g .setup .pages) u′
-    past = rw ue (past-left (g .setup .pages) (g .near) (w .stays) u (env .start) (env .past))
+    past = rw (left .0) (cond-case (Past (g .setup .pages)) (w .stays) (λ _. env .past) (λ _. set-past (g .setup .pages) (g .near) 0 u (env .start) (env .past)))
 
     pub off-env : Env g u′ i′
-    off-env = env-with env (ap length ie ∙ length-left g (w .stays) img (off-page .1)) past
+    off-env = env-with env (ap length (left .1) ∙ length-left g (w .stays) img (off-page .1)) past
 
     module _ {p : ℕ} (pe : p ≡ splitPoint (w .st) (length l)) where
       pub point-is : p ≡ splitPoint (w .st) (recordSize (w .row))
       point-is = pe ∙ ap (splitPoint (w .st)) off-length
 
       abbrev pub off-large : Large g p l u′
-      off-large = record {
-        st = w .st;
-        setup = w .setup;
-        row = w .row;
-        is = w .is;
-        fits = w .fits;
-        big = w .big;
-        small = omega (arith, w .small);
-        point = point-is;
-        below = w .below;
-        work = W;
-        marked = marks;
-        good = w .good;
-        most = w .most;
-      }
+      off-large = record { st = w .st; row = w .row; work = W; over = w .over; point = point-is; marked = marks }
 
       module _ {d : ℕ} (de : d ≡ startOfD (w .st) (w .row)) where
         pub off-lean : (p ≤ d + 525) × ((d ≤ p + 132) × (p ≤ 8192))
         off-lean =
             let b = lean-bounds (startOfD (w .st) (w .row)) (splitPoint (w .st) (recordSize (w .row))) (w .leans) in
-            (omega (arith, b, de, point-is), (omega (arith, b, de, point-is), omega (arith, point-is, w .low)))
+            (omega (arith, point-is), (omega (arith, point-is), omega (arith, point-is)))
 
         pub off-done : {e : ℕ} {f : Bool} {z : ℤ} {u″ i″ o₀ o₁ : List ℕ} → Severed (w .st) g (w .row) W e f u′ u″ i′ i″ o₀ o₁ → z ≡ subℕ d p
             → SplitOff (w .st) g (w .row) (w .work) (w .stays) e f u u″ img i″ o₀ o₁ × (z ≡ leanOf (w .st) (w .row))
-        off-done s z = (rw (← ue, ← ie) s, z ∙ (λ i. subℕ (de i) (point-is i)))
+        off-done s z = (rw (← left .0, ← left .1) s, z ∙ (λ i. subℕ (de i) (point-is i)))

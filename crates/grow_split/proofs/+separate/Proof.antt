@@ -6,6 +6,7 @@ use mathlib.Core.Bool.{true, false}
 use native.Mathlib.Omega.{arith}
 use lib.ListN.{length, length-take}
 use Prim.Native.Nat.{ℕ, _+_, _-_, _<_, _≤_}
+use borrow.Author.Needs.{needs}
 use borrow.Fn.Kinds.{In}
 use borrow.Fn.PlainCycle.{Measures, is, falls, and}
 use Rattle.base_layout.specs.Growing.{tolerance-of}
@@ -13,7 +14,7 @@ use Rattle.grow_split_point.specs.Kids.{first-low}
 use Rattle.grow_split_point.specs.Level.{chosen-fits, inner-fits}
 use Rattle.theory_rows.specs.Cut.{goesInto}
 use Rattle.grow_split.specs.Separate.{Sep, Left, at-x, left-group, left-end, env-left, right-group, done-apart}
-use Rattle.grow_split.specs.Separate.{header-room, inner-sep, inner-room, env-inner, rest-group, done-inside}
+use Rattle.grow_split.specs.Separate.{header-room, inner-sep, Inside, inner-room, env-inner, rest-group, done-inside}
 use Rattle.grow_split.proofs.separate.Reads as separate
 use Rattle.grow_split.proofs.separate.Kinds as separate-kinds
 use Rattle.grow_split.proofs.+separate.Lts-separate as separate-lts
@@ -33,8 +34,7 @@ abbrev separate-at : ℕ → In 4 separate-kinds.ps
 separate-at t = and 4 separate-kinds.ps (is 4 separate-kinds.ps μ-separate t) separate.Pre
 
 abbrev separate-below : ℕ → In 4 separate-kinds.ps
-separate-below t =
-    and 4 separate-kinds.ps (falls 4 separate-kinds.ps _<_ μ-separate t) separate.Pre
+separate-below t = and 4 separate-kinds.ps (falls 4 separate-kinds.ps _<_ μ-separate t) separate.Pre
 
 abbrev claims : ℕ → separate-lts.Claims
 claims t = (
@@ -65,8 +65,17 @@ module _ (t : ℕ) where
   abbrev to-group : separate-lts.After-size-at (claims t) (separate-at t) separate.Post → separate-lts.After-put-group (claims t) (separate-at t) separate.Post
   to-group c = c .before .before .before .before .before .before .before
 
-  abbrev to-size : separate-lts.After-separate (claims t) (separate-at t) separate.Post → separate-lts.After-size-at (claims t) (separate-at t) separate.Post
-  to-size c = c .before .before .before .before .before .before .before .before .before .before
+  abbrev to-left : separate-lts.Else1 (claims t) (separate-at t) separate.Post → separate-lts.After-put-group (claims t) (separate-at t) separate.Post
+  to-left c = c .before .before .before .before .before .before
+
+  abbrev to-size : separate-lts.After-copy-in (claims t) (separate-at t) separate.Post → separate-lts.After-size-at (claims t) (separate-at t) separate.Post
+  to-size c = c .before .before .before
+
+  abbrev to-copy : separate-lts.After-separate (claims t) (separate-at t) separate.Post → separate-lts.After-copy-in (claims t) (separate-at t) separate.Post
+  to-copy c = c .before .before .before .before .before .before .before
+
+  abbrev to-inner : separate-lts.After-put16 (claims t) (separate-at t) separate.Post → separate-lts.After-separate (claims t) (separate-at t) separate.Post
+  to-inner c = c .before .before .before .before .before .before .before .before .before
 
   -- what separate requires of the row
   abbrev Given : separate-lts.Start (claims t) (separate-at t) separate.Post → Type 0
@@ -79,15 +88,6 @@ module _ (t : ℕ) where
 
   child-requires : separate-lts.Need-child-requires (claims t) (separate-at t) separate.Post
   child-requires c κs = c .before .before .before .pre .1 .1 .1 .1 .kids
-
-  sub-put-group : separate-lts.Need-sub-put-group (claims t) (separate-at t) separate.Post
-  sub-put-group c = omega (arith, x-in c)
-
-  part-put-group-start : separate-lts.Need-part-put-group-start (claims t) (separate-at t) separate.Post
-  part-put-group-start c = omega (arith, x-in c)
-
-  part-put-group-end : separate-lts.Need-part-put-group-end (claims t) (separate-at t) separate.Post
-  part-put-group-end c = omega (arith, x-in c)
 
   put-group-requires : separate-lts.Need-put-group-requires (claims t) (separate-at t) separate.Post
   put-group-requires c κs =
@@ -115,12 +115,6 @@ module _ (t : ℕ) where
       let w = to-start x .pre .1 .1 .1 .1 in
       (omega (arith, x-in x), first-low (at-x w (x .child .ensures (w .kids) (w .st))))
 
-  add-inner : separate-lts.Need-add-inner (claims t) (separate-at t) separate.Post
-  add-inner c = omega (arith, x-in (to-child (c .before .before .before .before .before .before)))
-
-  size-at-requires : separate-lts.Need-size-at-requires (claims t) (separate-at t) separate.Post
-  size-at-requires c κs = omega (arith, x-in (to-child (c .before .before .before .before .before .before)))
-
   -- the split goes on in the chosen child,
   into : (c : separate-lts.After-size-at (claims t) (separate-at t) separate.Post) → (w : Given (to-start (to-child (to-group c))))
       → goesInto (w .st) (left (to-group c) w .is .from) ≡ true
@@ -135,174 +129,112 @@ module _ (t : ℕ) where
       let w = to-start (to-child (to-group c)) .pre .1 .1 .1 .1 in
       inner-fits (at-x w (left (to-group c) w .is)) (w .st) (into c w) _ (c .size-at .ensures .0)
 
-  add-next : separate-lts.Need-add-next (claims t) (separate-at t) separate.Post
-  add-next c = omega (arith, inner-in c)
-
-  sub-copy-in : separate-lts.Need-sub-copy-in (claims t) (separate-at t) separate.Post
-  sub-copy-in c = omega arith
-
-  part-copy-in-start : separate-lts.Need-part-copy-in-start (claims t) (separate-at t) separate.Post
-  part-copy-in-start c = omega arith
-
-  part-copy-in-end : separate-lts.Need-part-copy-in-end (claims t) (separate-at t) separate.Post
-  part-copy-in-end c = omega (arith, x-in (to-child (to-group c)))
-
   -- its header has room in out
   header-in : (c : separate-lts.After-size-at (claims t) (separate-at t) separate.Post) → let z = to-group c .put-group in
       let n = length (to-start (to-child (to-group c)) .args .out .now) in
       (z .result .end + 6 ≤ n) × ((length (z .last .1 .1 .1 .1 .0) ≡ n) × (n < 65536))
   header-in c =
-      let g = to-group c in
-      let s = to-start (to-child g) in
-      let w = s .pre .1 .1 .1 .1 in
-      omega (arith, header-room (left g w) (into c w), g .put-group .kept .1 .1 .1 .1 .0, s .pre .1 .1 .1 .0)
+      let s = to-start (to-child (to-group c)) in
+      let v = left (to-group c) (s .pre .1 .1 .1 .1) in
+      omega (arith, header-room v (into c (s .pre .1 .1 .1 .1)), v .same, s .pre .1 .1 .1 .0)
 
   copy-in-requires : separate-lts.Need-copy-in-requires (claims t) (separate-at t) separate.Post
   copy-in-requires c κs = simp length-take (omega (arith, header-in (c .before .before)))
 
-  add-separate : separate-lts.Need-add-separate (claims t) (separate-at t) separate.Post
-  add-separate c = omega (arith, header-in (c .before .before .before .before .before .before .before .before .before))
-
   separate-requires : separate-lts.Need-separate-requires (claims t) (separate-at t) separate.Post
   separate-requires c κs =
       let y = c .before .before .before .before .before .before in
-      let z = y .before .before .before in
-      let g = to-group z in
-      let s = to-start (to-child g) in
+      let z = to-size y in
+      let s = to-start (to-child (to-group z)) in
       let w = s .pre .1 .1 .1 .1 in
+      let v = left (to-group z) w in
+      let n = header-in z in
       let k = y .copy-in .kept .1 .0 in (
-        omega (arith, s .pre .0, x-in (to-child g), inner-in z),
-        (
-          env-left (left g w) (s .pre .1 .0),
-          (omega (arith, header-in z, k), (omega (arith, header-in z, k), inner-sep (left g w) (into z w) _ (z .size-at .ensures .0) _ k)),
-        ),
+        omega (arith, s .pre .0, x-in (to-child (to-group z)), inner-in z),
+        (env-left v (s .pre .1 .0), (omega arith, (omega arith, inner-sep v (into z w) (z .size-at .ensures .0) (y .copy-in .ensures)))),
       )
 
-  -- what the inner level wrote is in out
-  inner-out : (v : separate-lts.After-separate (claims t) (separate-at t) separate.Post) → let g = to-group (to-size v) in
+  -- what the inner level leaves
+  inside : (v : separate-lts.After-separate (claims t) (separate-at t) separate.Post) → let y = to-copy v in let g = to-group (to-size y) in
+      let z = v .separate .last .1 in (w : Given (to-start (to-child g)))
+      → Inside (left g w) (to-size y .size-at .result) (v .separate .result) (y .copy-in .last .1 .0) (z .1 .1 .0) (z .1 .0) (z .1 .1 .1 .1 .0)
+  inside v w =
+      let y = to-copy v in
+      let z = to-size y in
+      record {
+        into = into z w;
+        is = z .size-at .ensures .0;
+        head = y .copy-in .ensures;
+        done = v .separate .ensures (inner-sep (left (to-group z) w) (into z w) (z .size-at .ensures .0) (y .copy-in .ensures));
+        same = v .separate .kept .1 .1 .1 .1 .1 .0 ∙ y .copy-in .kept .1 .0;
+      }
+
+  -- it is in out
+  inner-out : (v : separate-lts.After-separate (claims t) (separate-at t) separate.Post) → let g = to-group (to-size (to-copy v)) in
       let n = length (to-start (to-child g) .args .out .now) in (g .put-group .result .end + 6 ≤ v .separate .result .end) × ((v .separate .result .end ≤ n)
       × ((length (v .separate .last .1 .1 .1 .1 .1 .0) ≡ n) × (n < 65536)))
   inner-out v =
-      let y = v .before .before .before .before .before .before .before in
-      let z = y .before .before .before in
-      let g = to-group z in
-      let w = to-start (to-child g) .pre .1 .1 .1 .1 in
-      let k = y .copy-in .kept .1 .0 in
-      let ml = v .separate .ensures (inner-sep (left g w) (into z w) _ (z .size-at .ensures .0) (length (y .copy-in .last .1 .0)) k) in
-      omega (arith, inner-room (left g w) (into z w) (ml .0), header-in z, v .separate .kept .1 .1 .1 .1 .1 .0, k)
-
-  add-put16 : separate-lts.Need-add-put16 (claims t) (separate-at t) separate.Post
-  add-put16 c = omega (arith, inner-out (c .before .before .before .before .before .before))
-
-  sub-put16 : separate-lts.Need-sub-put16 (claims t) (separate-at t) separate.Post
-  sub-put16 c = omega (arith, inner-out (c .before .before .before .before .before .before .before .before))
-
-  put16-requires : separate-lts.Need-put16-requires (claims t) (separate-at t) separate.Post
-  put16-requires c κs = omega (arith, inner-out (c .before .before .before .before .before .before .before .before))
-
-  sub-put-group-2 : separate-lts.Need-sub-put-group-2 (claims t) (separate-at t) separate.Post
-  sub-put-group-2 c = omega (arith, inner-in (to-size (c .before .before .before .before .before .before .before .before .before .before .before)))
-
-  part-put-group-start-2 : separate-lts.Need-part-put-group-start-2 (claims t) (separate-at t) separate.Post
-  part-put-group-start-2 c = omega (arith, inner-in (to-size (c .before .before .before .before .before .before .before .before .before .before .before)))
-
-  part-put-group-end-2 : separate-lts.Need-part-put-group-end-2 (claims t) (separate-at t) separate.Post
-  part-put-group-end-2 c = omega (arith, inner-in (to-size (c .before .before .before .before .before .before .before .before .before .before .before)))
+      let z = to-size (to-copy v) in
+      let i = inside v (to-start (to-child (to-group z)) .pre .1 .1 .1 .1) in
+      omega (arith, inner-room _ i, i .same, header-in z)
 
   put-group-requires-2 : separate-lts.Need-put-group-requires-2 (claims t) (separate-at t) separate.Post
   put-group-requires-2 c κs =
       let o = c .before .before .before .before .before .before in
-      let v = o .before .before .before .before .before .before .before .before .before in
-      let y = v .before .before .before .before .before .before .before in
-      let z = y .before .before .before in
-      let g = to-group z in
-      let s = to-start (to-child g) in
-      let w = s .pre .1 .1 .1 .1 in
-      let k = y .copy-in .kept .1 .0 in
-      let ml = v .separate .ensures (inner-sep (left g w) (into z w) _ (z .size-at .ensures .0) (length (y .copy-in .last .1 .0)) k) in
-      let m = o .put16 .kept .0 ∙ v .separate .kept .1 .1 .1 .1 .1 .0 ∙ k in (
-        env-inner (left g w) (into z w) (ml .0) (env-left (left g w) (s .pre .1 .0)),
-        (omega (arith, inner-out v, m, header-in z), rest-group (left g w) (into z w) (ml .0) _ (z .size-at .ensures .0) _ m),
-      )
+      let v = to-inner o in
+      let s = to-start (to-child (to-group (to-size (to-copy v)))) in
+      let i = inside v (s .pre .1 .1 .1 .1) in
+      (env-inner _ i (s .pre .1 .0), (omega (arith, inner-out v, o .put16 .kept .0), rest-group _ i (o .put16 .kept .0)))
 
   same-length : separate-lts.Need-same-length (claims t) (separate-at t) separate.Post
   same-length c =
       let p = c .before .before .before .before .before .before .before in
-      let v = p .before .before .before .before .before .before .before .before .before .before .before .before .before .before .before .before in
-      p .put-group2 .kept .1 .0 ∙ v .separate .kept .1 .1 .0 ∙ to-group (to-size v) .put-group .kept .1 .0
+      let v = to-inner (p .before .before .before .before .before .before .before) in
+      p .put-group2 .kept .1 .0 ∙ v .separate .kept .1 .1 .0 ∙ to-group (to-size (to-copy v)) .put-group .kept .1 .0
 
   same-length-2 : separate-lts.Need-same-length-2 (claims t) (separate-at t) separate.Post
   same-length-2 c =
       let p = c .before .before .before .before .before .before .before in
       let o = p .before .before .before .before .before .before .before in
-      let v = o .before .before .before .before .before .before .before .before .before in
-      let y = v .before .before .before .before .before .before .before in
-      p .put-group2 .kept .1 .1 .1 .1 .0 ∙ o .put16 .kept .0 ∙ v .separate .kept .1 .1 .1 .1 .1 .0 ∙ y .copy-in .kept .1 .0
-      ∙ to-group (y .before .before .before) .put-group .kept .1 .1 .1 .1 .0
+      p .put-group2 .kept .1 .1 .1 .1 .0 ∙ o .put16 .kept .0 ∙ inner-out (to-inner o) .1 .1 .0
 
   returns : separate-lts.Need-returns (claims t) (separate-at t) separate.Post
-  returns c =
-      λ w.
+  returns c w =
       let p = c .before .before .before .before .before .before .before in
       let o = p .before .before .before .before .before .before .before in
-      let v = o .before .before .before .before .before .before .before .before .before in
-      let y = v .before .before .before .before .before .before .before in
-      let z = y .before .before .before in
-      let g = to-group z in
-      let k = y .copy-in .kept .1 .0 in
-      let ml = v .separate .ensures (inner-sep (left g w) (into z w) _ (z .size-at .ensures .0) (length (y .copy-in .last .1 .0)) k) in
-      let m = o .put16 .kept .0 ∙ v .separate .kept .1 .1 .1 .1 .1 .0 ∙ k in
-      done-inside (left g w) (into z w) (ml .0) _ _ (z .size-at .ensures .0) refl (ml .1) (y .copy-in .ensures) (o .put16 .ensures)
-      (p .put-group2 .ensures
-      (rest-group (left g w) (into z w) (ml .0) _ (z .size-at .ensures .0) (length (o .put16 .last .0)) m))
-
-  sub-put-group-3 : separate-lts.Need-sub-put-group-3 (claims t) (separate-at t) separate.Post
-  sub-put-group-3 c = omega (arith, x-in (to-child (c .before .before .before .before .before .before)))
-
-  part-put-group-start-3 : separate-lts.Need-part-put-group-start-3 (claims t) (separate-at t) separate.Post
-  part-put-group-start-3 c = omega (arith, x-in (to-child (c .before .before .before .before .before .before)))
-
-  part-put-group-end-3 : separate-lts.Need-part-put-group-end-3 (claims t) (separate-at t) separate.Post
-  part-put-group-end-3 c = omega (arith, x-in (to-child (c .before .before .before .before .before .before)))
+      let i = inside (to-inner o) w in
+      done-inside _ i (o .put16 .ensures) (p .put-group2 .ensures (rest-group _ i (o .put16 .kept .0)))
 
   -- the chosen child is d
-  stops : (c : separate-lts.Else1 (claims t) (separate-at t) separate.Post)
-      → let g = c .before .before .before .before .before .before in (w : Given (to-start (to-child g))) → goesInto (w .st) (left g w .is .from) ≡ false
-  stops c w =
-      let g = c .before .before .before .before .before .before in
-      sym (c .before .enters .ensures _ (at-x w (left g w .is)) (w .st) (tolerance-of (w .setup))) ∙ c .if1 .left
+  stops : (c : separate-lts.Else1 (claims t) (separate-at t) separate.Post) → (w : Given (to-start (to-child (to-left c))))
+      → goesInto (w .st) (left (to-left c) w .is .from) ≡ false
+  stops c w = sym (c .before .enters .ensures _ (at-x w (left (to-left c) w .is)) (w .st) (tolerance-of (w .setup))) ∙ c .if1 .left
 
   put-group-requires-3 : separate-lts.Need-put-group-requires-3 (claims t) (separate-at t) separate.Post
   put-group-requires-3 c κs =
       let e = c .before .before .before .before in
-      let g = e .before .before .before .before .before .before in
-      let s = to-start (to-child g) in
-      let w = s .pre .1 .1 .1 .1 in
-      (env-left (left g w) (s .pre .1 .0), (left-end (left g w), right-group (left g w) (stops e w)))
-
-  same-length-3 : separate-lts.Need-same-length-3 (claims t) (separate-at t) separate.Post
-  same-length-3 c =
-      let p = c .before .before .before .before .before .before in
-      p .put-group3 .kept .1 .0 ∙ p .before .before .before .before .before .before .before .before .before .before .before .put-group .kept .1 .0
-
-  same-length-4 : separate-lts.Need-same-length-4 (claims t) (separate-at t) separate.Post
-  same-length-4 c =
-      let p = c .before .before .before .before .before .before in
-      let g = p .before .before .before .before .before .before .before .before .before .before .before in
-      p .put-group3 .kept .1 .1 .1 .1 .0 ∙ g .put-group .kept .1 .1 .1 .1 .0
+      let s = to-start (to-child (to-left e)) in
+      let v = left (to-left e) (s .pre .1 .1 .1 .1) in
+      (env-left v (s .pre .1 .0), (left-end v, right-group v (stops e (s .pre .1 .1 .1 .1))))
 
   returns-2 : separate-lts.Need-returns-2 (claims t) (separate-at t) separate.Post
-  returns-2 c =
-      λ w.
+  returns-2 c w =
       let p = c .before .before .before .before .before .before in
       let e = p .before .before .before .before .before in
-      let g = e .before .before .before .before .before .before in
-      done-apart (left g w) (stops e w) (p .put-group3 .ensures (right-group (left g w) (stops e w)))
+      done-apart (left (to-left e) w) (stops e w) (p .put-group3 .ensures (right-group (left (to-left e) w) (stops e w)))
 
 pub +separate-spec : {M : Type 1} → statement M
-+separate-spec = close μ-separate λ t. separate-lts.spec (claims t)
-    (separate-at t) separate.Post (child-requires t) (sub-put-group t) (part-put-group-start t) (part-put-group-end t) (put-group-requires t)
-    (enters-requires t) (add-inner t) (size-at-requires t) (add-next t) (sub-copy-in t) (part-copy-in-start t) (part-copy-in-end t)
-    (copy-in-requires t) (add-separate t) (separate-requires t) (add-put16 t) (sub-put16 t) (put16-requires t) (sub-put-group-2 t)
-    (part-put-group-start-2 t) (part-put-group-end-2 t) (put-group-requires-2 t) (same-length t) (same-length-2 t) (returns t) (sub-put-group-3 t)
-    (part-put-group-start-3 t) (part-put-group-end-3 t) (put-group-requires-3 t) (same-length-3 t) (same-length-4 t) (returns-2 t)
++separate-spec = close μ-separate λ t. separate-lts.spec (claims t) (separate-at t) separate.Post (child-requires t)
+    (λ c. omega (arith, x-in t c)) (λ c. omega (arith, x-in t c)) (λ c. omega (arith, x-in t c)) (put-group-requires t) (enters-requires t)
+    (λ c. omega (arith, x-in t (to-child t (c .before .before .before .before .before .before))))
+    (λ c κs. omega (arith, x-in t (to-child t (c .before .before .before .before .before .before))))
+    (λ c. omega (arith, inner-in t c)) (λ c. omega arith) (λ c. omega arith) (λ c. omega (arith, x-in t (to-child t (to-group t c)))) (copy-in-requires t)
+    (λ c. omega (arith, header-in t (to-size t (c .before .before .before .before .before .before)))) (separate-requires t)
+    (λ c. omega (arith, inner-out t (c .before .before .before .before .before .before)))
+    (λ c. omega (arith, inner-out t (c .before .before .before .before .before .before .before .before)))
+    (λ c κs. omega (arith, inner-out t (c .before .before .before .before .before .before .before .before)))
+    (λ c. omega (arith, inner-in t (to-size t (to-copy t (to-inner t (c .before .before))))))
+    (λ c. omega (arith, inner-in t (to-size t (to-copy t (to-inner t (c .before .before))))))
+    (λ c. omega (arith, inner-in t (to-size t (to-copy t (to-inner t (c .before .before)))))) (put-group-requires-2 t)
+    (same-length t) (same-length-2 t) (returns t) (λ c. omega (arith, x-in t (to-child t (to-left t c)))) (λ c. omega (arith, x-in t (to-child t (to-left t c))))
+    (λ c. omega (arith, x-in t (to-child t (to-left t c)))) (put-group-requires-3 t) (λ c. search needs) (λ c. search needs) (returns-2 t)

@@ -4,14 +4,11 @@ use borrow.Author.Needs.{needs}
 use Rattle.grow_write_back.proofs.first_node.Statement.{statement}
 use Rattle.grow_write_back.proofs.first_node.Tie as tie
 
-shared-slice-read-if1 : tie.Need-shared-slice-read-if1
-shared-slice-read-if1 c = search needs
-
 returns : tie.Need-returns
-returns c = λ row is. helper-start _ row is (c .if1 .taken)
+returns c row is = helper-start _ row is (c .if1 .taken)
 
 returns-2 : tie.Need-returns-2
-returns-2 c = λ row is. node-start _ row is (c .if1 .left)
+returns-2 c row is = node-start _ row is (c .if1 .left)
 
 pub first-node-spec : {M : Type 1} → statement M
-first-node-spec = tie.close (tie.spec shared-slice-read-if1 returns returns-2)
+first-node-spec = tie.close (tie.spec (λ c. search needs) returns returns-2)

@@ -31,24 +31,12 @@ start-in : (c : tie.After-first-node) → c .first-node .result ≤ length (c .b
 start-in c =
     let w = c .before .before .before .before .before .before .before .before .pre .1 .1 .1 .1 .1 in start-inside w (c .first-node .ensures (w .row) (w .is))
 
-sub-relink : tie.Need-sub-relink
-sub-relink c = omega (arith, start-in c)
-
-part-relink-start : tie.Need-part-relink-start
-part-relink-start c = omega (arith, start-in c)
-
-part-relink-end : tie.Need-part-relink-end
-part-relink-end c = omega (arith, start-in c)
-
 relink-requires : tie.Need-relink-requires
 relink-requires c κs =
     let s = c .before .before .before .before .before .before .before .before .before .before in
     let w = s .pre .1 .1 .1 .1 .1 in
     let f = c .before .before .first-node .ensures (w .row) (w .is) in
     (s .pre .0, (omega (arith, c .before .before .before .before .before .put-record .kept .0, s .pre .1 .0), (s .pre .1 .1 .0, content-linked w f)))
-
-same-length : tie.Need-same-length
-same-length c = search needs
 
 returns-2 : tie.Need-returns-2
 returns-2 c =
@@ -63,5 +51,5 @@ returns-2 c =
 
 pub keep-spec : {M : Type 1} → statement M
 keep-spec =
-    tie.close (tie.spec returns put-record-requires first-node-requires sub-relink part-relink-start part-relink-end relink-requires same-length
-    returns-2)
+    tie.close (tie.spec returns put-record-requires first-node-requires (λ c. omega (arith, start-in c)) (λ c. omega (arith, start-in c))
+    (λ c. omega (arith, start-in c)) relink-requires (λ c. search needs) returns-2)

@@ -14,23 +14,11 @@ returns c =
     let a = c .before .before .args in
     λ stays e. left-settled (a .settled) (a .g) (a .widths .now) (a .image .now) (c .if1 .taken) stays e
 
-mul-widths : tie.Need-mul-widths
-mul-widths c = search needs
-
-element-write-widths : tie.Need-element-write-widths
-element-write-widths c = search needs
-
 returns-2 : tie.Need-returns-2
 returns-2 c =
     let a = c .before .before .before .args in
     λ stays e. left-marked (a .settled) (a .g) (a .widths .now) (a .image .now) _ (c .before .if1 .left)
     (still (a .g .dry) (a .image .now) (a .image .now) (setPage (a .g .near) blank (a .image .now)) (ap not (c .if2 .taken)) refl) stays e
-
-clear-page-requires : tie.Need-clear-page-requires
-clear-page-requires c κs = search needs
-
-same-length : tie.Need-same-length
-same-length c = search needs
 
 returns-3 : tie.Need-returns-3
 returns-3 c =
@@ -40,5 +28,4 @@ returns-3 c =
     (c .before .before .clear-page .ensures)) stays e
 
 pub leave-spec : {M : Type 1} → statement M
-leave-spec =
-    tie.close (tie.spec returns mul-widths element-write-widths returns-2 clear-page-requires same-length returns-3)
+leave-spec = tie.close (tie.spec returns (λ c. search needs) (λ c. search needs) returns-2 (λ c κs. search needs) (λ c. search needs) returns-3)
