@@ -12,11 +12,11 @@ use Rattle.theory_row_bytes.specs.RowAt.{RowIs}
 use Rattle.model.specs.Limits.{mostPages, capacity}
 use Rattle.model.specs.Row.{Row, nil, agg, lit, rec, size, isNil, lone, loneRec, recordSize, two, header, bytes, recordBytes, Config, noHead}
 use Rattle.model.specs.Reading.{twoAt, pageOf}
-use Rattle.model.specs.Growth.{Work, freeFrom, taken, group}
+use Rattle.model.specs.Growth.{freeFrom, taken, group}
 use Rattle.theory_rows.specs.Laws.{length-bytes, isNil-nil, size-some, size-nil}
 use Rattle.theory_rows.specs.Fits.{Fits}
 use Rattle.theory_rows.specs.Pages.{or-left, free-found}
-use Rattle.theory_page_memory.specs.Memory.{Mem, putMem, groupMem, groupM}
+use Rattle.theory_page_memory.specs.Memory.{WorkMem, OutMem, putMem, groupMem, groupM}
 use Rattle.base_numbers.specs.Over.{over, over-right, over-then}
 use Rattle.base_layout.specs.declared.Growing.{Growing}
 use Rattle.base_layout.specs.Setup.{setupOf}
@@ -119,7 +119,7 @@ page-with q x y img out e k = e ∙ ap (λ (z : List ℕ). setPage q (pageBytesO
 
 -- A row becomes a record on the first free page, and its proxy stands at `at`.
 pub own-step : {g : Growing} {u img : List ℕ} → Env g u img → (st : Config) → setupOf st ≡ g .setup → (settled : Bool) (holder : ℕ) (row : Row)
-    → Below (g .setup .pages) row → recordSize row ≤ capacity → isNil row ≡ false → (s : Work × Mem) → InStep g u img s
+    → Below (g .setup .pages) row → recordSize row ≤ capacity → isNil row ≡ false → (s : WorkMem) → InStep g u img s
     → (k n at : ℕ) (b out o : List ℕ) → k ≡ freeFrom st (g .setup .pages) (usedBy u) (g .near) → n ≡ numberOf u row
     → b ≡ cond (g .dry) img (written k settled holder row img) → o ≡ over at (proxyBytes k) out
     → let q = freeFrom st (st .pages) (s .0 .used) (g .near) in
@@ -168,7 +168,7 @@ pub record Grouping (g : Growing) (l u img : List ℕ) (room : ℕ) : Type 0 whe
   pub row : Row
   pub is : RowIs l row
   pub below : Below (g .setup .pages) row
-  pub state : Work × Mem
+  pub state : WorkMem
   pub same : InStep g u img state
   pub fits : Fits (group st (g .near) row (state .0) .0)
   pub within : size (group st (g .near) row (state .0) .0) ≤ room
@@ -178,7 +178,7 @@ module _ {g : Growing} {l u img : List ℕ} {room : ℕ} (env : Env g u img) (w 
   q = freeFrom (w .st) (w .st .pages) (w .state .0 .used) (g .near)
 
   -- What the model does.
-  abbrev put : Row × (Work × Mem)
+  abbrev put : OutMem
   put = groupM (w .st) (g .near) (w .row) (w .state)
 
   group-length : length l ≡ size (w .row)

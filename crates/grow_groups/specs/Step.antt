@@ -7,10 +7,9 @@ use native.Mathlib.Omega.{arith}
 use lib.ListN.{length, take}
 use Rattle.model.specs.Row.{Head, Row, nil, agg, _⊹_, size, two, header, bytes}
 use Rattle.model.specs.Reading.{pageOf}
-use Rattle.model.specs.Growth.{Work}
 use Rattle.theory_rows.specs.Laws.{length-bytes, size-⊹, bytes-⊹}
 use Rattle.theory_rows.specs.Pages.{or-left, or-right}
-use Rattle.theory_page_memory.specs.Memory.{Mem}
+use Rattle.theory_page_memory.specs.Memory.{WorkMem, OutMem}
 use Rattle.base_numbers.specs.Over.{over, over-then, over-inside, take-over, length-over}
 use Rattle.base_layout.specs.declared.Growing.{Growing}
 use Rattle.grow_pages.specs.Links.{Below, below-parted}
@@ -19,13 +18,13 @@ use Rattle.grow_groups.specs.Used.{InUse, Past}
 use Rattle.grow_groups.specs.Tells.{Tabled, Keeps, tabled-parts, tabled-same, keeps-both}
 
 -- The table and the image say what the model carries along; in a dry run the image does not.
-pub record InStep (g : Growing) (u img : List ℕ) (s : Work × Mem) : Type 0 where
+pub record InStep (g : Growing) (u img : List ℕ) (s : WorkMem) : Type 0 where
   pub used : InUse u (s .0)
   pub pages : g .dry ≡ false → pageOf img ≡ s .1
 
 -- From s the model makes o of a row. The code takes the table u, the image and `out` to u′, img′ and out′: what comes of the row stands in out′ from `at` to
 -- `end`, `filled` says whether a page was taken where none was free, and a table that was right is right again.
-pub record Step (g : Growing) (row : Row) (s : Work × Mem) (o : Row × (Work × Mem)) (at end : ℕ) (filled : Bool) (u img out u′ img′ out′ : List ℕ)
+pub record Step (g : Growing) (row : Row) (s : WorkMem) (o : OutMem) (at end : ℕ) (filled : Bool) (u img out u′ img′ out′ : List ℕ)
     : Type 0 where
   pub used : InUse u′ (o .1 .0)
   pub full : (s .0 .full || filled) ≡ o .1 .0 .full
@@ -36,13 +35,13 @@ pub record Step (g : Growing) (row : Row) (s : Work × Mem) (o : Row × (Work ×
   pub next : end ≡ at + size (o .0)
   pub tells : Tabled u row → filled ≡ false → Keeps u u′ (o .0)
 
-module _ {g : Growing} {s : Work × Mem} {at end : ℕ} {filled : Bool} {u img out u′ img′ out′ : List ℕ} where
+module _ {g : Growing} {s : WorkMem} {at end : ℕ} {filled : Bool} {u img out u′ img′ out′ : List ℕ} where
   -- The code and the model are in step again.
-  pub in-step : {row : Row} {o : Row × (Work × Mem)} → Step g row s o at end filled u img out u′ img′ out′ → InStep g u′ img′ (o .1)
+  pub in-step : {row : Row} {o : OutMem} → Step g row s o at end filled u img out u′ img′ out′ → InStep g u′ img′ (o .1)
   in-step k = record { used = k .used; pages = k .after .pages }
 
   -- A step, and another after it.
-  pub both-steps : (a b : Row) {x y : Row × (Work × Mem)} {end₂ : ℕ} {filled₂ : Bool} {u″ img″ out″ : List ℕ}
+  pub both-steps : (a b : Row) {x y : OutMem} {end₂ : ℕ} {filled₂ : Bool} {u″ img″ out″ : List ℕ}
       → Step g a s x at end filled u img out u′ img′ out′ → Step g b (x .1) y end end₂ filled₂ u′ img′ out′ u″ img″ out″ → at + size (x .0 ⊹ y .0) ≤ length out
       → Step g (a ⊹ b) s (x .0 ⊹ y .0, y .1) at end₂ (filled || filled₂) u img out u″ img″ out″
   both-steps a b {x} {y} {filled₂ = filled₂} {out″ = out″} i j room =
@@ -65,7 +64,7 @@ module _ {g : Growing} {s : Work × Mem} {at end : ℕ} {filled : Bool} {u img o
       }
 
 -- What stands at the front of out after a step there.
-module _ {g : Growing} {row : Row} {s : Work × Mem} {o : Row × (Work × Mem)} {end : ℕ} {filled : Bool} {u img out u′ img′ out′ : List ℕ}
+module _ {g : Growing} {row : Row} {s : WorkMem} {o : OutMem} {end : ℕ} {filled : Bool} {u img out u′ img′ out′ : List ℕ}
     (k : Step g row s o 0 end filled u img out u′ img′ out′) where
   pub front-is : take end out′ ≡ bytes (o .0)
   front-is = (λ i. take (k .next i) (k .written i)) ∙ take-over (0 + size (o .0)) (bytes (o .0)) out (omega (arith, length-bytes (o .0)))
@@ -81,8 +80,8 @@ unfolding over
 resized h k v b = refl
 
 -- A step on the children of a node: its header is written before it, and its size after it.
-pub under-step : {g : Growing} {s : Work × Mem} {at end : ℕ} {filled : Bool} {u img out u′ img′ out₁ out₂ out₃ : List ℕ} (h : Head) (row : Row)
-    {o : Row × (Work × Mem)} (n v : ℕ) → out₁ ≡ over at (header 1 h n) out → Step g row s o (at + 6) end filled u img out₁ u′ img′ out₂ → end ≡ at + v
+pub under-step : {g : Growing} {s : WorkMem} {at end : ℕ} {filled : Bool} {u img out u′ img′ out₁ out₂ out₃ : List ℕ} (h : Head) (row : Row)
+    {o : OutMem} (n v : ℕ) → out₁ ≡ over at (header 1 h n) out → Step g row s o (at + 6) end filled u img out₁ u′ img′ out₂ → end ≡ at + v
     → out₃ ≡ over (at + 4) (two v) out₂ → at + (6 + size (o .0)) ≤ length out
     → Step g (agg h row nil) s (agg h (o .0) nil, o .1) at end filled u img out u′ img′ out₃
 under-step {at = at} {out = out} {out₁ = out₁} {out₂ = out₂} {out₃ = out₃} h row {o} n v p1 k e p3 room =

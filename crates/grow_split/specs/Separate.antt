@@ -7,13 +7,13 @@ use native.Mathlib.Omega.{arith}
 use lib.ListN.{length, take, drop}
 use Rattle.model.specs.Row.{Row, nil, agg, lit, rec, _⊹_, size, two, header, Config}
 use Rattle.model.specs.Reading.{sizeAt}
-use Rattle.model.specs.Growth.{Work, Cut, atD, through, startOf, separate, cutFrom, group}
+use Rattle.model.specs.Growth.{Cut, atD, through, startOf, separate, cutFrom, group}
 use Rattle.theory_rows.specs.Bound.{fits-parts}
 use Rattle.theory_rows.specs.Cut.{goesInto, into-agg, cutAt, choose-here}
 use Rattle.theory_rows.specs.Laws.{size-⊹}
 use Rattle.theory_rows.specs.Fits.{Fits}
 use Rattle.theory_row_bytes.specs.RowAt.{RowIs}
-use Rattle.theory_page_memory.specs.Memory.{Mem, groupMem, groupM}
+use Rattle.theory_page_memory.specs.Memory.{WorkMem, OutMem, groupMem, groupM}
 use Rattle.base_numbers.specs.Over.{over, length-over}
 use Rattle.grow_pages.specs.Links.{Below, below-parted}
 use Rattle.grow_split_point.specs.Kids.{Kids, headOf, kidsOf, restOf}
@@ -34,7 +34,7 @@ pub record Sep (g : Growing) (ch : Children) (l u img : List ℕ) (room : ℕ) :
   pub setup : setupOf st ≡ g .setup
   pub kids : Kids l (ch .pos) (ch .end)
   pub below : Below (g .setup .pages) (kids .row)
-  pub state : Work × Mem
+  pub state : WorkMem
   pub same : InStep g u img state
   pub fits : Fits (separate (groupM st (g .near)) (cutFrom st (ch .p) (ch .pos) nil (kids .row)) state .0)
   pub within : size (separate (groupM st (g .near)) (cutFrom st (ch .p) (ch .pos) nil (kids .row)) state .0) ≤ room
@@ -44,7 +44,7 @@ module _ {g : Growing} {ch : Children} {l u img : List ℕ} {room : ℕ} (w : Se
   abbrev pub levelCut : Cut
   levelCut = cutFrom (w .st) (ch .p) (ch .pos) nil (w .kids .row)
 
-  abbrev pub put : Row → Work × Mem → Row × (Work × Mem)
+  abbrev pub put : Row → WorkMem → OutMem
   put = groupM (w .st) (g .near)
 
   -- What the code leaves of the level, and where d starts.
@@ -53,17 +53,17 @@ module _ {g : Growing} {ch : Children} {l u img : List ℕ} {room : ℕ} (w : Se
       Step g (w .kids .row) (w .state) (separate put levelCut (w .state)) at (r .end) (r .full) u img out u′ img′ out′ × (r .d ≡ startOf (ch .pos) levelCut)
 
   -- A group of it, whose bytes are a part of l.
-  abbrev pub grouping : {u′ img′ part : List ℕ} {room′ : ℕ} (s : Work × Mem) (row : Row) → InStep g u′ img′ s → RowIs part row → Below (g .setup .pages) row
+  abbrev pub grouping : {u′ img′ part : List ℕ} {room′ : ℕ} (s : WorkMem) (row : Row) → InStep g u′ img′ s → RowIs part row → Below (g .setup .pages) row
       → Fits (put row s .0) × (size (put row s .0) ≤ room′) → Grouping g part u′ img′ room′
   grouping s row same is below k =
       record { st = w .st; setup = w .setup; row = row; is = is; below = below; state = s; same = same; fits = k .0; within = k .1 }
 
 module _ {g : Growing} {ch : Children} {l u img : List ℕ} {room x : ℕ} (w : Sep g ch l u img room) (c : Chosen (w .st) (ch .p) (ch .pos) (w .kids .row) x) where
   -- What the model makes of the group before the chosen child, and of that child and those after it.
-  abbrev pub A : Row × (Work × Mem)
+  abbrev pub A : OutMem
   A = put w (c .left) (w .state)
 
-  abbrev pub T : Row × (Work × Mem)
+  abbrev pub T : OutMem
   T = separate (put w) (cutAt (w .st) (ch .p) x nil (c .from)) (A .1)
 
   cut-is : levelCut w ≡ cutAt (w .st) (ch .p) x (c .left) (c .from)
@@ -81,8 +81,8 @@ module _ {g : Growing} {ch : Children} {l u img : List ℕ} {room x : ℕ} (w : 
 
   pub rooms : Fits (A .0) × Fits (T .0) × (size (A .0) + size (T .0) ≤ room)
   rooms =
-      let f = fits-parts (A .0) (T .0) (subst (λ (o : Row × (Work × Mem)). Fits (o .0)) level-is (w .fits)) in
-      (f .0, f .1, omega (arith, w .within, ap (λ (o : Row × (Work × Mem)). size (o .0)) level-is, size-⊹ (A .0) (T .0)))
+      let f = fits-parts (A .0) (T .0) (subst (λ (o : OutMem). Fits (o .0)) level-is (w .fits)) in
+      (f .0, f .1, omega (arith, w .within, ap (λ (o : OutMem). size (o .0)) level-is, size-⊹ (A .0) (T .0)))
 
   pub belows : Below (g .setup .pages) (c .left) × Below (g .setup .pages) (c .from)
   belows = below-parted (g .setup .pages) .parts (c .left) (c .from) (subst (Below (g .setup .pages)) (c .way .parts) (w .below))
@@ -107,7 +107,7 @@ module _ {g : Growing} {ch : Children} {l u img : List ℕ} {room at x : ℕ} {r
   abbrev pub F : Row
   F = v .is .from
 
-  abbrev pub s₁ : Work × Mem
+  abbrev pub s₁ : WorkMem
   s₁ = A w (v .is) .1
 
   pub left-end : r .end ≤ length o₁
@@ -120,13 +120,13 @@ module _ {g : Growing} {ch : Children} {l u img : List ℕ} {room at x : ℕ} {r
   pub from-room : Fits (T w (v .is) .0) × (size (T w (v .is) .0) ≤ length o₁ - r .end)
   from-room = (rooms w (v .is) .1, omega (arith, v .enough, v .same, rooms w (v .is) .2, v .done .next))
 
-  done-from : (row : Row) (o : Row × (Work × Mem)) {e : ℕ} {f : Bool} {u₂ i₂ o₂ : List ℕ} → F ≡ row → T w (v .is) ≡ o
+  done-from : (row : Row) (o : OutMem) {e : ℕ} {f : Bool} {u₂ i₂ o₂ : List ℕ} → F ≡ row → T w (v .is) ≡ o
       → Step g row s₁ o (r .end) e f u₁ i₁ o₁ u₂ i₂ o₂
       → Step g (w .kids .row) (w .state) (separate (put w) (levelCut w) (w .state)) at e (r .full || f) u img o₀ u₂ i₂ o₂
   done-from row o {e} {f} {u₂} {i₂} {o₂} k t rt =
       let a = A w (v .is) .0 in
-      let z : size (T w (v .is) .0) ≡ size (o .0) = ap (λ (o : Row × (Work × Mem)). size (o .0)) t in
-      subst (λ (y : Row × (Row × (Work × Mem))). Step g (y .0) (w .state) (y .1) at e (r .full || f) u img o₀ u₂ i₂ o₂)
+      let z : size (T w (v .is) .0) ≡ size (o .0) = ap (λ (o : OutMem). size (o .0)) t in
+      subst (λ (y : Row × OutMem). Step g (y .0) (w .state) (y .1) at e (r .full || f) u img o₀ u₂ i₂ o₂)
       (λ i. ((sym (v .is .way .parts ∙ ap (λ (y : Row). v .is .left ⊹ y) k)) i, sym (level-is w (v .is) ∙ (λ j. (a ⊹ t j .0, t j .1))) i))
       (both-steps (v .is .left) row (v .done) rt (omega (arith, v .enough, rooms w (v .is) .2, size-⊹ a (o .0))))
 
@@ -140,7 +140,7 @@ module _ {g : Growing} {ch : Children} {l u img : List ℕ} {room at x : ℕ} {r
     abbrev pub right-group : Grouping g (take (ch .end - x) (drop x l)) u₁ i₁ (length o₁ - r .end)
     right-group =
         grouping w s₁ F (in-step (v .done)) (kids-bytes (at-x w (v .is))) (belows w (v .is) .1)
-        (subst (λ (o : Row × (Work × Mem)). Fits (o .0) × (size (o .0) ≤ length o₁ - r .end)) apart-is from-room)
+        (subst (λ (o : OutMem). Fits (o .0) × (size (o .0) ≤ length o₁ - r .end)) apart-is from-room)
 
     pub done-apart : {s : Output} {u₂ i₂ o₂ : List ℕ} → Step g F s₁ (put w F s₁) (r .end) (s .end) (s .full) u₁ i₁ o₁ u₂ i₂ o₂
         → Separated w at (record { end = s .end; full = r .full || s .full; d = x }) o₀ u₂ i₂ o₂
@@ -153,10 +153,10 @@ module _ {g : Growing} {ch : Children} {l u img : List ℕ} {room at x : ℕ} {r
   abbrev pub innerCut : Cut
   innerCut = cutFrom (w .st) (ch .p) (x + 6) nil (kidsOf F)
 
-  abbrev pub B : Row × (Work × Mem)
+  abbrev pub B : OutMem
   B = separate (put w) innerCut s₁
 
-  abbrev pub C : Row × (Work × Mem)
+  abbrev pub C : OutMem
   C = put w (restOf F) (B .1)
 
   module _ (e : goesInto (w .st) F ≡ true) where
@@ -166,7 +166,7 @@ module _ {g : Growing} {ch : Children} {l u img : List ℕ} {room at x : ℕ} {r
 
     pub into-room : Fits (B .0) × Fits (C .0) × (r .end + (6 + size (B .0) + size (C .0)) ≤ length o₁)
     into-room =
-        let z = subst (λ (o : Row × (Work × Mem)). Fits (o .0) × (size (o .0) ≤ length o₁ - r .end)) into-is from-room in
+        let z = subst (λ (o : OutMem). Fits (o .0) × (size (o .0) ≤ length o₁ - r .end)) into-is from-room in
         (z .0 .1, z .0 .2, omega (arith, z .1, left-end))
 
     pub header-room : r .end + 6 ≤ length o₁

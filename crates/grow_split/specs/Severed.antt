@@ -9,7 +9,7 @@ use Rattle.theory_row_bytes.specs.RowAt.{RecordIs}
 use Rattle.model.specs.Limits.{capacity}
 use Rattle.model.specs.Row.{Head, Row, nil, agg, lit, rec, size, lone, recordSize, two, header, bytes, recordBytes, Config, noHead}
 use Rattle.model.specs.Reading.{pageOf}
-use Rattle.model.specs.Growth.{Work, Out, startOf, startOfD, separate, cutFrom, cutRoot, cutOf, splitPoint, rootRow, group, separator}
+use Rattle.model.specs.Growth.{Work, startOf, startOfD, separate, cutFrom, cutRoot, cutOf, splitPoint, rootRow, group, separator}
 use Rattle.theory_rows.specs.Cut.{by-root}
 use Rattle.theory_rows.specs.Fits.{Fits}
 use Rattle.theory_rows.specs.Image.{length-record}
@@ -17,7 +17,7 @@ use Rattle.base_numbers.specs.Over.{over}
 use Rattle.base_layout.specs.declared.Growing.{Growing}
 use Rattle.base_layout.specs.Setup.{setupOf}
 use Rattle.base_layout.specs.Growing.{separatorSize}
-use Rattle.theory_page_memory.specs.Memory.{Mem, groupMem, groupM, separatorMem}
+use Rattle.theory_page_memory.specs.Memory.{WorkMem, OutMem, groupMem, groupM, separatorM}
 use Rattle.theory_page_memory.specs.Steps.{split-same}
 use Rattle.grow_pages.specs.Links.{Below}
 use Rattle.grow_split_point.specs.Kids.{Kids, headOf, kidsOf}
@@ -50,8 +50,8 @@ pub record Large (g : Growing) (p : ℕ) (l u : List ℕ) : Type 0 where
 -- What the split leaves of the table, of the image and of out: what the model's separator and its memory say.
 abbrev pub Severed : (st : Config) → (g : Growing) → (row : Row) → (work : Work) → (end : ℕ) → (full : Bool) → (table used before image old new : List ℕ) → Type 0
 Severed st g row work end full u u′ img img′ out out′ =
-    let o = separator st (g .near) row work in
-    Step g row (work, pageOf img) (o .0, (o .1, separatorMem st (g .near) row work (pageOf img))) 0 end full u img out u′ img′ out′
+    let s : WorkMem = (work, pageOf img) in
+    Step g row s (separatorM st (g .near) row s) 0 end full u img out u′ img′ out′
 
 -- A number that is 1 in one of two cases says which.
 pub is-one : (b : Bool) (k other : ℕ) → k ≡ cond b 1 other → (1 ≡ other → ⊥) → k ≡ 1 → b ≡ true
@@ -108,14 +108,14 @@ module _ {g : Growing} {p : ℕ} {l u : List ℕ} (w : Large g p l u) where
       startOf 6 (cutFrom (w .st) q 6 nil (rootRow (w .st) b r)) ≡ startOf (cond b 0 6) (cutRoot (w .st) q b r)) (λ _. refl) (λ _ _. refl)
 
   module _ (img : List ℕ) where
-    abbrev pub s : Work × Mem
+    abbrev pub s : WorkMem
     s = (w .work, pageOf img)
 
     -- and what becomes of them.
-    abbrev pub C : Row × (Work × Mem)
+    abbrev pub C : OutMem
     C = separate (groupM (w .st) (g .near)) (cutFrom (w .st) p 6 nil row) s
 
-    abbrev pub root : Row × (Work × Mem)
+    abbrev pub root : OutMem
     root = cond b (agg (headOf (w .row)) (C .0) nil, C .1) C
 
     root-is : separate (groupM (w .st) (g .near)) (cutOf (w .st) (w .row)) s ≡ root
@@ -129,25 +129,19 @@ module _ {g : Growing} {p : ℕ} {l u : List ℕ} (w : Large g p l u) where
         let x = separate (groupM (w .st) (g .near)) (cutFrom (w .st) (sym (w .point) i) 6 nil (sym (level .1) i)) s in
         cond b (agg (headOf (w .row)) (x .0) nil, x .1) x)
 
-    model-is : let o = separator (w .st) (g .near) (w .row) (w .work) in
-        root ≡ (o .0, (o .1, separatorMem (w .st) (g .near) (w .row) (w .work) (pageOf img)))
-    unfolding separatorMem
-    model-is =
-        sym root-is
-        ∙ (λ i.
-        let o : Out = split-same (w .st) (g .near) (w .row) (w .work) (pageOf img) i in
-        (o .0, (o .1, separatorMem (w .st) (g .near) (w .row) (w .work) (pageOf img))))
+    model-is : root ≡ separatorM (w .st) (g .near) (w .row) s
+    model-is = sym root-is ∙ split-same (w .st) (g .near) (w .row) s
 
     severed : {e : ℕ} {f : Bool} {u′ i′ o₀ o₁ : List ℕ} → Step g (cond b (agg (headOf (w .row)) row nil) row) s root 0 e f u img o₀ u′ i′ o₁
         → Severed (w .st) g (w .row) (w .work) e f u u′ img i′ o₀ o₁
     severed {e} {f} {u′} {i′} {o₀} {o₁} k =
-        subst (λ (y : Row × (Row × (Work × Mem))). Step g (y .0) s (y .1) 0 e f u img o₀ u′ i′ o₁) (λ i. (sym row-is i, model-is i)) k
+        subst (λ (y : Row × OutMem). Step g (y .0) s (y .1) 0 e f u img o₀ u′ i′ o₁) (λ i. (sym row-is i, model-is i)) k
 
     -- They have room, after the header of a root that stays.
     pub level-room : Fits (C .0) × (cond b 6 0 + size (C .0) ≤ separatorSize)
-    level-room = go b (subst (λ (o : Row × (Work × Mem)). Fits (o .0) × (size (o .0) ≤ separatorSize)) (sym model-is) (w .over .good, w .over .most))
+    level-room = go b (subst (λ (o : OutMem). Fits (o .0) × (size (o .0) ≤ separatorSize)) (sym model-is) (w .over .good, w .over .most))
       where
-        go : (b : Bool) → let o = cond {A = Row × (Work × Mem)} b (agg (headOf (w .row)) (C .0) nil, C .1) C in Fits (o .0) × (size (o .0) ≤ separatorSize)
+        go : (b : Bool) → let o = cond {A = OutMem} b (agg (headOf (w .row)) (C .0) nil, C .1) C in Fits (o .0) × (size (o .0) ≤ separatorSize)
             → Fits (C .0) × (cond b 6 0 + size (C .0) ≤ separatorSize)
         go true m = (m .0 .1, omega arith)
         go false m = (m .0, omega arith)

@@ -146,7 +146,7 @@ module _ (st : Config) where
     unfolding rise
     rise-goes = ap (λ (y : Out). rise st c (onRow (fill s) y)) (close-goes st q b rest (r, w) e)
 
-    pub mem-goes : (m : Mem) → let o = separatorM st q r (freed st q (counted st r w)) (setMem q blank m) in
-        riseMem st (below c s q b rest) r w m ≡ riseMem st c (fill s (o .row ⊹ rest)) (o .work) (o .mem)
+    pub mem-goes : (m : Mem) → let o = separatorM st q r (freed st q (counted st r w), setMem q blank m) in
+        riseMem st (below c s q b rest) r w m ≡ riseMem st c (fill s (o .0 ⊹ rest)) (o .1 .0) (o .1 .1)
     unfolding riseMem
     mem-goes m = rw e

@@ -22,7 +22,7 @@ use Rattle.theory_growth.specs.Store.{NewFits, received-grows}
 use Rattle.theory_decoding.specs.Decode.{stored-image}
 use Rattle.theory_check.specs.Images.{image-is}
 use Rattle.model.specs.Spot.{lastPage, Spot}
-use Rattle.theory_page_memory.specs.Memory.{Mem, MemState, blank, riseMem}
+use Rattle.theory_page_memory.specs.Memory.{Mem, OutMem, blank, riseMem}
 use Rattle.theory_page_memory.specs.Links.{not-bit}
 use Rattle.theory_page_memory.specs.Kept.{Done, placeM, insert-kept}
 
@@ -72,12 +72,12 @@ done-free st first root w m d q a b z =
 module _ (st : Config) (x : New) (fits : NewFits x) (root : Row) (v : Valid st root) (path : List ℕ) (k : ℕ) (short : length path ≤ 22)
     (t : Spot) (g : Gap root path k t) where
   -- The state once the new node is at its spot, any of the gap,
-  abbrev pub begun : MemState
+  abbrev pub begun : OutMem
   begun = placeM st x (t .parent) (lastPage (t .chain)) (t .position) (t .rest) (atRest st root) (before st root v)
 
   -- and the memory once growth is done.
   abbrev pub after : Mem
-  after = riseMem st (t .chain) (begun .row) (begun .work) (begun .mem)
+  after = riseMem st (t .chain) (begun .0) (begun .1 .0) (begun .1 .1)
 
   abbrev new : Out
   new = risen st x t (atRest st root)

@@ -17,7 +17,7 @@ use Rattle.theory_rows.specs.Pages.{bit, or-right, reserved, tally-freed, tally
 use Rattle.model.specs.Spot.{Position, fill, Chain, top, below, lastPage, whole, lastHolder}
 use Rattle.theory_growth.specs.Chain.{lastSettled, fits-fill, count-chain}
 use Rattle.theory_growth.specs.Keeps.{Grows, grows-splits, split-able, grows-goes}
-use Rattle.theory_page_memory.specs.Memory.{Mem, blank, setMem, putMem, separatorMem, keptMem, riseMem, placeMem, MemState, separatorM}
+use Rattle.theory_page_memory.specs.Memory.{Mem, blank, setMem, putMem, separatorMem, keptMem, riseMem, placeMem, OutMem, separatorM}
 use Rattle.theory_page_memory.specs.Links.{self, stored-loose, loose-agree, set-other, put-other, put-same, put-stored}
 use Rattle.theory_page_memory.specs.Steps.{Now, StepLeaves, StepKeeps, bit-le, bit-false, now-in, stay, step-own, step-separator}
 use Rattle.theory_insert_point.specs.Bytes.{lastHeld}
@@ -81,20 +81,20 @@ module _ (st : Config) (first : List ℕ) where
       v : Work
       v = counted st r w
 
-      sep : MemState
-      sep = separatorM st q r v m
+      sep : OutMem
+      sep = separatorM st q r (v, m)
 
       go : (b : Bool) → leb (recordSize r) capacity ≡ b → let o = cond {A = Out} b (r, w) (separator st q r v) in
           o .1 .full ≡ false → Done (whole c (o .0)) (o .1)
-          (cond b (putMem q (lastSettled c) (lastHolder c) r m) (putMem q (lastSettled c) (lastHolder c) (sep .row) (sep .mem)))
+          (cond b (putMem q (lastSettled c) (lastHolder c) r m) (putMem q (lastSettled c) (lastHolder c) (sep .0) (sep .1 .1)))
       go true z full = finish c old r w m (able .fits) (ready full)
       go false z full =
           let f = split-able st range q r v able (leb-false (recordSize r) capacity z) .fits in
-          let k = step-separator st q (elsewhere st c) r v m f
+          let k = step-separator st q (elsewhere st c) r (v, m) f
           (λ z. record { tally = ready z .now .tally; free = ready z .now .free; loose = ready z .now .loose }) full in
           let a = ready (k .was) in
-          finish c old (sep .row) (sep .work) (sep .mem) f (record {
-            around = around-agree st m (sep .mem) c old (λ p z. k .frame p (omega (arith, beyond-own st c p))) (a .around);
+          finish c old (sep .0) (sep .1 .0) (sep .1 .1) f (record {
+            around = around-agree st m (sep .1 .1) c old (λ p z. k .frame p (omega (arith, beyond-own st c p))) (a .around);
             now = k .now;
             settings = k .frame 0 (omega arith) ∙ a .settings;
           })
@@ -109,15 +109,15 @@ module _ (st : Config) (first : List ℕ) where
 
   -- An unsettled record leaves its page, and the record above is ready; its page is as it was.
   pub goes-up : (c : Chain) (s : Position) (q : ℕ) (b : Bool) (rest old r : Row) (w : Work) (m : Mem) → (w .full ≡ false → Ready (below c s q b rest) old r w m)
-      → let sep = separatorM st q r (freed st q (counted st r w)) (setMem q blank m) in
-      Fits (sep .row) → sep .work .full ≡ false
-      → Ready c (fill s (rec q b old rest)) (fill s (sep .row ⊹ rest)) (sep .work) (sep .mem) ×
-      (sep .mem (lastPage c) ≡ recordPage (lastHeld c (fill s (rec q b old rest))))
+      → let sep = separatorM st q r (freed st q (counted st r w), setMem q blank m) in
+      Fits (sep .0) → sep .1 .0 .full ≡ false
+      → Ready c (fill s (rec q b old rest)) (fill s (sep .0 ⊹ rest)) (sep .1 .0) (sep .1 .1) ×
+      (sep .1 .1 (lastPage c) ≡ recordPage (lastHeld c (fill s (rec q b old rest))))
   goes-up c s q b rest old r w m ready f full =
       let c′ = below c s q b rest in
       let m₁ = setMem q blank m in
       let w₁ = freed st q (counted st r w) in
-      let sep = separatorM st q r w₁ m₁ in
+      let sep = separatorM st q r (w₁, m₁) in
       let clear : (p : ℕ) → bit (eqb p q) ≡ 0 → m₁ p ≡ m p = λ p z. set-other q p blank m z in
       let now₁ : w .full ≡ false → Now (beyond st c′) r w₁ m₁ =
       λ z.
@@ -127,14 +127,14 @@ module _ (st : Config) (first : List ℕ) where
         free = λ p y. cleared p q (w .used) m (n .free) y;
         loose = loose-agree m m₁ r (λ p y. clear p (omega (arith, n .tally p, bit-le (w .used p)))) (n .loose);
       } in
-      let k = step-separator st q (beyond st c′) r w₁ m₁ f now₁ full in
+      let k = step-separator st q (beyond st c′) r (w₁, m₁) f now₁ full in
       let a = ready (k .was) in
       let t = a .now .tally in
-      let same : (p : ℕ) → 0 < beyond st c′ p → sep .mem p ≡ m p = λ p z. k .frame p z ∙ clear p (omega (arith, t p, bit-le (w .used p))) in
-      let around = around-agree st m (sep .mem) c′ old same (a .around) in (
+      let same : (p : ℕ) → 0 < beyond st c′ p → sep .1 .1 p ≡ m p = λ p z. k .frame p z ∙ clear p (omega (arith, t p, bit-le (w .used p))) in
+      let around = around-agree st m (sep .1 .1) c′ old same (a .around) in (
         record {
           around = around .2;
-          now = now-in (elsewhere st c) s (sep .row) rest (sep .work) (sep .mem) (k .now) (stored-loose (sep .mem) (lastPage c) (fill s rest) (around .0));
+          now = now-in (elsewhere st c) s (sep .0) rest (sep .1 .0) (sep .1 .1) (k .now) (stored-loose (sep .1 .1) (lastPage c) (fill s rest) (around .0));
           settings = same 0 (omega arith) ∙ a .settings;
         },
         around .1,
@@ -170,10 +170,10 @@ module _ (st : Config) (first : List ℕ) where
 
 module _ (st : Config) (x : New) (parent : Head) (page : ℕ) (s : Position) (rest : Row) where
   -- The new node at a position, itself or in a record of its own.
-  abbrev pub placeM : Work → Mem → MemState
-  placeM w m = let o = place st x parent page rest w in record { row = fill s (o .0); work = o .1; mem = placeMem st x parent page w m }
+  abbrev pub placeM : Work → Mem → OutMem
+  placeM w m = let o = place st x parent page rest w in (fill s (o .0), (o .1, placeMem st x parent page w m))
 
-  pub step-place : (e : ℕ → ℕ) (w : Work) (m : Mem) → Fits (placeM w m .row) → StepKeeps e (fill s rest) w m (placeM w m)
+  pub step-place : (e : ℕ → ℕ) (w : Work) (m : Mem) → Fits (placeM w m .0) → StepKeeps e (fill s rest) (w, m) (placeM w m)
   step-place e w m = go (apart st parent (x .head)) (eqb (x .kind) 1)
     where
       q : ℕ
@@ -190,22 +190,22 @@ module _ (st : Config) (x : New) (parent : Head) (page : ℕ) (s : Position) (re
       bare true now z = let n = now z in record { tally = λ p. omega (arith, n .tally p); free = n .free; loose = (tt, tt) }
       bare false now z = let n = now z in record { tally = λ p. omega (arith, n .tally p); free = n .free; loose = tt }
 
-      put : (y : MemState) → (w .full ≡ false → Now e (fill s rest) w m) → StepLeaves (λ p. e p + count p (fill s rest)) w m y
-          → StepLeaves e w m (record { row = fill s (y .row ⊹ rest); work = y .work; mem = y .mem })
+      put : (y : OutMem) → (w .full ≡ false → Now e (fill s rest) w m) → StepLeaves (λ p. e p + count p (fill s rest)) (w, m) y
+          → StepLeaves e (w, m) (fill s (y .0 ⊹ rest), y .1)
       put y now l = record {
         was = l .was;
-        now = now-in e s (y .row) rest (y .work) (y .mem) (l .now)
-            (loose-agree m (y .mem) (fill s rest) (λ p z. l .frame p (omega arith)) (now (l .was) .loose));
+        now = now-in e s (y .0) rest (y .1 .0) (y .1 .1) (l .now)
+            (loose-agree m (y .1 .1) (fill s rest) (λ p z. l .frame p (omega arith)) (now (l .was) .loose));
         frame = λ p z. l .frame p (omega arith);
       }
 
       go : (a k : Bool) → Fits (fill s (out a k .0))
-          → StepKeeps e (fill s rest) w m (record { row = fill s (out a k .0); work = out a k .1; mem = cond a (putMem q true page (new k nil) m) m })
+          → StepKeeps e (fill s rest) (w, m) (fill s (out a k .0), (out a k .1, cond a (putMem q true page (new k nil) m) m))
       go true k f now full =
-          put (record { row = rec q true (new k nil) nil; work = taken st q w; mem = putMem q true page (new k nil) m }) now
+          put (rec q true (new k nil) nil, (taken st q w, putMem q true page (new k nil) m)) now
           (step-own st page _ true page (new k nil) w m (fits-fill s (rec q true (new k nil) rest) f .1) (bare k now) full)
-      go false true f now full = put (record { row = new true nil; work = w; mem = m }) now (stay _ (new true nil) w m (bare true now) full)
-      go false false f now full = put (record { row = new false nil; work = w; mem = m }) now (stay _ (new false nil) w m (bare false now) full)
+      go false true f now full = put (new true nil, (w, m)) now (stay _ (new true nil) (w, m) (bare true now) full)
+      go false false f now full = put (new false nil, (w, m)) now (stay _ (new false nil) (w, m) (bare false now) full)
 
 -- ── an insert ──
 
@@ -227,14 +227,14 @@ module _ (st : Config) (root : Row) (v : Valid st root) (m : Mem) (stored : Stor
   -- The new node at a position of the last record of a chain: the record is ready, and its page is as it was.
   pub ready-place : (c : Chain) (s : Position) (rest : Row) → whole c (fill s rest) ≡ root → (x : New) (parent : Head)
       → let o = placeM st x parent (lastPage c) s rest (atRest st root) m in
-      Fits (o .row) → o .work .full ≡ false → Ready st (m 0) c (fill s rest) (o .row) (o .work) (o .mem) × (o .mem (lastPage c) ≡ m (lastPage c))
+      Fits (o .0) → o .1 .0 .full ≡ false → Ready st (m 0) c (fill s rest) (o .0) (o .1 .0) (o .1 .1) × (o .1 .1 (lastPage c) ≡ m (lastPage c))
   ready-place c s rest e x parent f full =
       let w = atRest st root in
       let o = placeM st x parent (lastPage c) s rest w m in
       let r = at-rest c (fill s rest) e in
       let k = step-place st x parent (lastPage c) s rest (elsewhere st c) w m f (λ _. r .now) full in (
         record {
-          around = around-agree st m (o .mem) c (fill s rest) (λ q y. k .frame q (omega (arith, beyond-own st c q))) (r .around);
+          around = around-agree st m (o .1 .1) c (fill s rest) (λ q y. k .frame q (omega (arith, beyond-own st c q))) (r .around);
           now = k .now;
           settings = k .frame 0 (omega arith) ∙ r .settings;
         },
@@ -244,8 +244,8 @@ module _ (st : Config) (root : Row) (v : Valid st root) (m : Mem) (stored : Stor
   -- The new node at a position of the last record of a chain, and growth from there upwards.
   pub insert-kept : (c : Chain) (s : Position) (rest : Row) → whole c (fill s rest) ≡ root → (x : New) (parent : Head)
       → let o = placeM st x parent (lastPage c) s rest (atRest st root) m in
-      let u = rise st c (o .row, o .work) in
-      Grows c (fill s rest) (o .row, o .work) → u .1 .full ≡ false → Done st (m 0) (u .0) (u .1) (riseMem st c (o .row) (o .work) (o .mem))
+      let u = rise st c (o .0, o .1 .0) in
+      Grows c (fill s rest) (o .0, o .1 .0) → u .1 .full ≡ false → Done st (m 0) (u .0) (u .1) (riseMem st c (o .0) (o .1 .0) (o .1 .1))
   insert-kept c s rest e x parent g full =
       let o = placeM st x parent (lastPage c) s rest (atRest st root) m in
-      rise-done st (m 0) c (fill s rest) (o .row) (o .work) (o .mem) (v .ranges) g (λ z. ready-place c s rest e x parent (g .grew .fits) z .0) full
+      rise-done st (m 0) c (fill s rest) (o .0) (o .1 .0) (o .1 .1) (v .ranges) g (λ z. ready-place c s rest e x parent (g .grew .fits) z .0) full

@@ -13,6 +13,13 @@ use Rattle.model.specs.Spot.{fill, Chain, top, below, lastPage}
 abbrev pub Mem : Type 0
 Mem = ℕ → List ℕ
 
+-- What growth carries along, with the pages, and a row beside it.
+abbrev pub WorkMem : Type 0
+WorkMem = Work × Mem
+
+abbrev pub OutMem : Type 0
+OutMem = Row × WorkMem
+
 -- A free page.
 abbrev pub blank : List ℕ
 blank = replicate pageSize 0
@@ -48,11 +55,15 @@ module _ (st : Config) where
       cond (isNil g || loneRec g) m own
 
   -- The model's group with its page writes.
-  abbrev pub groupM : (near : ℕ) → Row → Work × Mem → Row × (Work × Mem)
+  abbrev pub groupM : (near : ℕ) → Row → WorkMem → OutMem
   groupM near g s = (group st near g (s .0) .0, (group st near g (s .0) .1, groupMem near g (s .0) (s .1)))
 
   unfoldable pub separatorMem : (near : ℕ) → Row → Work → Mem → Mem
   separatorMem near r w m = separate (groupM near) (cutOf st r) (w, m) .1 .1
+
+  -- The model's separator with its page writes.
+  abbrev pub separatorM : (near : ℕ) → Row → WorkMem → OutMem
+  separatorM near r s = let o = separator st near r (s .0) in (o .0, (o .1, separatorMem near r (s .0) (s .1)))
 
   -- ── from the last record of a chain upwards ──
 
@@ -79,14 +90,3 @@ module _ (st : Config) where
   placeMem x parent page w m =
       let own = putMem (freeFrom st (st .pages) (w .used) page) true page (asRow st x nil) m in
       cond (apart st parent (x .head)) own m
-
--- ── rows, works and memories together ──
-
-pub record MemState : Type 0 where
-  pub row : Row
-  pub work : Work
-  pub mem : Mem
-
-module _ (st : Config) where
-  abbrev pub separatorM : (near : ℕ) → Row → Work → Mem → MemState
-  separatorM near r w m = record { row = separator st near r w .0; work = separator st near r w .1; mem = separatorMem st near r w m }

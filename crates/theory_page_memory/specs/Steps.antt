@@ -11,7 +11,7 @@ use Rattle.theory_growth.specs.Chain.{fill-more, count-refill}
 use Rattle.theory_rows.specs.Bound.{fits-parts}
 use Rattle.theory_rows.specs.Fits.{Fits}
 use Rattle.theory_rows.specs.Pages.{bit, count-⊹, or-left, or-right, free-found, tally-own}
-use Rattle.theory_page_memory.specs.Memory.{Mem, blank, putMem, groupMem, groupM, separatorMem, MemState, separatorM}
+use Rattle.theory_page_memory.specs.Memory.{Mem, WorkMem, OutMem, blank, putMem, groupMem, groupM, separatorMem, separatorM}
 use Rattle.theory_rows.specs.Cut.{split-related, split-keeps}
 use Rattle.theory_page_memory.specs.Links.{Loose, not-bit, all-parted, loose-agree, put-other, put-same, put-stored}
 
@@ -21,14 +21,14 @@ pub record Now (e : ℕ → ℕ) (r : Row) (w : Work) (m : Mem) : Type 0 where
   pub free : (q : ℕ) → w .used q ≡ false → m q ≡ blank
   pub loose : Loose m r
 
--- A step from a work and a memory: pages were left then too, row, work and memory go together, and the pages named elsewhere are as they were.
-pub record StepLeaves (e : ℕ → ℕ) (w : Work) (m : Mem) (s : MemState) : Type 0 where
-  pub was : w .full ≡ false
-  pub now : Now e (s .row) (s .work) (s .mem)
-  pub frame : (q : ℕ) → 0 < e q → s .mem q ≡ m q
+-- A step from s makes o: pages were left then too, row, work and memory go together, and the pages named elsewhere are as they were.
+pub record StepLeaves (e : ℕ → ℕ) (s : WorkMem) (o : OutMem) : Type 0 where
+  pub was : s .0 .full ≡ false
+  pub now : Now e (o .0) (o .1 .0) (o .1 .1)
+  pub frame : (q : ℕ) → 0 < e q → o .1 .1 q ≡ s .1 q
 
-abbrev pub StepKeeps : (e : ℕ → ℕ) → Row → Work → Mem → MemState → Type 0
-StepKeeps e r w m s = (w .full ≡ false → Now e r w m) → s .work .full ≡ false → StepLeaves e w m s
+abbrev pub StepKeeps : (e : ℕ → ℕ) → Row → WorkMem → OutMem → Type 0
+StepKeeps e r s o = (s .0 .full ≡ false → Now e r (s .0) (s .1)) → o .1 .0 .full ≡ false → StepLeaves e s o
 
 pub bit-le : (b : Bool) → bit b ≤ 1
 bit-le true = omega arith
@@ -39,39 +39,38 @@ bit-false true e = absurd (true≢false e)
 bit-false false e = refl
 
 -- Two steps, on a row and on the one behind it.
-step-both : (e : ℕ → ℕ) (a b : Row) (w : Work) (m : Mem) (x y : MemState)
-    → StepKeeps (λ q. e q + count q b) a w m x → StepKeeps (λ q. e q + count q (x .row)) b (x .work) (x .mem) y
-    → StepKeeps e (a ⊹ b) w m (record { row = x .row ⊹ y .row; work = y .work; mem = y .mem })
-step-both e a b w m x y f g now full =
-    let now₁ : w .full ≡ false → Now (λ q. e q + count q b) a w m =
+step-both : (e : ℕ → ℕ) (a b : Row) (s : WorkMem) (x y : OutMem)
+    → StepKeeps (λ q. e q + count q b) a s x → StepKeeps (λ q. e q + count q (x .0)) b (x .1) y
+    → StepKeeps e (a ⊹ b) s (x .0 ⊹ y .0, y .1)
+step-both e a b s x y f g now full =
+    let now₁ : s .0 .full ≡ false → Now (λ q. e q + count q b) a (s .0) (s .1) =
     λ z.
     let n = now z in
     record { tally = λ q. omega (arith, n .tally q, count-⊹ q a b); free = n .free; loose = all-parted _ .parts a b (n .loose) .0 } in
-    let now₂ : x .work .full ≡ false → Now (λ q. e q + count q (x .row)) b (x .work) (x .mem) =
+    let now₂ : x .1 .0 .full ≡ false → Now (λ q. e q + count q (x .0)) b (x .1 .0) (x .1 .1) =
     λ z.
     let k = f now₁ z in
     record {
       tally = λ q. omega (arith, k .now .tally q);
       free = k .now .free;
-      loose = loose-agree m (x .mem) b (λ p c. k .frame p (omega arith)) (all-parted _ .parts a b (now (k .was) .loose) .1);
+      loose = loose-agree (s .1) (x .1 .1) b (λ p c. k .frame p (omega arith)) (all-parted _ .parts a b (now (k .was) .loose) .1);
     } in
     let l = g now₂ full in
     let k = f now₁ (l .was) in
     record {
       was = k .was;
       now = record {
-        tally = λ q. omega (arith, l .now .tally q, count-⊹ q (x .row) (y .row));
+        tally = λ q. omega (arith, l .now .tally q, count-⊹ q (x .0) (y .0));
         free = l .now .free;
-        loose = all-parted _ .join (x .row) (y .row)
-            (loose-agree (x .mem) (y .mem) (x .row) (λ p c. l .frame p (omega arith)) (k .now .loose)) (l .now .loose);
+        loose = all-parted _ .join (x .0) (y .0)
+            (loose-agree (x .1 .1) (y .1 .1) (x .0) (λ p c. l .frame p (omega arith)) (k .now .loose)) (l .now .loose);
       };
       frame = λ q c. l .frame q (omega arith) ∙ k .frame q (omega arith);
     }
 
 -- A step on the children of an aggregate.
-step-under : (e : ℕ → ℕ) (h : Head) (r : Row) (w : Work) (m : Mem) (s : MemState) → StepKeeps e r w m s
-    → StepKeeps e (agg h r nil) w m (record { row = agg h (s .row) nil; work = s .work; mem = s .mem })
-step-under e h r w m s f now full =
+step-under : (e : ℕ → ℕ) (h : Head) (r : Row) (s : WorkMem) (x : OutMem) → StepKeeps e r s x → StepKeeps e (agg h r nil) s (agg h (x .0) nil, x .1)
+step-under e h r s x f now full =
     let k = f (λ z. let n = now z in record { tally = λ q. omega (arith, n .tally q); free = n .free; loose = n .loose .0 }) full in
     record {
       was = k .was;
@@ -89,13 +88,13 @@ now-in e s x rest w m n l = record {
 }
 
 -- No step.
-pub stay : (e : ℕ → ℕ) (r : Row) (w : Work) (m : Mem) → StepKeeps e r w m (record { row = r; work = w; mem = m })
-stay e r w m now full = record { was = full; now = now full; frame = λ q z. refl }
+pub stay : (e : ℕ → ℕ) (r : Row) (s : WorkMem) → StepKeeps e r s (r, s)
+stay e r s now full = record { was = full; now = now full; frame = λ q z. refl }
 
 module _ (st : Config) (near : ℕ) where
   -- A row becomes a record on a free page.
   pub step-own : (e : ℕ → ℕ) (s : Bool) (h : ℕ) (g : Row) (w : Work) (m : Mem) → Fits g
-      → let q = freeFrom st (st .pages) (w .used) near in StepKeeps e g w m (record { row = rec q s g nil; work = taken st q w; mem = putMem q s h g m })
+      → let q = freeFrom st (st .pages) (w .used) near in StepKeeps e g (w, m) (rec q s g nil, (taken st q w, putMem q s h g m))
   step-own e s h g w m f now full =
       let q = freeFrom st (st .pages) (w .used) near in
       let was = or-left (w .full) (eqb q 0) full in
@@ -117,43 +116,40 @@ module _ (st : Config) (near : ℕ) where
       }
 
   -- A group stays, or becomes a record.
-  step-group : (e : ℕ → ℕ) (r : Row) (w : Work) (m : Mem) → Fits (group st near r w .0)
-      → StepKeeps e r w m (record { row = group st near r w .0; work = group st near r w .1; mem = groupMem st near r w m })
+  step-group : (r : Row) (s : WorkMem) (e : ℕ → ℕ) → Fits (groupM st near r s .0) → StepKeeps e r s (groupM st near r s)
   unfolding group groupMem
-  step-group e r w m = go (isNil r || loneRec r)
+  step-group r s e = go (isNil r || loneRec r)
     where
       q : ℕ
-      q = freeFrom st (st .pages) (w .used) near
+      q = freeFrom st (st .pages) (s .0 .used) near
 
-      go : (b : Bool) → let o = cond {A = Out} b (r, w) (rec q false r nil, taken st q w) in
-          Fits (o .0) → StepKeeps e r w m (record { row = o .0; work = o .1; mem = cond b m (putMem q false 0 r m) })
-      go true f = stay e r w m
-      go false f = step-own e false 0 r w m (f .1)
+      go : (b : Bool) → let o = cond {A = Out} b (r, s .0) (rec q false r nil, taken st q (s .0)) in
+          Fits (o .0) → StepKeeps e r s (o .0, (o .1, cond b (s .1) (putMem q false 0 r (s .1))))
+      go true f = stay e r s
+      go false f = step-own e false 0 r (s .0) (s .1) (f .1)
 
   -- Rows and works are the model's.
-  pub split-same : (r : Row) (w : Work) (m : Mem) → let o = separate (groupM st near) (cutOf st r) (w, m) in
-      (o .0, o .1 .0) ≡ separator st near r w
-  unfolding separator
-  split-same r w m =
-      split-related st (groupM st near) (group st near) (λ r s w o u. s .0 ≡ w → (o .0, o .1 .0) ≡ u)
-      (record {
-        both = λ a b s w x y x′ y′ i j e.
-            let k = i e in
-            let l = j (ap (λ (o : Out). o .1) k) in
-            λ n. (k n .0 ⊹ l n .0, l n .1);
-        under = λ h r s w x x′ i e. ap (onRow (λ r. agg h r nil)) (i e);
-      }) (λ r s w e. ap (group st near r) e) r (w, m) w refl
+  pub split-same : (r : Row) (s : WorkMem) → separate (groupM st near) (cutOf st r) s ≡ separatorM st near r s
+  unfolding separator separatorMem
+  split-same r s = λ n. (same n .0, (same n .1, separatorMem st near r (s .0) (s .1)))
+    where
+      same : let o = separate (groupM st near) (cutOf st r) s in (o .0, o .1 .0) ≡ separate (group st near) (cutOf st r) (s .0)
+      same =
+          split-related st (groupM st near) (group st near) (λ r s w o u. s .0 ≡ w → (o .0, o .1 .0) ≡ u)
+          (record {
+            both = λ a b s w x y x′ y′ i j e.
+                let k = i e in
+                let l = j (ap (λ (o : Out). o .1) k) in
+                λ n. (k n .0 ⊹ l n .0, l n .1);
+            under = λ h r s w x x′ i e. ap (onRow (λ r. agg h r nil)) (i e);
+          }) (λ r s w e. ap (group st near r) e) r s (s .0) refl
 
   -- A split: if the records that it makes fit, they stand on their pages.
-  pub step-separator : (e : ℕ → ℕ) (r : Row) (w : Work) (m : Mem) → Fits (separator st near r w .0) → StepKeeps e r w m (separatorM st near r w m)
-  unfolding separatorMem
-  step-separator e r w m =
-      subst (λ (o : Out). Fits (o .0) → StepKeeps e r w m (record { row = o .0; work = o .1; mem = separatorMem st near r w m })) (split-same r w m)
-      (split-keeps st (groupM st near)
-      (λ r s o. (e : ℕ → ℕ) → Fits (o .0) → StepKeeps e r (s .0) (s .1) (record { row = o .0; work = o .1 .0; mem = o .1 .1 }))
+  pub step-separator : (e : ℕ → ℕ) (r : Row) (s : WorkMem) → Fits (separator st near r (s .0) .0) → StepKeeps e r s (separatorM st near r s)
+  step-separator e r s =
+      subst (λ (o : OutMem). Fits (o .0) → StepKeeps e r s o) (split-same r s)
+      (split-keeps st (groupM st near) (λ r s o. (e : ℕ → ℕ) → Fits (o .0) → StepKeeps e r s o)
       (λ a b s x y i j e f.
       let fs = fits-parts (x .0) (y .0) f in
-      step-both e a b (s .0) (s .1) (record { row = x .0; work = x .1 .0; mem = x .1 .1 }) (record { row = y .0; work = y .1 .0; mem = y .1 .1 })
-      (i (λ k. e k + count k b) (fs .0)) (j (λ k. e k + count k (x .0)) (fs .1)))
-      (λ h r s x i e f. step-under e h r (s .0) (s .1) (record { row = x .0; work = x .1 .0; mem = x .1 .1 }) (i e (f .1)))
-      (λ r s e. step-group e r (s .0) (s .1)) r (w, m) e)
+      step-both e a b s x y (i (λ q. e q + count q b) (fs .0)) (j (λ q. e q + count q (x .0)) (fs .1)))
+      (λ h r s x i e f. step-under e h r s x (i e (f .1))) step-group r s e)
