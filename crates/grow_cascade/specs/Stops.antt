@@ -16,9 +16,8 @@ use Rattle.theory_rows.specs.Lean.{split-counts}
 use Rattle.model.specs.Growth.{Work, Out, onRow, separator, counted, kept, splitPoint, startOfD, rise}
 use Rattle.model.specs.Claims.{InLean}
 use Rattle.theory_rows.specs.Fits.{Shape}
-use Rattle.model.specs.Tree.{breadth, width}
-use Rattle.theory_rows.specs.Laws.{cond-case, breadth-shown}
-use Rattle.theory_rows.specs.Shows.{shown-separator}
+use Rattle.theory_rows.specs.Laws.{cond-case}
+use Rattle.theory_rows.specs.Shows.{separator-width}
 use Rattle.theory_rows.specs.Keeps.{separator-lone}
 use Rattle.theory_growth.specs.Store.{settled-lone}
 use Rattle.model.specs.Spot.{Chain, lastPage, whole, lastHolder}
@@ -45,11 +44,6 @@ leanNow k lean last = cond (eqb k 0) last lean
 
 pub lean-in : (k : ℕ) (lean last : ℤ) → InLean lean → InLean last → InLean (leanNow k lean last)
 lean-in k lean last a b = cond-case InLean (eqb k 0) (λ _. b) (λ _. a)
-
--- A separator shows as many nodes as the record.
-pub separator-width : (st : Config) (near : ℕ) (r : Row) (w : Work) → width r ≡ width (separator st near r w .0)
-separator-width st near r w =
-    sym (breadth-shown r) ∙ ap breadth (sym (shown-separator st near r w)) ∙ breadth-shown (separator st near r w .0)
 
 left-stays : (g : Growing) (img : List ℕ) → leftImage g true img ≡ img
 left-stays g img = rw or-true

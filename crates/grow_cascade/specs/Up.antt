@@ -16,10 +16,10 @@ use Rattle.model.specs.Reading.{pageOf}
 use Rattle.model.specs.Growth.{Work, Out, separator, counted, freed, splitPoint, startOfD, rise}
 use Rattle.theory_rows.specs.Bound.{SplitGood}
 use Rattle.theory_rows.specs.Lean.{split-counts}
-use Rattle.theory_rows.specs.Shows.{nodeCount-some}
+use Rattle.theory_rows.specs.Shows.{nodeCount-some, separator-width}
 use Rattle.theory_rows.specs.Pages.{count-⊹, or-right}
 use Rattle.model.specs.Tree.{width}
-use Rattle.grow_cascade.specs.Stops.{separator-width, leanNow}
+use Rattle.grow_cascade.specs.Stops.{leanNow}
 use Rattle.theory_rows.specs.Laws.{width-⊹, length-bytes}
 use Rattle.theory_rows.specs.Image.{length-record}
 use Rattle.base_numbers.specs.Over.{over, take-over}

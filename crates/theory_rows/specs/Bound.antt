@@ -12,11 +12,11 @@ use Rattle.model.specs.Row.{Row, nil, agg, lit, rec, _⊹_, size, isNil, lone, 
 use Rattle.theory_rows.specs.Fits.{Ranges, Fits, Shape, one, more}
 use Rattle.model.specs.Growth.{Work, Out, Cut, atD, through, separate, startOf, startOfD, cutFrom, cutRoot, cutOf, group, rootRow, splitPoint, separator}
 use Rattle.model.specs.Claims.{InLean}
-use Rattle.theory_rows.specs.Laws.{not-nil, size-⊹, cond-case, isNil-nil, breadth-shown}
+use Rattle.theory_rows.specs.Laws.{not-nil, size-⊹, cond-case, isNil-nil}
 use Rattle.theory_rows.specs.Cut.{cutRow, cut-row, Follows, cut-follows, by-root}
 use Rattle.theory_rows.specs.Point.{point-nearest}
-use Rattle.theory_rows.specs.Shows.{nodeCount-some, nodes-shown, shown-separator}
-use Rattle.model.specs.Tree.{width, breadth}
+use Rattle.theory_rows.specs.Shows.{nodeCount-some, nodes-shown, separator-width}
+use Rattle.model.specs.Tree.{width}
 
 -- ── a row and its parts ──
 
@@ -203,8 +203,7 @@ module _ (st : Config) (k : Ranges st) (near : ℕ) where
 
       go : (b : Bool) → isNil sep ≡ b → b ≡ false
       go true e =
-          let same = sym (breadth-shown sep) ∙ ap breadth (shown-separator st near r w) ∙ breadth-shown r in
-          absurd (omega (arith, ap width (isNil-nil sep e), nodes-shown r f, nodeCount-some r (not-nil r h)))
+          absurd (omega (arith, ap width (isNil-nil sep e), separator-width st near r w, nodes-shown r f, nodeCount-some r (not-nil r h)))
       go false e = refl
 
   module _ (r : Row) (w : Work) (f : Fits r) (over : capacity < recordSize r) (most : recordSize r ≤ (capacity + mostNode))

@@ -5,11 +5,11 @@ use Prim.Native.Nat.{ℕ, _≤_}
 use lib.Dec.{leb, eqb}
 use Rattle.model.specs.Limits.{capacity}
 use Rattle.model.specs.Row.{Head, Row, nil, agg, lit, rec, isNil, lone, nodeCount, loneRec, recordSize, Config}
-use Rattle.model.specs.Tree.{width, Tree, end, branch, leaf, _⊞_, shown, New, newNode}
+use Rattle.model.specs.Tree.{width, breadth, Tree, end, branch, leaf, _⊞_, shown, New, newNode}
 use Rattle.model.specs.Growth.{Work, Out, group, separator, kept, close, counted, freed, asRow, place, apart}
 use native.Mathlib.Omega.{arith}
 use Rattle.theory_rows.specs.Fits.{Fits, Shape, one, more}
-use Rattle.theory_rows.specs.Laws.{cond-case, ⊞-end, shown-⊹, newNode-⊞}
+use Rattle.theory_rows.specs.Laws.{cond-case, ⊞-end, shown-⊹, breadth-shown, newNode-⊞}
 use Rattle.theory_rows.specs.Cut.{split-keeps}
 
 -- ── how many nodes ──
@@ -49,6 +49,11 @@ module _ (st : Config) where
       split-keeps st (group st near) (λ r w o. Shows (shown r) o)
       (λ a b w x y i j. shown-⊹ (x .0) (y .0) ∙ ap₂ _⊞_ i j ∙ sym (shown-⊹ a b)) (λ h r w x i. ap (λ t. branch h t end) i)
       (λ r w. cond-case (Shows (shown r)) (isNil r || loneRec r) (λ e. refl) (λ e. ⊞-end (shown r)))
+
+  -- So it shows as many nodes as the record did.
+  pub separator-width : (near : ℕ) (r : Row) (w : Work) → width r ≡ width (separator st near r w .0)
+  separator-width near r w =
+      sym (breadth-shown r) ∙ ap breadth (sym (shown-separator near r w)) ∙ breadth-shown (separator st near r w .0)
 
   pub shown-kept : (q : ℕ) (o : Out) → Shows (shown (o .0)) (kept st q o)
   unfolding kept
