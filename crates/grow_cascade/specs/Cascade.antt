@@ -2,24 +2,21 @@
 use mathlib.Core.Path.{_≡_, refl, sym, ap, subst, _∙_}
 use mathlib.Core.Bool.{Bool, true, false, _||_, true≢false}
 use mathlib.Core.List.{List}
-use Prim.Native.Nat.{ℕ, _+_, _<_, _≤_}
-use native.Mathlib.Omega.{arith}
+use Prim.Native.Nat.{ℕ, _+_, _<_}
 use lib.ListN.{length, take}
 use lib.IntN.{ℤ}
 use Rattle.model.specs.Limits.{capacity}
-use Rattle.model.specs.Row.{Row, size, bytes, recordSize, recordBytes, Config}
+use Rattle.model.specs.Row.{Row, recordSize, recordBytes, Config}
 use Rattle.model.specs.Reading.{pageOf}
-use Rattle.model.specs.Growth.{Work, Out, separator, rise}
-use Rattle.base_numbers.specs.Over.{over, length-over}
-use Rattle.theory_rows.specs.Laws.{length-bytes}
+use Rattle.model.specs.Growth.{leanOf, Work, Out, rise}
+use Rattle.base_numbers.specs.Over.{over}
 use Rattle.model.specs.Spot.{Chain, top, below, lastHolder}
 use Rattle.theory_growth.specs.Chain.{lastSettled}
 use Rattle.theory_page_memory.specs.Memory.{Mem, riseMem}
 use Rattle.base_layout.specs.declared.Growing.{Growing}
 use Rattle.base_layout.specs.Growing.{nearTo}
-use Rattle.grow_split.specs.Severed.{Severed}
 use Rattle.grow_replace_proxy.specs.Lift.{Lift, lifted}
-use Rattle.grow_write_back.specs.Off.{leanOf, SplitOff}
+use Rattle.grow_write_back.specs.Off.{SplitOff}
 use Rattle.grow_cascade.specs.declared.Grown.{Grown}
 use Rattle.grow_cascade.specs.Rising.{Rising, LeftTable, Risen}
 use Rattle.grow_cascade.specs.Stops.{leanNow}

@@ -12,7 +12,7 @@ use Rattle.theory_row_bytes.specs.RowAt.{RecordIs, back-on}
 use Rattle.model.specs.Limits.{mostPages, pageSize, capacity}
 use Rattle.model.specs.Row.{Row, isNil, recordSize, recordPage, count, outside, Config}
 use Rattle.model.specs.Reading.{Reads, pageOf, backAt, settledAt}
-use Rattle.model.specs.Growth.{Work, Out, separator, splitPoint, startOfD, rise}
+use Rattle.model.specs.Growth.{leanOf, Work, Out, separator, rise}
 use Rattle.model.specs.Claims.{InLean}
 use Rattle.theory_rows.specs.Fits.{Valid}
 use Rattle.theory_rows.specs.Bound.{SplitGood, p-high}
@@ -99,6 +99,15 @@ is-bit : (b : Bool) → 1 ≤ bit b → b ≡ true
 is-bit true h = refl
 is-bit false h = absurd (omega arith)
 
+-- A settled byte says whether its record is settled.
+pub bit-one : (b : Bool) {k : ℕ} → k ≡ cond b 1 0 → k ≡ 1 → b ≡ true
+bit-one true q e = refl
+bit-one false q e = absurd (omega arith)
+
+pub bit-other : (b : Bool) {k : ℕ} → k ≡ cond b 1 0 → (k ≡ 1 → ⊥) → b ≡ false
+bit-other true q e = absurd (e q)
+bit-other false q e = refl
+
 module _ {st : Config} {was : List ℕ} {root : Row} {c : Chain} {old row : Row} {work : Work}
     {g : Growing} {len : ℕ} {filled : Bool} {counts : ℕ} {leans : ℤ} {l u img : List ℕ}
     (w : Rising st was root c old row work g len filled counts leans l u img) where
@@ -168,7 +177,7 @@ module _ {st : Config} {was : List ℕ} {root : Row} {c : Chain} {old row : Row}
     env = record { few = inside .1 .1 .0; image = omega (arith, long-image); low = inside .0; start = inside .1 .0; past = w .past }
 
   module _ (big : capacity < recordSize row) where
-    pub good : (v : Work) → SplitGood (separator st (g .near) row v .0) (splitPoint st (recordSize row)) (startOfD st row)
+    pub good : (v : Work) → SplitGood (separator st (g .near) row v .0) (leanOf st row)
     good v = split-able st (valid .ranges) (g .near) row v able big
 
     -- What the split of the record requires.
@@ -185,7 +194,6 @@ module _ {st : Config} {was : List ℕ} {root : Row} {c : Chain} {old row : Row}
           over = record {
             setup = w .setup;
             is = w .is;
-            fits = able .fits;
             big = big;
             small = omega (arith, able .most);
             below = w .below;
@@ -194,7 +202,7 @@ module _ {st : Config} {was : List ℕ} {root : Row} {c : Chain} {old row : Row}
           };
           range = omega (arith, target-of (w .setup), valid .ranges .high);
           small = omega (arith, able .most);
-          leans = y .lean;
+          leans = y .leans;
           low = omega (arith, p-high st (valid .ranges) (recordSize row) big (able .most));
         }
 

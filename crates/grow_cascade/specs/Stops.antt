@@ -13,7 +13,7 @@ use Rattle.model.specs.Limits.{capacity}
 use Rattle.model.specs.Row.{Row, size, lone, bytes, recordSize, recordBytes, Config}
 use Rattle.model.specs.Reading.{pageOf}
 use Rattle.theory_rows.specs.Lean.{split-counts}
-use Rattle.model.specs.Growth.{Work, Out, onRow, separator, counted, kept, splitPoint, startOfD, rise}
+use Rattle.model.specs.Growth.{leanOf, Work, Out, onRow, separator, counted, kept, rise}
 use Rattle.model.specs.Claims.{InLean}
 use Rattle.theory_rows.specs.Fits.{Shape}
 use Rattle.theory_rows.specs.Laws.{cond-case}
@@ -32,7 +32,7 @@ use Rattle.grow_pages.specs.Relinked.{After, after-then, written, after-written
 use Rattle.base_layout.specs.declared.Growing.{Growing}
 use Rattle.grow_split.specs.Severed.{Severed}
 use Rattle.grow_write_back.specs.Content.{Content}
-use Rattle.grow_write_back.specs.Off.{leanOf, leftImage, SplitOff}
+use Rattle.grow_write_back.specs.Off.{leftImage, SplitOff}
 use Rattle.theory_rows.specs.Pages.{or-right}
 use Rattle.grow_groups.specs.Tells.{Keeps}
 use Rattle.grow_groups.specs.Step.{front-is}
@@ -107,7 +107,7 @@ module _ {st : Config} {was : List ℕ} {root : Row} {c : Chain} {old row : Row}
 
     S-lone : lone (S .0) ≡ true
     S-lone =
-        separator-lone st (g .near) row v (w .grows .grew .fits) big
+        separator-lone st (valid w .ranges .tol) (g .near) row v (w .grows .grew .fits) big
         (settled-lone row (subst (λ (b : Bool). Shape b row) settled (grows-splits st (valid w .ranges) c old (row, work) (w .grows) .0)))
 
     goal-is : rise st c (row, work) ≡ onRow (whole c) S

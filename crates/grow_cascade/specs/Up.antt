@@ -11,16 +11,16 @@ use lib.ListN.{length, getD, set, take}
 use lib.Seq.{getD-set-other}
 use lib.IntN.{ℤ}
 use Rattle.model.specs.Limits.{pageSize, capacity}
-use Rattle.model.specs.Row.{Row, rec, _⊹_, size, bytes, recordSize, recordBytes, recordPage, count, Config, recordOn}
+use Rattle.model.specs.Row.{Row, rec, _⊹_, size, bytes, recordSize, recordBytes, recordPage, count, Config}
 use Rattle.model.specs.Reading.{pageOf}
-use Rattle.model.specs.Growth.{Work, Out, separator, counted, freed, splitPoint, startOfD, rise}
+use Rattle.model.specs.Growth.{leanOf, Work, Out, separator, counted, freed, rise}
 use Rattle.theory_rows.specs.Bound.{SplitGood}
 use Rattle.theory_rows.specs.Lean.{split-counts}
 use Rattle.theory_rows.specs.Shows.{nodeCount-some, separator-width}
 use Rattle.theory_rows.specs.Pages.{count-⊹, or-right}
 use Rattle.model.specs.Tree.{width}
 use Rattle.grow_cascade.specs.Stops.{leanNow}
-use Rattle.theory_rows.specs.Laws.{width-⊹, length-bytes}
+use Rattle.theory_rows.specs.Laws.{width-⊹}
 use Rattle.theory_rows.specs.Image.{length-record}
 use Rattle.base_numbers.specs.Over.{over, take-over}
 use Rattle.theory_layout.specs.Here.{PageIn, OnPage}
@@ -40,7 +40,7 @@ use Rattle.grow_splice.specs.Splice.{KeepsRoot}
 use Rattle.grow_replace_proxy.specs.Above.{above-stands, above-once}
 use Rattle.grow_replace_proxy.specs.Keeps.{shape-keeps}
 use Rattle.grow_replace_proxy.specs.Lift.{Lift}
-use Rattle.grow_write_back.specs.Off.{leanOf, leftImage, length-left, SplitOff}
+use Rattle.grow_write_back.specs.Off.{leftImage, length-left, SplitOff}
 use Rattle.theory_rows.specs.Population.{population}
 use Rattle.theory_places.specs.Widths.{Told, told-same}
 use Rattle.theory_growth.specs.Told.{told-parted, told-chain, told-swap, width-fill, along-own}
@@ -76,7 +76,7 @@ module _ {st : Config} {was : List ℕ} {root : Row} {c : Chain} {s : Position} 
   abbrev pub next : Row
   next = fill s (S .0 ⊹ rest)
 
-  split : SplitGood (S .0) (splitPoint st (recordSize row)) (startOfD st row)
+  split : SplitGood (S .0) (leanOf st row)
   split = good w big v
 
   too-large : leb (recordSize row) capacity ≡ false

@@ -1,19 +1,19 @@
 -- A group that a split sets apart: what the code of its record and of its proxy needs.
 use mathlib.Core.Path.{_≡_, refl, sym, ap, _∙_}
 use mathlib.Core.Bool.{Bool, true, false, cond, not, _||_, or-false, false≢true, true≢false}
-use mathlib.Core.List.{List, [], _∷_, _++_, append-nil}
+use mathlib.Core.List.{List, _∷_, _++_}
 use Prim.Native.Nat.{ℕ, _+_, _<_, _≤_}
 use native.Mathlib.Omega.{arith}
 use native.Mathlib.Nat.{zero-add}
 use lib.Dec.{eqb}
 use lib.ListN.{length, take, drop, set, length-set}
 use lib.Seq.{take-at}
-use Rattle.theory_row_bytes.specs.RowAt.{RowIs}
+use Rattle.theory_row_bytes.specs.RowAt.{RowIs, row-long, row-whole}
 use Rattle.model.specs.Limits.{mostPages, capacity}
-use Rattle.model.specs.Row.{Row, nil, agg, lit, rec, size, isNil, lone, loneRec, recordSize, two, header, bytes, recordBytes, Config, noHead}
-use Rattle.model.specs.Reading.{twoAt, pageOf}
+use Rattle.model.specs.Row.{Row, nil, agg, lit, rec, size, isNil, lone, loneRec, recordSize, two, header, recordBytes, Config, noHead}
+use Rattle.model.specs.Reading.{twoAt}
 use Rattle.model.specs.Growth.{freeFrom, taken, group}
-use Rattle.theory_rows.specs.Laws.{length-bytes, isNil-nil, size-some, size-nil}
+use Rattle.theory_rows.specs.Laws.{isNil-nil, size-some, size-nil}
 use Rattle.theory_rows.specs.Fits.{Fits}
 use Rattle.theory_rows.specs.Pages.{or-left, free-found}
 use Rattle.theory_page_memory.specs.Memory.{WorkMem, OutMem, putMem, groupMem, groupM}
@@ -23,7 +23,7 @@ use Rattle.base_layout.specs.Setup.{setupOf}
 use Rattle.base_layout.specs.Growing.{pages-of}
 use Rattle.grow_pages.specs.Write.{usedBy, setPage, pageBytesOf, used-taken, free-same}
 use Rattle.grow_pages.specs.Links.{Below, Linked}
-use Rattle.grow_pages.specs.Relinked.{After, written, after-written}
+use Rattle.grow_pages.specs.Relinked.{written, after-written}
 use Rattle.grow_widths.specs.Tally.{numberOf, entry-some}
 use Rattle.grow_widths.specs.Tallying.{linked-most}
 use Rattle.grow_split_point.specs.Kids.{Node, node, sizeOf}
@@ -68,12 +68,12 @@ lone-size (rec p s r rest) e = absurd (false≢true e)
 
 module _ (l : List ℕ) (n : ℕ) (w : NewRecord l n) where
   pub part-length : length l ≡ size (w .row)
-  part-length = ap length (w .is) ∙ length-bytes (w .row)
+  part-length = row-long (w .row) (w .is)
 
   part-node : Node l 0 (w .row)
   part-node =
       node l 0 (w .row) (size-some (w .row) (or-left (isNil (w .row)) (loneRec (w .row)) (w .moves))) (omega (arith, w .small, part-length))
-      (record { post = []; is = w .is ∙ sym (append-nil (bytes (w .row))) })
+      (row-whole (w .is))
 
   part-size : twoAt l 4 ≡ sizeOf (w .row)
   part-size = part-node .size-is
@@ -150,6 +150,21 @@ own-step {g} {u} {img} env st setup settled holder row below small some s same k
           (ap (usedBy u) at-k ∙ free-found st (st .pages) (usedBy u) (g .near) (ap (λ (i : ℕ). eqb i 0) (sym at-k) ∙ f)) some t;
     })
 
+-- ── a row that stays ──
+
+pub stay-step : {g : Growing} {u img : List ℕ} → Env g u img → (row : Row) → Below (g .setup .pages) row → (s : WorkMem) → InStep g u img s
+    → (at end : ℕ) (l out o : List ℕ) → RowIs l row → o ≡ over at l out → end ≡ at + length l → Step g row s (row, s) at end false u img out u img o
+stay-step env row below s same at end l out o is e z = record {
+  used = same .used;
+  full = or-false (s .0 .full);
+  past = env .past;
+  after = record { long = refl; same = λ _. refl; pages = same .pages };
+  below = below;
+  written = e ∙ ap (λ (v : List ℕ). over at v out) is;
+  next = omega (arith, row-long row is);
+  tells = λ t _. keeps-row (λ _ _. refl) refl row t;
+}
+
 -- ── a group ──
 
 -- The image of a run that writes, and of a dry one.
@@ -181,29 +196,16 @@ module _ {g : Growing} {l u img : List ℕ} {room : ℕ} (env : Env g u img) (w 
   abbrev put : OutMem
   put = groupM (w .st) (g .near) (w .row) (w .state)
 
-  group-length : length l ≡ size (w .row)
-  group-length = ap length (w .is) ∙ length-bytes (w .row)
-
   module _ (h : true ≡ (isNil (w .row) || loneRec (w .row))) where
     pub kept-room : length l ≤ room
     unfolding group
     kept-room =
         let z : size (w .row) ≤ room = rw (sym h) at (w .within) in
-        omega (arith, group-length)
+        omega (arith, row-long (w .row) (w .is))
 
     pub group-kept : (at : ℕ) (out o : List ℕ) → o ≡ over at l out → Step g (w .row) (w .state) put at (at + length l) false u img out u img o
     unfolding group groupMem
-    group-kept at out o e =
-        rw (sym h) (record {
-          used = w .same .used;
-          full = or-false (w .state .0 .full);
-          past = env .past;
-          after = record { long = refl; same = λ _. refl; pages = w .same .pages };
-          below = w .below;
-          written = e ∙ ap (λ (v : List ℕ). over at v out) (w .is);
-          next = omega (arith, group-length);
-          tells = λ t _. keeps-row (λ _ _. refl) refl (w .row) t;
-        })
+    group-kept at out o e = rw (sym h) (stay-step env (w .row) (w .below) (w .state) (w .same) at _ l out o (w .is) e refl)
 
   module _ (h : false ≡ (isNil (w .row) || loneRec (w .row))) where
     pub fits-own : Fits (rec q false (w .row) nil)

@@ -1,4 +1,5 @@
--- A split keeps the table right: each new record's entry is how many nodes it shows, and the pages in use before keep theirs.
+-- A table that is right for a row, and a later one for what comes of the row: each new record's entry is how many nodes it shows, and the pages in use before
+-- keep theirs.
 use mathlib.Core.Path.{_≡_, refl, sym, ap, _∙_}
 use mathlib.Core.Bool.{Bool, true, false, not, true≢false}
 use mathlib.Core.List.{List}

@@ -1,18 +1,19 @@
 -- The new node as it is put in a row, in the bytes: the model's `place`.
 use mathlib.Core.Path.{_≡_, refl, ap, _∙_}
-use mathlib.Core.Bool.{Bool, true, false, cond, or-false}
+use mathlib.Core.Bool.{Bool, true, false, cond}
 use mathlib.Core.List.{List}
 use Prim.Native.Nat.{ℕ, _≤_}
 use native.Mathlib.Omega.{arith}
 use lib.Dec.{eqb}
 use lib.ListN.{length, set}
 use Rattle.model.specs.Limits.{capacity}
-use Rattle.model.specs.Row.{Head, Row, nil, agg, lit, rec, size, isNil, lone, bytes, recordSize, recordBytes, Config}
+use Rattle.model.specs.Row.{Head, Row, nil, agg, lit, rec, size, isNil, bytes, recordSize, recordBytes, Config}
 use Rattle.model.specs.Reading.{pageOf}
 use Rattle.model.specs.Tree.{New}
 use Rattle.model.specs.Growth.{Work, freeFrom, apart, asRow, place}
 use Rattle.base_numbers.specs.Over.{over}
 use Rattle.theory_rows.specs.Laws.{length-bytes, cond-case}
+use Rattle.theory_rows.specs.Keeps.{asRow-lone}
 use Rattle.theory_page_memory.specs.Memory.{placeMem}
 use Rattle.grow_pages.specs.Write.{usedBy, setPage, pageBytesOf}
 use Rattle.grow_pages.specs.Links.{Below, links}
@@ -22,9 +23,9 @@ use Rattle.base_layout.specs.declared.Growing.{Growing}
 use Rattle.base_layout.specs.Setup.{setupOf}
 use Rattle.base_layout.specs.Growing.{pages-of}
 use Rattle.grow_groups.specs.Used.{InUse, Env}
-use Rattle.grow_groups.specs.Tells.{Tabled, keeps-row}
+use Rattle.grow_groups.specs.Tells.{Tabled}
 use Rattle.grow_groups.specs.Step.{Step}
-use Rattle.grow_groups.specs.Group.{own-step}
+use Rattle.grow_groups.specs.Group.{own-step, stay-step}
 use Rattle.grow_new_node.specs.declared.Fresh.{Fresh}
 
 -- What the node's own record leaves: its page q marked, the record on it unless the run is dry, the proxy, and whether no page was free.
@@ -41,9 +42,6 @@ module _ (st : Config) (x : New) where
   -- The new node is one node, and holds no record.
   by-kind : (P : Row → Type 0) → P (agg (x .head) nil nil) → P (lit (x .head) (x .content) nil) → P node
   by-kind P a l = cond-case P (eqb (x .kind) 1) (λ _. a) (λ _. l)
-
-  pub node-lone : lone node ≡ true
-  node-lone = by-kind (λ r. lone r ≡ true) refl refl
 
   node-below : (n : ℕ) → Below n node
   node-below n = by-kind (Below n) (tt, tt) tt
@@ -74,7 +72,7 @@ module _ (st : Config) (x : New) (parent : Head) where
         → NodePlaced g w u₀ img₀ o₀ (record { size = 8; full = r }) u img o
     placed-apart r u img o k e own =
         let row = asRow st x nil in
-        let small : recordSize row ≤ capacity = rw (node-lone st x) (omega (arith, ap length is, length-bytes row)) in
+        let small : recordSize row ≤ capacity = rw (asRow-lone st x) (omega (arith, ap length is, length-bytes row)) in
         let q = freeFrom st (st .pages) (usedBy u₀) (g .near) in
         let new = setPage q (pageBytesOf (recordBytes row) 1 (g .near)) img₀ in
         rw (e, own .used, own .full) (own-step env st se true (g .near) row (node-below st x _) small (by-kind st x (λ r. isNil r ≡ false) refl refl)
@@ -84,13 +82,5 @@ module _ (st : Config) (x : New) (parent : Head) where
 
     pub placed-within : (o : List ℕ) → apart st parent (x .head) ≡ false → o ≡ over 0 node o₀
         → NodePlaced g w u₀ img₀ o₀ (record { size = length node; full = false }) u₀ img₀ o
-    placed-within o e po = rw e (record {
-      used = t;
-      full = or-false (w .full);
-      past = env .past;
-      after = record { long = refl; same = λ _. refl; pages = λ _. refl };
-      below = node-below st x _;
-      written = po ∙ ap (λ (l : List ℕ). over 0 l o₀) is;
-      next = omega (arith, ap length is, length-bytes (asRow st x nil));
-      tells = λ k _. keeps-row (λ _ _. refl) refl (asRow st x nil) k;
-    })
+    placed-within o e po =
+        rw e (stay-step env (asRow st x nil) (node-below st x _) (w, pageOf img₀) (record { used = t; pages = λ _. refl }) 0 _ node o₀ o is po (omega arith))

@@ -1,13 +1,13 @@
 -- Back links: each record whose proxy stands in a row names the row's page.
-use mathlib.Core.Path.{_≡_, refl, sym, ap, _∙_}
-use mathlib.Core.List.{List, [], append-nil}
+use mathlib.Core.Path.{_≡_, refl, ap, _∙_}
+use mathlib.Core.List.{List}
 use Prim.Native.Nat.{ℕ, _+_, _*_, _<_, _≤_}
 use native.Mathlib.Omega.{arith}
 use lib.ListN.{length}
 use Rattle.model.specs.Limits.{mostPages, pageSize, capacity}
-use Rattle.model.specs.Row.{Row, nil, agg, lit, rec, _⊹_, size, two, bytes, count}
+use Rattle.model.specs.Row.{Row, nil, agg, lit, rec, _⊹_, size, two, count}
 use Rattle.model.specs.Reading.{sizeAt, nameAt, kindAt}
-use Rattle.theory_row_bytes.specs.RowAt.{RowAt, FirstNode, first-node, row-into, RowIs}
+use Rattle.theory_row_bytes.specs.RowAt.{RowAt, FirstNode, first-node, row-into, RowIs, row-whole}
 use Rattle.theory_page_memory.specs.Links.{All, all-parted, self}
 use Rattle.theory_rows.specs.Laws.{Parted, length-bytes, size-⊹}
 use Rattle.base_numbers.specs.Over.{over}
@@ -127,7 +127,7 @@ module _ (l : List ℕ) (n : ℕ) (f : ℕ → List ℕ → List ℕ) (pos : ℕ
 pub walk-start : (l x : List ℕ) (n : ℕ) (f : ℕ → List ℕ → List ℕ) (w : Linked l n) → Walking l n f 0 x (each f (w .row) x)
 walk-start l x n f w = record {
   row = w .row;
-  stands = record { post = []; is = w .is ∙ sym (append-nil (bytes (w .row))) };
+  stands = row-whole (w .is);
   ends = omega (arith, ap length (w .is), length-bytes (w .row));
   small = w .small;
   below = w .below;

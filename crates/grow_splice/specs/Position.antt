@@ -6,7 +6,7 @@ use Prim.Native.Nat.{ℕ, _+_, _≤_, _<_}
 use native.Mathlib.Omega.{arith}
 use mathlib.Core.Logic.{_⊎_, inl, inr, ⊎-elim}
 use lib.ListN.{length, length-append}
-use Rattle.model.specs.Row.{Row, nil, agg, lit, rec, _⊹_, size, nodeCount, lone, header, bytes, Head}
+use Rattle.model.specs.Row.{Row, nil, agg, lit, rec, _⊹_, size, header, bytes, Head}
 use Rattle.theory_rows.specs.Laws.{length-bytes, size-⊹, bytes-⊹}
 use Rattle.model.specs.Spot.{Position, here, inside, fill}
 
@@ -37,21 +37,6 @@ before (inside left h rest s) m = bytes left ++ (header 1 h (6 + (around s + m))
 abbrev pub beyond : Position → List ℕ
 beyond (here left) = []
 beyond (inside left h rest s) = beyond s ++ bytes rest
-
--- ── rows ──
-
--- Two nodes or more are the children of a helper.
-pub lone-many : (r : Row) → 2 ≤ nodeCount r → lone r ≡ false
-lone-many nil h = refl
-lone-many (agg l cs nil) h = absurd (omega arith)
-lone-many (agg l cs (agg k ds rest)) h = refl
-lone-many (agg l cs (lit k c rest)) h = refl
-lone-many (agg l cs (rec p s r rest)) h = refl
-lone-many (lit l x nil) h = absurd (omega arith)
-lone-many (lit l x (agg k ds rest)) h = refl
-lone-many (lit l x (lit k c rest)) h = refl
-lone-many (lit l x (rec p s r rest)) h = refl
-lone-many (rec p s r rest) h = refl
 
 -- ── fillings ──
 

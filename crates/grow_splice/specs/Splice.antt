@@ -9,10 +9,10 @@ use lib.Seq.{take-at, drop-at, length-take-le, take-all}
 use Rattle.theory_row_bytes.specs.RowAt.{RecordIs, RowIs}
 use Rattle.model.specs.Row.{Head, Row, nil, agg, lit, rec, _⊹_, size, nodeCount, lone, base, header, bytes, recordSize, recordBytes, count, noHead}
 use Rattle.base_numbers.specs.Over.{over, over-then, over-front, over-again, take-over}
-use Rattle.theory_rows.specs.Laws.{length-bytes, size-⊹, bytes-⊹}
+use Rattle.theory_rows.specs.Laws.{two-nodes, length-bytes, size-⊹, bytes-⊹}
 use Rattle.theory_rows.specs.Bound.{isNil-⊹}
 use Rattle.model.specs.Spot.{Position, here, inside, fill}
-use Rattle.grow_splice.specs.Position.{at, parent, isInside, around, before, beyond, lone-many, size-around, bytes-fill, length-before}
+use Rattle.grow_splice.specs.Position.{at, parent, isInside, around, before, beyond, size-around, bytes-fill, length-before}
 use Rattle.grow_splice.specs.Resize.{Cut, resized}
 
 -- ── the root ──
@@ -25,7 +25,7 @@ pub inside-keeps : (left : Row) (h : Head) (rest : Row) (s : Position) (a b : Ro
 inside-keeps left h rest s a b e = absurd (true≢false e)
 
 pub many-keeps : (s : Position) (a b : Row) → 2 ≤ nodeCount (fill s a) → 2 ≤ nodeCount (fill s b) → KeepsRoot s a b
-many-keeps s a b h k e = (lone-many (fill s a) h, lone-many (fill s b) k)
+many-keeps s a b h k e = (two-nodes (fill s a) h, two-nodes (fill s b) k)
 
 -- A record's bytes with either filling are a header and a row, with a place in that row: the root's children, or a helper's.
 pub record Whole (s : Position) (a b : Row) : Type 0 where

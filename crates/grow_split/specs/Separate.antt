@@ -5,7 +5,7 @@ use mathlib.Core.List.{List}
 use Prim.Native.Nat.{ℕ, _+_, _-_, _≤_}
 use native.Mathlib.Omega.{arith}
 use lib.ListN.{length, take, drop}
-use Rattle.model.specs.Row.{Row, nil, agg, lit, rec, _⊹_, size, two, header, Config}
+use Rattle.model.specs.Row.{Row, nil, agg, _⊹_, size, two, header, Config}
 use Rattle.model.specs.Reading.{sizeAt}
 use Rattle.model.specs.Growth.{Cut, atD, through, startOf, separate, cutFrom, group}
 use Rattle.theory_rows.specs.Bound.{fits-parts}
@@ -175,7 +175,7 @@ module _ {g : Growing} {ch : Children} {l u img : List ℕ} {room at x : ℕ} {r
     -- Its header is written; k is its size.
     module _ {k : ℕ} (is : k ≡ sizeAt l x) {o₂ : List ℕ} (head : o₂ ≡ over (r .end) (take (x + 6 - x) (drop x l)) o₁) where
       pub header-is : o₂ ≡ over (r .end) (header 1 (headOf F) k) o₁
-      header-is = head ∙ ap (λ (y : List ℕ). over (r .end) y o₁) (head-bytes (at-x w (v .is)) (w .st) e k is (x + 6) refl)
+      header-is = head ∙ ap (λ (y : List ℕ). over (r .end) y o₁) (head-bytes (at-x w (v .is)) (w .st) e k is)
 
       -- The level inside it.
       abbrev pub inner-sep : Sep g (record { pos = x + 6; end = x + k; p = ch .p }) l u₁ i₁ (length o₂ - (r .end + 6))

@@ -6,6 +6,7 @@ use base_numbers::put16;
 use grow_groups::put_group;
 use grow_split_point::child;
 use grow_split_point::enters;
+use grow_split_point::first_node;
 use model::Settings;
 ghost use mathlib.Core.Path.{_≡_};
 ghost use Prim.Native.Nat.{_-_, _≤_, _<_};
@@ -16,7 +17,7 @@ ghost use Rattle.grow_groups.specs.Used.{Env};
 ghost use Rattle.grow_split.specs.Separate.{Sep, Separated};
 ghost use Rattle.grow_split.specs.Severed.{Large, Severed};
 
-// The children of a separator node, from pos to end of the record, and the split point.
+// The children of a separator node, or a record's row, from pos to end of the record, and the split point.
 pub struct Children {
     pub pos: usize,
     pub end: usize,
@@ -30,7 +31,7 @@ pub struct Split {
     pub d: usize,
 }
 
-// Writes the separator's row for a row of children of buf to out at `at`, and the groups' records to free pages.
+// Writes the separator's row for a row of buf to out at `at`, and the groups' records to free pages.
 pub fn separate(
     buf: &[u8],
     row: Children,
@@ -90,15 +91,9 @@ pub fn separator(
         × (r .d ≡ startOfD (w .st) (w .row))) ⌝ }
 {
     let row = Children {
-        pos: 6,
+        pos: first_node(buf),
         end: buf.len(),
         p: p,
     };
-    if buf[0] == 1 {
-        copy_in(&buf[..6], out, 0);
-        let r = separate(buf, row, image, widths, g, out, 6);
-        put16(out, 4, r.end);
-        return r;
-    }
     separate(buf, row, image, widths, g, out, 0)
 }

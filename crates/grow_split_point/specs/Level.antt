@@ -1,39 +1,20 @@
--- A level of a split as it stands in the bytes: a record's first level, the parts of a level, and the level inside the chosen child.
+-- A level of a split as it stands in the bytes: its parts, and the level inside the chosen child.
 use mathlib.Core.Path.{_≡_, refl, ap, subst, _∙_}
-use mathlib.Core.Bool.{true, cond}
-use mathlib.Core.List.{List, _++_}
+use mathlib.Core.Bool.{true}
+use mathlib.Core.List.{List}
 use Prim.Native.Nat.{ℕ, _+_, _-_, _<_, _≤_}
 use native.Mathlib.Omega.{arith}
 use lib.ListN.{length, take, drop}
-use Rattle.model.specs.Limits.{capacity}
-use Rattle.model.specs.Row.{Row, nil, agg, size, lone, recordSize, header, bytes, recordBytes, Config}
+use Rattle.model.specs.Row.{Row, size, header, bytes, Config}
 use Rattle.model.specs.Reading.{sizeAt}
-use Rattle.model.specs.Growth.{rootRow}
 use Rattle.theory_rows.specs.Laws.{size-⊹, size-some}
-use Rattle.theory_rows.specs.Fits.{Fits}
-use Rattle.theory_rows.specs.Cut.{goesInto, into-agg, into-some, by-root}
-use Rattle.theory_row_bytes.specs.RowAt.{RowAt, row-bytes, row-split, record-row}
-use Rattle.grow_split_point.specs.Kids.{Kids, node, first, first-fits, n-is, within, kindOf, sizeOf, headOf, kidsOf, restOf}
+use Rattle.theory_rows.specs.Cut.{goesInto, into-agg, into-some}
+use Rattle.theory_row_bytes.specs.RowAt.{RowAt, row-part, row-split}
+use Rattle.grow_split_point.specs.Kids.{Kids, first, first-fits, n-is, within, kindOf, sizeOf, headOf, kidsOf, restOf}
 use Rattle.grow_split_point.specs.Chosen.{Chosen}
 
 pub kids-bytes : {l : List ℕ} {pos end : ℕ} (w : Kids l pos end) → take (end - pos) (drop pos l) ≡ bytes (w .row)
-kids-bytes {l} {pos} {end} w =
-    let z : end - pos ≡ size (w .row) = omega (arith, w .ends) in
-    rw z (row-bytes l pos (w .row) (w .stands))
-
--- ── a record's first level ──
-
--- The children of the root of a record that starts the bytes and is too large: they start at 6 and end with the record.
-pub root-kids : (st : Config) (l post : List ℕ) (r : Row) → l ≡ recordBytes r ++ post → Fits r → capacity < recordSize r → recordSize r < 65536
-    → (w : Kids l 6 (recordSize r)) × (w .row ≡ rootRow st (lone r) r)
-root-kids st l post r e f over small =
-    by-root (λ b r. RowAt l (0 + cond b 0 6) r → capacity < cond b 0 6 + size r → cond b 0 6 + size r < 65536
-    → (w : Kids l 6 (cond b 0 6 + size r)) × (w .row ≡ rootRow st b r))
-    (λ r s h k. (record { row = r; stands = s; some = omega arith; ends = refl; small = k }, refl))
-    (λ hd cs s h k.
-    let n = node l 0 (agg hd cs nil) (omega arith) (omega arith) s in
-    (record { row = cs; stands = n .kids; some = omega arith; ends = omega arith; small = k }, refl)) r f over
-    (record-row {pos = 0} {row = r} (record { post = post; is = e })) over small
+kids-bytes w = row-part (w .stands) (w .ends)
 
 -- ── the parts of a level ──
 
@@ -53,9 +34,7 @@ module _ {l : List ℕ} {pos end : ℕ} (w : Kids l pos end) {st : Config} {p x 
 
   -- The group before it.
   pub left-bytes : take (x - pos) (drop pos l) ≡ bytes (c .left)
-  left-bytes =
-      let z : x - pos ≡ size (c .left) = omega (arith, c .way .here) in
-      rw z (row-bytes l pos (c .left) (level-parts .0))
+  left-bytes = row-part (level-parts .0) (c .way .here)
 
   pub chosen-fits : (pos ≤ x) × ((x + 6 ≤ end) × (end ≤ length l))
   chosen-fits = omega (arith, c .way .here, first-fits chosen refl)
@@ -74,13 +53,11 @@ module _ {l : List ℕ} {x end : ℕ} (w : Kids l x end) (st : Config) (into : g
   inner = within w is (ap kindOf (into-agg st (w .row) into)) (omega (arith, inner-fits))
 
   -- Its header.
-  pub head-bytes : (y : ℕ) → y ≡ x + 6 → take (y - x) (drop x l) ≡ header 1 (headOf (w .row)) n
-  head-bytes y e =
-      let z : y - x ≡ 6 = omega arith in
+  pub head-bytes : take (x + 6 - x) (drop x l) ≡ header 1 (headOf (w .row)) n
+  head-bytes =
+      let z : x + 6 - x ≡ 6 = omega arith in
       rw (z, n-is w is) (first w .header-is ∙ ap (λ (r : Row). header (kindOf r) (headOf (w .row)) (sizeOf (w .row))) (into-agg st (w .row) into))
 
   -- The group after it.
   pub after-bytes : take (end - (x + n)) (drop (x + n) l) ≡ bytes (restOf (w .row))
-  after-bytes =
-      let z : end - (x + n) ≡ size (restOf (w .row)) = omega (arith, n-is w is, first w .total, w .ends) in
-      rw (z, n-is w is) (row-bytes l (x + sizeOf (w .row)) (restOf (w .row)) (first w .rest))
+  after-bytes = rw (n-is w is) (row-part (first w .rest) (omega (arith, first w .total, w .ends)))

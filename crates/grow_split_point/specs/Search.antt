@@ -1,7 +1,7 @@
 -- What the code reads of a row, and what that says of the split.
 use mathlib.Core.Path.{_≡_, refl, sym, ap}
 use mathlib.Core.Bool.{Bool, true, false, not, _&&_, _||_}
-use mathlib.Core.List.{List, [], append-nil}
+use mathlib.Core.List.{List}
 use Prim.Native.Nat.{ℕ, _+_, _<_, _≤_}
 use native.Mathlib.Omega.{arith}
 use borrow.Author.Tests.{lt-ltb, le-ltb, lt-leb, le-leb, ltb-true, ltb-false}
@@ -13,6 +13,7 @@ use Rattle.model.specs.Growth.{goOn}
 use Rattle.theory_rows.specs.Laws.{length-bytes, isNil-nil, not-nil, size-some, size-nil}
 use Rattle.theory_rows.specs.First.{oneOf}
 use Rattle.theory_rows.specs.Cut.{goesInto, Choosing, choose-on}
+use Rattle.theory_row_bytes.specs.RowAt.{row-whole}
 use Rattle.grow_split_point.specs.Kids.{Kids, first, n-is, behind, kindOf, sizeOf, restOf}
 
 -- ── the chosen child ──
@@ -79,4 +80,4 @@ stays-kind (rec p s r rest) z = sym (size-nil rest (omega arith))
 abbrev pub eight : (g : Row) {l : List ℕ} → l ≡ bytes g → length l ≡ 8 → Kids l 0 8
 eight g e z =
     let n : size g ≡ 8 = omega (arith, length-bytes g, ap length e) in
-    record { row = g; stands = record { post = []; is = rw append-nil e }; some = omega arith; ends = omega arith; small = omega arith }
+    record { row = g; stands = row-whole e; some = omega arith; ends = omega arith; small = omega arith }

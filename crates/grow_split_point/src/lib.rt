@@ -1,4 +1,4 @@
-// Where a record splits: the split point, the child of a level that is chosen, whether the split goes on inside it.
+// Where a record splits: the split point, where its row starts, the child of a level that is chosen, whether the split goes on inside it.
 use base_layout::size_at;
 use base_node_kinds::may_stand;
 use base_numbers::wide;
@@ -7,11 +7,12 @@ ghost use mathlib.Core.Bool.{_||_};
 ghost use Prim.Native.Nat.{ℕ, _+_, _≤_, _<_};
 ghost use lib.ListN.{length};
 ghost use lib.IntN.{subℕ};
-ghost use Rattle.model.specs.Row.{Row, bytes, isNil, loneRec, Config};
+ghost use Rattle.model.specs.Row.{Row, bytes, isNil, loneRec, base, Config};
 ghost use Rattle.model.specs.Reading.{kindAt};
 ghost use Rattle.model.specs.Growth.{splitPoint};
 ghost use Rattle.model.specs.Claims.{InLean};
 ghost use Rattle.theory_rows.specs.Cut.{goesInto};
+ghost use Rattle.theory_row_bytes.specs.RowAt.{RecordIs};
 ghost use Rattle.grow_split_point.specs.Kids.{Kids};
 ghost use Rattle.grow_split_point.specs.Chosen.{Chosen};
 
@@ -30,6 +31,17 @@ pub fn split_point(target: usize, size: usize) -> usize
         return down + down % 2;
     }
     down + 1
+}
+
+// Where a record's row starts: a helper's header is not part of it.
+pub fn first_node(content: &[u8]) -> usize
+    requires { ⌜ 1 ≤ length (now content) ⌝ }
+    ensures { λ r. ⌜ ((row : Row) → RecordIs (now (content .entry)) row → r ≡ base row) ⌝ }
+{
+    if content[0] == 4 {
+        return 6;
+    }
+    0
 }
 
 // The last child that starts at or before p, or the first, in the row from start to end.

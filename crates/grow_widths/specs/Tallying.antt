@@ -1,13 +1,13 @@
 -- The walk over the top nodes of a row that counts what they show by a table.
-use mathlib.Core.Path.{_≡_, refl, sym, ap, _∙_}
-use mathlib.Core.List.{List, [], append-nil}
+use mathlib.Core.Path.{_≡_, refl, ap}
+use mathlib.Core.List.{List}
 use Prim.Native.Nat.{ℕ, _+_, _<_, _≤_}
 use native.Mathlib.Omega.{arith}
 use lib.ListN.{length, getD}
 use Rattle.model.specs.Limits.{mostPages}
-use Rattle.model.specs.Row.{Row, nil, agg, lit, rec, size, bytes}
+use Rattle.model.specs.Row.{Row, nil, agg, lit, rec, size}
 use Rattle.model.specs.Reading.{sizeAt, nameAt, kindAt}
-use Rattle.theory_row_bytes.specs.RowAt.{RowAt, FirstNode, first-node}
+use Rattle.theory_row_bytes.specs.RowAt.{RowAt, FirstNode, first-node, row-whole}
 use Rattle.theory_rows.specs.Laws.{length-bytes}
 use Rattle.grow_pages.specs.Links.{Below, Linked}
 use Rattle.grow_widths.specs.Tally.{tallied}
@@ -69,7 +69,7 @@ module _ (l u : List ℕ) (pos n total : ℕ) where
 pub tally-start : (l u : List ℕ) (w : Linked l mostPages) → Tallying l u 0 0 (tallied u (w .row))
 tally-start l u w = record {
   row = w .row;
-  stands = record { post = []; is = w .is ∙ sym (append-nil (bytes (w .row))) };
+  stands = row-whole (w .is);
   ends = omega (arith, ap length (w .is), length-bytes (w .row));
   small = w .small;
   below = w .below;

@@ -1,16 +1,14 @@
 -- The content of a record: what the code that writes it to its page needs.
-use mathlib.Core.Path.{_≡_, refl, sym, ap, _∙_}
-use mathlib.Core.Bool.{Bool, true, false, cond, false≢true}
-use mathlib.Core.List.{List, _++_}
-use Prim.Native.Nat.{ℕ, _+_, _-_, _≤_}
+use mathlib.Core.Path.{_≡_, ap, _∙_}
+use mathlib.Core.Bool.{Bool, false, cond}
+use mathlib.Core.List.{List}
+use Prim.Native.Nat.{ℕ, _-_, _≤_}
 use native.Mathlib.Omega.{arith}
-use lib.ListN.{length, take, drop, getD}
-use lib.Seq.{take-all}
-use Rattle.theory_row_bytes.specs.RowAt.{RecordIs}
+use lib.ListN.{length, take, drop}
+use Rattle.theory_row_bytes.specs.RowAt.{RecordIs, record-long, row-starts, row-part}
 use Rattle.model.specs.Limits.{capacity}
-use Rattle.model.specs.Row.{Row, nil, agg, lit, rec, size, isNil, lone, base, recordSize, header, bytes, recordBytes, noHead}
-use Rattle.theory_rows.specs.Laws.{length-bytes, size-some}
-use Rattle.theory_rows.specs.Image.{length-record}
+use Rattle.model.specs.Row.{Row, isNil, base, recordSize, bytes}
+use Rattle.theory_rows.specs.Laws.{size-some}
 use Rattle.grow_pages.specs.Write.{setPage, pageBytesOf}
 use Rattle.grow_pages.specs.Links.{Below, Linked, links}
 use Rattle.grow_pages.specs.Relinked.{written}
@@ -23,47 +21,15 @@ pub record Content (l : List ℕ) (n : ℕ) : Type 0 where
   pub small : recordSize row ≤ capacity
   pub some : isNil row ≡ false
 
--- ── where its row starts ──
-
--- A helper's first byte is 4, a node's is not.
-pub helper-start : (l : List ℕ) (r : Row) → l ≡ recordBytes r → getD l 0 0 ≡ 4 → 6 ≡ base r
-helper-start l r is e = rw (go r (lone r) refl (ap (λ (z : List ℕ). getD z 0 0) (sym is) ∙ e)) refl
-  where
-    go : (r : Row) (b : Bool) → lone r ≡ b → getD (cond b (bytes r) (header 4 noHead (6 + size r) ++ bytes r)) 0 0 ≡ 4 → b ≡ false
-    go r false k e = refl
-    go nil true k e = absurd (false≢true k)
-    go (agg h cs rest) true k e = absurd (omega arith)
-    go (lit h c rest) true k e = absurd (omega arith)
-    go (rec p s r rest) true k e = absurd (false≢true k)
-
-pub node-start : (l : List ℕ) (r : Row) → l ≡ recordBytes r → (getD l 0 0 ≡ 4 → ⊥) → 0 ≡ base r
-node-start l r is e = rw (go (lone r) (λ k. e (ap (λ (z : List ℕ). getD z 0 0) is ∙ k))) refl
-  where
-    go : (b : Bool) → (getD (cond b (bytes r) (header 4 noHead (6 + size r) ++ bytes r)) 0 0 ≡ 4 → ⊥) → b ≡ true
-    go true e = refl
-    go false e = absurd (e refl)
-
-drop-base : (r : Row) → drop (base r) (recordBytes r) ≡ bytes r
-drop-base r = go (lone r)
-  where
-    go : (b : Bool) → drop (cond b 0 6) (cond b (bytes r) (header 4 noHead (6 + size r) ++ bytes r)) ≡ bytes r
-    go true = refl
-    go false = refl
-
 module _ {l : List ℕ} {n : ℕ} (w : Content l n) where
-  content-length : length l ≡ recordSize (w .row)
-  content-length = ap length (w .is) ∙ length-record (w .row)
-
   pub content-fits : (1 ≤ length l) × (length l ≤ capacity)
-  content-fits = omega (arith, content-length, w .small, size-some (w .row) (w .some))
+  content-fits = omega (arith, record-long (w .row) (w .is), w .small, size-some (w .row) (w .some))
 
   pub start-inside : {from : ℕ} → from ≡ base (w .row) → from ≤ length l
-  start-inside e = omega (arith, content-length)
+  start-inside e = omega (arith, record-long (w .row) (w .is))
 
   pub content-row : {from : ℕ} → from ≡ base (w .row) → take (length l - from) (drop from l) ≡ bytes (w .row)
-  content-row {from} e =
-      let z : drop from l ≡ bytes (w .row) = (λ i. drop (e i) (w .is i)) ∙ drop-base (w .row) in
-      take-all (length l - from) (drop from l) (omega (arith, ap length z, length-bytes (w .row), content-length)) ∙ z
+  content-row e = rw e (row-part {a = w .row} (row-starts (w .is)) (record-long (w .row) (w .is)))
 
   -- Its row, without a helper's header.
   abbrev pub content-linked : {from : ℕ} → from ≡ base (w .row) → Linked (take (length l - from) (drop from l)) n

@@ -6,31 +6,21 @@ use Prim.Native.Nat.{ℕ, _+_, _*_, _<_, _≤_}
 use native.Mathlib.Omega.{arith}
 use lib.Dec.{eqb}
 use lib.IntN.{ℤ, subℕ}
-use lib.ListN.{length, getD, set, length-set, length-replicate}
-use lib.Seq.{getD-set-other}
-use Rattle.theory_row_bytes.specs.RowAt.{RecordIs}
-use Rattle.model.specs.Limits.{mostPages, pageSize, capacity}
-use Rattle.model.specs.Row.{Row, size, recordSize, count, Config}
-use Rattle.model.specs.Growth.{Work, counted, freed, splitPoint, startOfD, separator}
+use lib.ListN.{length, set, length-set, length-replicate}
+use Rattle.model.specs.Limits.{mostPages, pageSize}
+use Rattle.model.specs.Row.{Row, recordSize, Config}
+use Rattle.model.specs.Growth.{Work, counted, freed, splitPoint, startOfD, leanOf}
 use Rattle.model.specs.Claims.{InLean}
 use Rattle.grow_split_point.specs.Lean.{lean-bounds}
 use Rattle.theory_rows.specs.Laws.{cond-case}
-use Rattle.theory_rows.specs.Fits.{Fits}
-use Rattle.theory_rows.specs.Image.{length-record}
+use Rattle.theory_row_bytes.specs.RowAt.{record-long}
 use Rattle.theory_page_memory.specs.Memory.{blank}
-use Rattle.grow_pages.specs.Write.{usedBy, setPage, used-set}
-use Rattle.grow_pages.specs.Links.{Below}
+use Rattle.grow_pages.specs.Write.{setPage, used-set}
 use Rattle.grow_pages.specs.Paged.{length-setPage}
 use Rattle.base_layout.specs.declared.Growing.{Growing}
-use Rattle.base_layout.specs.Setup.{setupOf}
-use Rattle.base_layout.specs.Growing.{bufferSize, separatorSize}
+use Rattle.base_layout.specs.Growing.{bufferSize}
 use Rattle.grow_groups.specs.Used.{InUse, Past, Env, env-with, set-past}
-use Rattle.grow_groups.specs.Tells.{Tabled, Keeps, same-mark, tabled-set}
 use Rattle.grow_split.specs.Severed.{Oversize, Large, Severed}
-
--- The lean of a record's split.
-abbrev pub leanOf : Config → Row → ℤ
-leanOf st r = subℕ (startOfD st r) (splitPoint st (recordSize r))
 
 -- What growth carries along when the record on page q is split: one split more, and page q free unless the record stays there.
 abbrev pub leaves : (st : Config) → (stays : Bool) → (q : ℕ) → Row → Work → Work
@@ -96,11 +86,8 @@ module _ {g : Growing} {settled : ℕ} {l u img : List ℕ} (w : Off g settled l
   abbrev W : Work
   W = leaves (w .st) (w .stays) (g .near) (w .row) (w .work)
 
-  off-length : length l ≡ recordSize (w .row)
-  off-length = ap length (w .over .is) ∙ length-record (w .row)
-
   pub off-sizes : (g .setup .target ≤ 192) × (length l ≤ bufferSize)
-  off-sizes = (w .range, omega (arith, off-length))
+  off-sizes = (w .range, omega (arith, record-long (w .row) (w .over .is)))
 
   off-page : (g .near < mostPages) × (pageSize * g .near + pageSize ≤ length img)
   off-page = omega arith
@@ -117,7 +104,7 @@ module _ {g : Growing} {settled : ℕ} {l u img : List ℕ} (w : Off g settled l
 
     module _ {p : ℕ} (pe : p ≡ splitPoint (w .st) (length l)) where
       pub point-is : p ≡ splitPoint (w .st) (recordSize (w .row))
-      point-is = pe ∙ ap (splitPoint (w .st)) off-length
+      point-is = pe ∙ ap (splitPoint (w .st)) (record-long (w .row) (w .over .is))
 
       abbrev pub off-large : Large g p l u′
       off-large = record { st = w .st; row = w .row; work = W; over = w .over; point = point-is; marked = marks }

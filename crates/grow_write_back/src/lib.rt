@@ -4,6 +4,7 @@ use grow_pages::clear_page;
 use grow_pages::put_record;
 use grow_pages::relink;
 use grow_split::separator;
+use grow_split_point::first_node;
 use grow_split_point::lean;
 use grow_split_point::split_point;
 use model::Settings;
@@ -12,29 +13,18 @@ ghost use mathlib.Core.Bool.{Bool, cond};
 ghost use Prim.Native.Nat.{_+_, _*_, _≤_, _<_};
 ghost use lib.ListN.{length};
 ghost use Rattle.model.specs.Limits.{mostPages, pageSize};
-ghost use Rattle.model.specs.Row.{Row, base, recordBytes};
+ghost use Rattle.model.specs.Growth.{leanOf};
 ghost use Rattle.base_layout.specs.Growing.{separatorSize};
 ghost use Rattle.grow_pages.specs.Relinked.{written};
 ghost use Rattle.grow_groups.specs.Used.{Env};
 ghost use Rattle.grow_write_back.specs.Content.{Content};
-ghost use Rattle.grow_write_back.specs.Off.{leanOf, leftImage, leftTable, Off, SplitOff};
+ghost use Rattle.grow_write_back.specs.Off.{leftImage, leftTable, Off, SplitOff};
 
 // Where the separator's row ends in out, whether a page was taken where none was free, and the lean.
 pub struct Divided {
     pub end: usize,
     pub full: bool,
     pub lean: i32,
-}
-
-// Where a record's row starts: a helper's header is not part of it.
-fn first_node(content: &[u8]) -> usize
-    requires { ⌜ 1 ≤ length (now content) ⌝ }
-    ensures { λ r. ⌜ ((row : Row) → now (content .entry) ≡ recordBytes row → r ≡ base row) ⌝ }
-{
-    if content[0] == 4 {
-        return 6;
-    }
-    0
 }
 
 // Writes a record's new content to its page, and the back links of the records that it holds.

@@ -7,13 +7,13 @@ use mathlib.Core.Option.{none, some}
 use Prim.Native.Nat.{ℕ, suc, _+_, _-_, _*_, _%_, _≤_, _<_, max}
 use lib.ListN.{length, take, drop}
 use lib.Dec.{ltb, eqb}
-use lib.IntN.{ℤ, pos, negsuc, subℕ}
+use lib.IntN.{ℤ, pos, negsuc}
 use Rattle.model.specs.Limits.{capacity}
-use Rattle.model.specs.Row.{Row, store, size, base, lone, loneRec, Held, records, recordSize, Config, every, isByte, inRange, fits, height, count, valid}
+use Rattle.model.specs.Row.{Row, nil, agg, lit, rec, store, size, base, lone, loneRec, Held, records, recordSize, Config, every, isByte, inRange, fits, height, count, valid}
 use Rattle.model.specs.Tree.{Tree, shown, Node, nodes, named, New, insertAt, removeAt, placeOf}
 use Rattle.model.specs.Spot.{fill, lastPage, lastHolder, Stand, standOf, Spot, spotAfter, spotBefore, unused, spotOf}
 use Rattle.model.specs.Removal.{removed}
-use Rattle.model.specs.Growth.{Work, splitPoint, startOfD, rootRow, separator, risen, atRest}
+use Rattle.model.specs.Growth.{Work, splitPoint, leanOf, separator, risen, atRest}
 use Rattle.model.specs.Reading.{Reads, lengthOk, reading, pageOf}
 use Rattle.model.specs.BeforeWalk.{allZero, settingsOk, trailerOf, isFree, trailerFits, pageCount, beforeWalk}
 use Rattle.model.specs.Answers.{notPassed, wrongLength, noFreePage}
@@ -110,13 +110,21 @@ InLean (negsuc n) = n < 525
 pub record SplitHolds (st : Config) (near : ℕ) (r : Row) (w : Work) : Type 0 where
   pub separated : base r + size (separator st near r w .0) ≤ 506
   pub records : largest (records near (separator st near r w .0)) ≤ capacity
-  pub lean : InLean (subℕ (startOfD st r) (splitPoint st (recordSize r)))
+  pub lean : InLean (leanOf st r)
+
+-- The children of a record's root, which is an aggregate (a lone node) or a helper.
+abbrev pub rootRow : (lone : Bool) → Row → Row
+rootRow false r = r
+rootRow true nil = nil
+rootRow true (agg h cs rest) = cs
+rootRow true (lit h c rest) = nil
+rootRow true (rec p s r rest) = nil
 
 -- For every target and tolerance together: of each record that growth can make too large, since an insert adds at most 526 bytes and
 -- a tree has at most 24 levels. So one split of a record suffices.
 abbrev pub Split : Type 0
 Split = (st : Config) (near : ℕ) (r : Row) (w : Work) → inRange st ≡ true → fits r ≡ true → capacity < recordSize r → recordSize r ≤ capacity + 526
-    → height (rootRow st (lone r) r) ≤ 23 → SplitHolds st near r w
+    → height (rootRow (lone r) r) ≤ 23 → SplitHolds st near r w
 
 -- What a node is, wherever it stands.
 abbrev pub look : Node → New

@@ -7,7 +7,7 @@ use lib.ListN.{length, getD}
 use lib.Dec.{leb, ltb, eqb}
 use lib.IntN.{ℤ, pos, subℕ}
 use Rattle.model.specs.Limits.{capacity}
-use Rattle.model.specs.Row.{Head, Row, nil, agg, lit, rec, _⊹_, size, isNil, lone, loneRec, base, recordSize, count, outside, Config}
+use Rattle.model.specs.Row.{Head, Row, nil, agg, lit, rec, _⊹_, size, isNil, loneRec, base, recordSize, count, outside, Config}
 use Rattle.model.specs.Tree.{New}
 use Rattle.model.specs.Spot.{fill, Chain, top, below, lastPage, Spot, spotOf}
 
@@ -34,13 +34,13 @@ mark b q used = λ x. cond (eqb x q) b (used x)
 
 -- ── a cut and its separator (step 4) ──
 
--- The children of a separator node, cut along the path down to d. `through`: those left of the path, the next node on the path with the cut of its own
--- children, and those right of it. `atD`: those left of the path, and d with those right of it.
+-- A row, the children of a separator node or a record's own, cut along the path down to d. `through`: the nodes left of the path, the next node on the path
+-- with the cut of its own children, and those right of it. `atD`: those left of the path, and d with those right of it.
 pub data Cut : Type 0 where
   atD : (left right : Row) → Cut
   through : (left : Row) → (node : Head) → (inner : Cut) → (right : Row) → Cut
 
--- Where d starts, if the children start at `at`.
+-- Where d starts, if the row starts at `at`.
 abbrev pub startOf : (at : ℕ) → Cut → ℕ
 startOf at (atD left right) = at + size left
 startOf at (through left h inner right) = startOf (at + size left + 6) inner
@@ -112,16 +112,10 @@ module _ (st : Config) where
       let on = cutFrom p (at + 8) (left ⊹ rec q s r nil) rest in
       cond (goOn p at 8 rest) on (atD left (rec q s r rest))
 
-  -- The cut of a record's row: its root is an aggregate, which stands alone, or a helper with the row as its children. Either's children start at byte 6.
-  abbrev pub cutRoot : (p : ℕ) → (lone : Bool) → Row → Cut
-  cutRoot p false r = cutFrom p 6 nil r
-  cutRoot p true nil = atD nil nil
-  cutRoot p true (agg h cs rest) = through nil h (cutFrom p 6 nil cs) rest
-  cutRoot p true (lit h c rest) = atD nil (lit h c rest)
-  cutRoot p true (rec q s r rest) = atD nil (rec q s r rest)
-
+  -- The cut of a record's row that is too large. A helper's children are the row, and start at byte 6. An aggregate as root is the row's one node, and no
+  -- tolerance is as large as it, so the path begins with it.
   abbrev pub cutOf : Row → Cut
-  cutOf r = cutRoot (splitPoint (recordSize r)) (lone r) r
+  cutOf r = cutFrom (splitPoint (recordSize r)) (base r) nil r
 
   abbrev pub startOfD : Row → ℕ
   startOfD r = startOf (base r) (cutOf r)
@@ -132,24 +126,20 @@ module _ (st : Config) where
       let own = ownRecord near false g nil w in
       cond (isNil g || loneRec g) (g, w) own
 
-  -- The children of a record's root, which is an aggregate (a lone node) or a helper.
-  abbrev pub rootRow : (lone : Bool) → Row → Row
-  rootRow false r = r
-  rootRow true nil = nil
-  rootRow true (agg h cs rest) = cs
-  rootRow true (lit h c rest) = nil
-  rootRow true (rec p s r rest) = nil
-
   -- The separator of a record that is too large, with the proxies of its groups; a helper root is dropped.
   unfoldable pub separator : (near : ℕ) → Row → Work → Out
   separator near r w = separate (group near) (cutOf r) w
 
-  -- One split more; the lean is the start of d minus p of the first.
+  -- The lean of a split: the start of d minus p.
+  abbrev pub leanOf : Row → ℤ
+  leanOf r = subℕ (startOfD r) (splitPoint (recordSize r))
+
+  -- One split more; the lean is that of the first.
   abbrev pub counted : Row → Work → Work
   counted r w = record {
     used = w .used;
     splits = suc (w .splits);
-    lean = cond (eqb (w .splits) 0) (subℕ (startOfD r) (splitPoint (recordSize r))) (w .lean);
+    lean = cond (eqb (w .splits) 0) (leanOf r) (w .lean);
     full = w .full;
   }
 

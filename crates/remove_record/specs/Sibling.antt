@@ -1,7 +1,7 @@
 -- The only sibling of a node: the other child of a helper with two.
 use mathlib.Core.Path.{_≡_, refl, sym, ap, subst, _∙_}
 use mathlib.Core.Bool.{Bool, true, false, cond, true≢false, false≢true}
-use mathlib.Core.List.{List, [], append-nil}
+use mathlib.Core.List.{List}
 use mathlib.Core.Logic.{⊎-elim}
 use Prim.Native.Nat.{ℕ, _+_, _≤_}
 use native.Mathlib.Omega.{arith}
@@ -9,16 +9,16 @@ use borrow.Author.Tests.{eq-eqb, eqb-true}
 use lib.Dec.{eqb}
 use lib.ListN.{length}
 use Rattle.model.specs.Limits.{capacity}
-use Rattle.model.specs.Row.{Row, nil, agg, lit, rec, _⊹_, size, nodeCount, base, recordSize, recordBytes}
+use Rattle.model.specs.Row.{Row, nil, agg, lit, rec, _⊹_, size, nodeCount, base, recordSize}
 use Rattle.model.specs.Reading.{kindAt, sizeAt}
 use Rattle.model.specs.Spot.{Position, here, inside, fill}
-use Rattle.theory_rows.specs.Laws.{not-nil, size-nil, isNil-nil, size-⊹, ⊹-nil, nodes-nil, nodes-size}
+use Rattle.theory_rows.specs.Laws.{two-nodes, not-nil, size-nil, isNil-nil, size-⊹, ⊹-nil, nodes-nil, nodes-size}
 use Rattle.theory_rows.specs.Image.{length-record}
 use Rattle.theory_rows.specs.Shows.{nodeCount-some}
 use Rattle.theory_rows.specs.Keeps.{nodeCount-⊹}
-use Rattle.theory_row_bytes.specs.RowAt.{RowAt, FirstNode, first-node, row-split, RecordIs, RecordAt, record-row, record-first, sizeOf, restOf, size-first}
+use Rattle.theory_row_bytes.specs.RowAt.{RowAt, FirstNode, first-node, row-split, RecordIs, RecordAt, record-whole, record-row, record-first, sizeOf, restOf, size-first}
 use Rattle.theory_growth.specs.Chain.{before, offsetIn}
-use Rattle.grow_splice.specs.Position.{isInside, parent, lone-many, size-around, parent-in}
+use Rattle.grow_splice.specs.Position.{isInside, parent, size-around, parent-in}
 use Rattle.grow_locate.specs.Parent.{holderIn}
 use Rattle.remove_record.specs.declared.Sibling.{Sibling}
 
@@ -84,7 +84,7 @@ module _ {l : List ℕ} {pos par : ℕ} (w : Losing l pos par) where
   row = fill (w .position) (w .node ⊹ w .rest)
 
   starts : RecordAt l 0 row
-  starts = record { post = []; is = w .is ∙ sym (append-nil (recordBytes row)) }
+  starts = record-whole (w .is)
 
   pub long : length l ≡ recordSize row
   long = ap length (w .is) ∙ length-record row
@@ -95,7 +95,7 @@ module _ {l : List ℕ} {pos par : ℕ} (w : Losing l pos par) where
   -- At the top of a row the node is a child of a helper, which is known by its kind, and no other node of the record holds it.
   pub top-helper : isInside (w .position) ≡ false → kindAt l 0 ≡ 4
   top-helper e =
-      let b : base row ≡ 6 = rw (lone-many row (w .beside e)) in
+      let b : base row ≡ 6 = rw (two-nodes row (w .beside e)) in
       go (eqb (kindAt l 0) 4) refl (record-first starts ∙ b)
     where
       go : (u : Bool) → eqb (kindAt l 0) 4 ≡ u → _≡_ {A = ℕ} (cond u 6 0) 6 → kindAt l 0 ≡ 4

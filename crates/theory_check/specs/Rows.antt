@@ -9,12 +9,12 @@ use lib.Seq.{length-take-le, getD-take, getD-drop}
 use lib.Dec.{eqb}
 use borrow.Author.Tests.{eqb-true, eqb-false, ltb-true, leb-true, not-true}
 use Rattle.model.specs.Limits.{pageSize, capacity, mostContent, mostNode, mostLevels}
-use Rattle.model.specs.Row.{Row, nil, agg, lit, rec, _⊹_, size, isNil, nodeCount, lone, two, header, bytes, recordBytes, standing, mayStand, isAgg, height}
+use Rattle.model.specs.Row.{Row, nil, agg, lit, rec, _⊹_, size, nodeCount, two, header, bytes, recordBytes, standing, mayStand, isAgg, height}
 use Rattle.model.specs.Row.{Head, noHead}
 use Rattle.model.specs.Reading.{usedAt, settledAt, headAt, nameAt}
 use Rattle.theory_rows.specs.Keeps.{nodeCount-⊹}
 use Rattle.theory_rows.specs.Fits.{Fits, Shape, one, more, RecordFits}
-use Rattle.theory_rows.specs.Laws.{nodes-some, length-bytes, bytes-⊹}
+use Rattle.theory_rows.specs.Laws.{two-nodes, length-bytes, bytes-⊹}
 use Rattle.theory_rows.specs.Bound.{Fits-⊹}
 use Rattle.theory_rows.specs.Image.{length-record}
 use Rattle.theory_decoding.specs.Valid.{both as and-both}
@@ -39,12 +39,6 @@ some-node nil h = h
 some-node (agg l cs rest) h = omega arith
 some-node (lit l c rest) h = omega arith
 some-node (rec p s r rest) h = omega arith
-
-not-lone : (r : Row) → 2 ≤ nodeCount r → lone r ≡ false
-not-lone nil h = refl
-not-lone (agg l cs rest) h = nodes-some rest (omega arith)
-not-lone (lit l c rest) h = nodes-some rest (omega arith)
-not-lone (rec p s r rest) h = refl
 
 -- ── bytes ──
 
@@ -111,7 +105,7 @@ module _ (s : List ℕ) (holder : ℕ) where
   unfolding shapeOf
   is-helper h r e n =
       let l = bare-head (and-both (bareHead s) _ (h .node .shape) .0) in
-      around 4 h (size r) (bytes r) (length-bytes r) e ∙ ap (λ (k : Head). header 4 k (6 + size r) ++ bytes r) l ∙ rw (not-lone r n)
+      around 4 h (size r) (bytes r) (length-bytes r) e ∙ ap (λ (k : Head). header 4 k (6 + size r) ++ bytes r) l ∙ rw (two-nodes r n)
 
   helper-pair : PassingNode s holder 4 → twoChildren (drop 6 s) ≡ true
   unfolding shapeOf

@@ -4,9 +4,9 @@ use mathlib.Core.Bool.{Bool, true, false, cond, true≢false}
 use Prim.Native.Nat.{ℕ, suc, _+_, _≤_}
 use native.Mathlib.Omega.{arith}
 use lib.Dec.{eqb}
-use Rattle.model.specs.Row.{Head, Row, nil, agg, lit, rec, _⊹_, store, size, isNil, lone, nodeCount, base, count}
+use Rattle.model.specs.Row.{Head, Row, nil, agg, lit, rec, _⊹_, store, size, lone, nodeCount, base, count}
 use Rattle.model.specs.Spot.{Position, here, inside, fill, past, into, Chain, top, below, Spot, whole}
-use Rattle.theory_rows.specs.Laws.{Parted, nodes-some, ⊹-assoc, size-⊹}
+use Rattle.theory_rows.specs.Laws.{Parted, ⊹-assoc, size-⊹}
 use Rattle.theory_rows.specs.Fits.{Fits, RecordFits}
 use Rattle.theory_rows.specs.Bound.{Fits-⊹, fits-parts, isNil-⊹}
 use Rattle.theory_rows.specs.Keeps.{nodeCount-⊹}
@@ -111,13 +111,6 @@ chain-fits (below c s q b rest) row f =
     (g .0, g .1)
 
 -- ── a record of one node ──
-
--- Two nodes are not one.
-pub two-nodes : (r : Row) → 2 ≤ nodeCount r → lone r ≡ false
-two-nodes nil h = absurd (omega arith)
-two-nodes (agg l cs rest) h = nodes-some rest (omega arith)
-two-nodes (lit l c rest) h = nodes-some rest (omega arith)
-two-nodes (rec p s r rest) h = refl
 
 -- What stands in an aggregate does not change whether its row is one node.
 pub lone-inside : (left : Row) (h : Head) (rest x y : Row) → lone (left ⊹ agg h x rest) ≡ lone (left ⊹ agg h y rest)

@@ -10,9 +10,9 @@ use Rattle.model.specs.Row.{Head, Row, nil, _⊹_, nodeCount, lone}
 use Rattle.model.specs.Tree.{Tree, end, branch, leaf, _⊞_, shown, breadth, New, newNode, putAt, insertAt}
 use Rattle.model.specs.Spot.{Position, here, inside, fill, past, into, Chain, top, whole, Stand, standIn}
 use Rattle.model.specs.Spot.{Spot, spotAfter, spotBefore, unused, spotBeside, spotFirst, spotChild, spotIn, spotOf}
-use Rattle.theory_rows.specs.Laws.{cond-case, ⊹-assoc, ⊞-assoc, shown-⊹, breadth-shown, newNode-⊞}
+use Rattle.theory_rows.specs.Laws.{two-nodes, cond-case, ⊹-assoc, ⊞-assoc, shown-⊹, breadth-shown, newNode-⊞}
 use Rattle.theory_rows.specs.Keeps.{nodeCount-⊹}
-use Rattle.theory_growth.specs.Chain.{wholeOf, fill-past, fill-into, two-nodes, lone-inside}
+use Rattle.theory_growth.specs.Chain.{wholeOf, fill-past, fill-into, lone-inside}
 use Rattle.theory_growth.specs.Shown.{around, above, around-past, around-into}
 use Rattle.theory_growth.specs.Stand.{Edit, editAt, NotAlone, not-alone-into, Stood, stood-in, stand-within}
 use Rattle.theory_growth.specs.Path.{spot-along, AtPath, at-path}

@@ -8,7 +8,8 @@ use lib.Dec.{leb}
 use Rattle.model.specs.Limits.{capacity}
 use Rattle.model.specs.Row.{Row, nil, agg, lit, rec, store, _⊹_, isNil, lone, recordSize, height, Config}
 use Rattle.model.specs.Spot.{Position, here, inside, fill, Chain, top, below, whole}
-use Rattle.model.specs.Growth.{Work, Out, onRow, splitPoint, startOfD, separator, counted, freed, kept, close, rise, rootRow}
+use Rattle.model.specs.Claims.{rootRow}
+use Rattle.model.specs.Growth.{Work, Out, onRow, leanOf, separator, counted, freed, kept, close, rise}
 use Rattle.theory_rows.specs.Fits.{Ranges, Fits, Shape}
 use Rattle.theory_rows.specs.Laws.{nodes-some}
 use Rattle.theory_rows.specs.Shows.{shape-nodeCount}
@@ -45,17 +46,17 @@ below-height (below c t p a more) s q b rest old e x =
 
 -- The levels, in its own record, of what stands under the root of a chain's last record.
 root-depth : (st : Config) (c : Chain) (old x : Row) → lone (whole c old) ≡ true → (lone old ≡ true → lone x ≡ true) → Fits x → height (whole c x) ≤ 24
-    → depth (rootRow st (lone x) x) ≤ 23
+    → depth (rootRow (lone x) x) ≤ 23
 root-depth st c old x e k f h = go c (lone x) refl e k h
   where
-    under : (x : Row) → Fits x → height x ≤ 24 → depth (rootRow st true x) ≤ 23
+    under : (x : Row) → Fits x → height x ≤ 24 → depth (rootRow true x) ≤ 23
     under nil f h = omega arith
     under (agg l cs rest) f h = omega (arith, depth-height cs (f .1))
     under (lit l c rest) f h = omega arith
     under (rec p s r rest) f h = omega arith
 
     go : (c : Chain) (b : Bool) → lone x ≡ b → lone (whole c old) ≡ true → (lone old ≡ true → b ≡ true) → height (whole c x) ≤ 24
-        → depth (rootRow st b x) ≤ 23
+        → depth (rootRow b x) ≤ 23
     go c true z e k h = under x f (omega (arith, part-whole height height-part c x))
     go top false z e k h = absurd (false≢true (k e))
     go (below c s q b rest) false z e k h = omega (arith, depth-height x f, below-height c s q b rest old e x)
@@ -103,7 +104,7 @@ module _ (st : Config) (k : Ranges st) where
   grows-some c old o g = nodes-some (o .0) (shape-nodeCount (grows-splits c old o g .0))
 
   pub split-able : (near : ℕ) (r : Row) (w : Work) → Splittable st r → capacity < recordSize r
-      → SplitGood (separator st near r w .0) (splitPoint st (recordSize r)) (startOfD st r)
+      → SplitGood (separator st near r w .0) (leanOf st r)
   split-able near r w m big = split-good st k near r w (m .fits) big (m .most) (m .deep)
 
   -- What stands for its proxy in the record above, whose row grows by it.

@@ -5,6 +5,7 @@ use mathlib.Core.Bool.{Bool, true, false, cond, false≢true}
 use mathlib.Core.List.{List, [], _++_, append-assoc, append-nil}
 use Prim.Native.Nat.{ℕ, _+_, _*_, _-_, _/_, _%_, _<_, _≤_}
 use native.Mathlib.Omega.{arith}
+use native.Mathlib.Nat.{zero-add}
 use lib.ListN.{length, getD, take, drop, replicate, length-append, length-drop, take-append-drop}
 use lib.Seq.{getD-drop, getD-take, drop-drop, take-at, drop-at}
 use lib.Dec.{eqb}
@@ -164,6 +165,11 @@ first-node l pos r some small s =
 pub row-bytes : (l : List ℕ) (pos : ℕ) (a : Row) → RowAt l pos a → take (size a) (drop pos l) ≡ bytes a
 row-bytes l pos a s = ap (take (size a)) (s .is) ∙ take-at (bytes a) (s .post) (size a) (length-bytes a)
 
+pub row-part : {l : List ℕ} {pos end : ℕ} {a : Row} → RowAt l pos a → end ≡ pos + size a → take (end - pos) (drop pos l) ≡ bytes a
+row-part {l} {pos} {end} {a} s e =
+    let z : end - pos ≡ size a = omega arith in
+    rw z (row-bytes l pos a s)
+
 -- A row in two parts.
 pub row-split : (l : List ℕ) (pos : ℕ) (a b : Row) → RowAt l pos (a ⊹ b) → RowAt l pos a × RowAt l (pos + size a) b
 row-split l pos a b s =
@@ -191,6 +197,19 @@ pub record RecordAt (l : List ℕ) (pos : ℕ) (row : Row) : Type 0 where
   pub post : List ℕ
   pub is : drop pos l ≡ recordBytes row ++ post
 
+pub row-long : {l : List ℕ} (row : Row) → RowIs l row → length l ≡ size row
+row-long row e = ap length e ∙ length-bytes row
+
+pub record-long : {l : List ℕ} (row : Row) → RecordIs l row → length l ≡ recordSize row
+record-long row e = ap length e ∙ length-record row
+
+-- Either stands at their start then.
+pub row-whole : {l : List ℕ} {row : Row} → RowIs l row → RowAt l 0 row
+row-whole {row = row} e = record { post = []; is = e ∙ sym (append-nil (bytes row)) }
+
+pub record-whole : {l : List ℕ} {row : Row} → RecordIs l row → RecordAt l 0 row
+record-whole {row = row} e = record { post = []; is = e ∙ sym (append-nil (recordBytes row)) }
+
 module _ {l : List ℕ} {pos : ℕ} {row : Row} (s : RecordAt l pos row) where
   -- Its row stands past the helper's header, if there is a helper.
   pub record-row : RowAt l (pos + base row) row
@@ -215,6 +234,10 @@ module _ {l : List ℕ} {pos : ℕ} {row : Row} (s : RecordAt l pos row) where
       go (lit h c rest) true q e = rw (header-kind {k = 2} {h = h} {n = 6 + length c} (record { post = (c ++ bytes rest) ++ s .post; is = e }))
       go (rec p t x rest) true q e = absurd (false≢true q)
       go r false q e = rw (header-kind {k = 4} {h = noHead} {n = 6 + size r} (record { post = bytes r ++ s .post; is = e }))
+
+-- Where the row of such bytes stands.
+pub row-starts : {l : List ℕ} {row : Row} → RecordIs l row → RowAt l (base row) row
+row-starts {row = row} e = rw (zero-add (base row)) at (record-row {row = row} (record-whole e))
 
 -- ── a page ──
 

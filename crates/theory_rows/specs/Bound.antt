@@ -1,19 +1,19 @@
 -- One split of a record suffices: what a split makes fits into pages, for every target and tolerance.
-use mathlib.Core.Path.{_≡_, refl, sym, ap, subst, _∙_}
+use mathlib.Core.Path.{_≡_, refl, sym, ap, subst}
 use mathlib.Core.Bool.{Bool, true, false, cond, _||_, false≢true, true≢false}
 use Prim.Native.Nat.{ℕ, _+_, _*_, _≤_, _<_, max}
 use native.Mathlib.Omega.{arith}
 use native.Mathlib.Nat.{mul-le-mul-right}
 use borrow.Author.Tests.{ltb-true, ltb-false}
-use lib.IntN.{subℕ}
+use lib.IntN.{ℤ, subℕ}
 use lib.Dec.{ltb}
 use Rattle.model.specs.Limits.{capacity, mostNode}
 use Rattle.model.specs.Row.{Row, nil, agg, lit, rec, _⊹_, size, isNil, lone, loneRec, nodeCount, base, recordSize, Config}
 use Rattle.theory_rows.specs.Fits.{Ranges, Fits, Shape, one, more}
-use Rattle.model.specs.Growth.{Work, Out, Cut, atD, through, separate, startOf, startOfD, cutFrom, cutRoot, cutOf, group, rootRow, splitPoint, separator}
-use Rattle.model.specs.Claims.{InLean}
+use Rattle.model.specs.Growth.{Work, Out, Cut, atD, through, separate, startOf, leanOf, cutFrom, cutOf, group, splitPoint, separator}
+use Rattle.model.specs.Claims.{rootRow, InLean}
 use Rattle.theory_rows.specs.Laws.{not-nil, size-⊹, cond-case, isNil-nil}
-use Rattle.theory_rows.specs.Cut.{cutRow, cut-row, Follows, cut-follows, by-root}
+use Rattle.theory_rows.specs.Cut.{cutRow, cut-row, Follows, cut-follows, by-root, cut-through}
 use Rattle.theory_rows.specs.Point.{point-nearest}
 use Rattle.theory_rows.specs.Shows.{nodeCount-some, nodes-shown, separator-width}
 use Rattle.model.specs.Tree.{width}
@@ -53,20 +53,20 @@ depth-some (agg l cs rest) e = omega arith
 depth-some (lit l c rest) e = omega arith
 depth-some (rec p s r rest) e = omega arith
 
-module _ (st : Config) (p : ℕ) (tol : st .tolerance ≤ 512) where
-  start-low : (at : ℕ) (c : Cut) → Follows st p tol at c → Fits (cutRow c) → p < at + size (cutRow c) → p < startOf at c + mostNode
+module _ (p : ℕ) where
+  start-low : (at : ℕ) (c : Cut) → Follows p at c → Fits (cutRow c) → p < at + size (cutRow c) → p < startOf at c + mostNode
   start-low at (atD left right) k f h = omega (arith, size-⊹ left right, k .2 (fits-parts left right f .1), k .3 (omega (arith, size-⊹ left right)))
   start-low at (through left hd inner right) k f h =
       let node : Row = agg hd (cutRow inner) right in
       start-low (at + size left + 6) inner (k .2) (fits-parts left node f .1 .1) (omega (arith, k .1 (omega (arith, size-⊹ left node))))
 
-  start-high : (at : ℕ) (c : Cut) → Follows st p tol at c → startOf at c + 6 ≤ max p at + 6 * depth (cutRow c)
+  start-high : (at : ℕ) (c : Cut) → Follows p at c → startOf at c + 6 ≤ max p at + 6 * depth (cutRow c)
   start-high at (atD left right) k = omega (arith, k .0, depth-⊹ left right, depth-some right (k .1))
   start-high at (through left h inner right) k =
       omega (arith, k .0, depth-⊹ left (agg h (cutRow inner) right), start-high (at + size left + 6) inner (k .2))
 
   -- The separator, without the root's header, if so little is put for each group.
-  separate-size : {S : Type 0} (f : Row → S → Row × S) → ((g : Row) (s : S) → size (f g s .0) ≤ 8) → (at : ℕ) (c : Cut) (s : S) → Follows st p tol at c
+  separate-size : {S : Type 0} (f : Row → S → Row × S) → ((g : Row) (s : S) → size (f g s .0) ≤ 8) → (at : ℕ) (c : Cut) (s : S) → Follows p at c
       → size (separate f c s .0) + 6 ≤ 22 * depth (cutRow c)
   unfolding separate
   separate-size f small at (atD left right) s k =
@@ -119,10 +119,10 @@ isNil-⊹ (agg l cs rest) b e = refl
 isNil-⊹ (lit l c rest) b e = refl
 isNil-⊹ (rec p s r rest) b e = refl
 
--- Every record that a split makes fits, if those of its groups do: S is the size of the record that is split.
-module _ (st : Config) (p : ℕ) (tol : st .tolerance ≤ 512) (size-of : ℕ) (left-room : p + 6 ≤ capacity) (right-room : size-of + 531 ≤ p + capacity)
+-- Every record that a split makes fits, if those of its groups do: `size-of` is the size of the record that is split.
+module _ (p size-of : ℕ) (left-room : p + 6 ≤ capacity) (right-room : size-of + 531 ≤ p + capacity)
     {S : Type 0} (f : Row → S → Row × S) (fit : (g : Row) (s : S) → Fits g → size g + 6 ≤ capacity → Fits (f g s .0)) where
-  separate-fits : (at : ℕ) (c : Cut) (s : S) → Follows st p tol at c → Fits (cutRow c) → p < at + size (cutRow c) → at + size (cutRow c) ≤ size-of
+  separate-fits : (at : ℕ) (c : Cut) (s : S) → Follows p at c → Fits (cutRow c) → p < at + size (cutRow c) → at + size (cutRow c) ≤ size-of
       → Fits (separate f c s .0)
   unfolding separate
   separate-fits at (atD left right) s k g h i =
@@ -154,12 +154,12 @@ module _ (st : Config) (k : Ranges st) (S : ℕ) (over : capacity < S) (most : S
 pub in-lean : (a p : ℕ) → a ≤ p + 132 → p ≤ a + 525 → InLean (subℕ a p)
 in-lean a p h k = cond-case InLean (ltb a p) (λ e. omega (arith, ltb-true a p e)) (λ e. omega (arith, ltb-false a p e))
 
--- What is claimed of a split: `sep` is the separator, p the split point and d the start of d.
-pub record SplitGood (sep : Row) (p d : ℕ) : Type 0 where
+-- What is claimed of a split, of its separator and of its lean.
+pub record SplitGood (sep : Row) (lean : ℤ) : Type 0 where
   pub fits : Fits sep
   pub small : size sep ≤ 506
   pub some : isNil sep ≡ false
-  pub lean : InLean (subℕ d p)
+  pub leans : InLean lean
 
 module _ (st : Config) (k : Ranges st) (near : ℕ) where
   -- What is made of the children of a root, which start at byte 6: `size-of` is the record's.
@@ -175,24 +175,27 @@ module _ (st : Config) (k : Ranges st) (near : ℕ) where
       let z = ap size e in
       let lo = p-low st k size-of over most in
       let hi = p-high st k size-of over most in (
-        separate-fits st p (k .tol) size-of (omega arith) (omega arith) (group st near) (group-fits st near) 6 c w n g (omega arith) (omega arith),
-        omega (arith, ap depth e, separate-size st p (k .tol) (group st near) (group-size st near) 6 c w n),
-        in-lean (startOf 6 c) p (omega (arith, ap depth e, start-high st p (k .tol) 6 c n)) (omega (arith, start-low st p (k .tol) 6 c n g (omega arith))),
+        separate-fits p size-of (omega arith) (omega arith) (group st near) (group-fits st near) 6 c w n g (omega arith) (omega arith),
+        omega (arith, ap depth e, separate-size p (group st near) (group-size st near) 6 c w n),
+        in-lean (startOf 6 c) p (omega (arith, ap depth e, start-high p 6 c n)) (omega (arith, start-low p 6 c n g (omega arith))),
       )
 
   -- What a split makes; its size is with the root's header, also a helper's, which is dropped.
-  split : (w : Work) (r : Row) → Fits r → capacity < recordSize r → recordSize r ≤ capacity + mostNode → depth (rootRow st (lone r) r) ≤ 23
+  split : (w : Work) (r : Row) → Fits r → capacity < recordSize r → recordSize r ≤ capacity + mostNode → depth (rootRow (lone r) r) ≤ 23
       → let sep = separate (group st near) (cutOf st r) w .0 in Fits sep × (base r + size sep ≤ 506)
-      × InLean (subℕ (startOfD st r) (splitPoint st (recordSize r)))
+      × InLean (leanOf st r)
   unfolding separate group
   split w r f over =
-      by-root (λ b r. Fits r → let S = cond b 0 6 + size r in capacity < S → S ≤ capacity + mostNode → depth (rootRow st b r) ≤ 23
-      → let c = cutRoot st (splitPoint st S) b r in let sep = separate (group st near) c w .0 in
-      Fits sep × (cond b 0 6 + size sep ≤ 506) × InLean (subℕ (startOf (cond b 0 6) c) (splitPoint st S)))
+      by-root (λ b r. Fits r → let S = cond b 0 6 + size r in capacity < S → S ≤ capacity + mostNode → depth (rootRow b r) ≤ 23
+      → Good (cond b 0 6) (splitPoint st S) (cutFrom st (splitPoint st S) (cond b 0 6) nil r))
       (λ r f over most deep. let z = row-good r w (6 + size r) refl f over most deep in (z .0, omega (arith, z .1), z .2))
-      (λ h cs f over most deep.
-      let z = row-good cs w (0 + (6 + size cs + 0)) (omega arith) (f .1) over most deep in
-      ((f .0, z .0, tt), omega (arith, z .1), z .2)) r f over f over
+      (λ h cs big f over most deep.
+      let S = 0 + (6 + size cs + 0) in
+      let z = row-good cs w S (omega arith) (f .1) over most deep in
+      subst (Good 0 (splitPoint st S)) (sym (cut-through st (k .tol) (splitPoint st S) h cs big)) ((f .0, z .0, tt), omega (arith, z .1), z .2)) r f over f over
+    where
+      Good : (start p : ℕ) → Cut → Type 0
+      Good start p c = let sep = separate (group st near) c w .0 in Fits sep × (start + size sep ≤ 506) × InLean (subℕ (startOf start c) p)
 
   -- A separator is not empty, since it shows what its record did.
   separator-some : (r : Row) (w : Work) → Fits r → 0 < size r → isNil (separator st near r w .0) ≡ false
@@ -207,12 +210,12 @@ module _ (st : Config) (k : Ranges st) (near : ℕ) where
       go false e = refl
 
   module _ (r : Row) (w : Work) (f : Fits r) (over : capacity < recordSize r) (most : recordSize r ≤ (capacity + mostNode))
-      (deep : depth (rootRow st (lone r) r) ≤ 23) where
-    pub split-good : SplitGood (separator st near r w .0) (splitPoint st (recordSize r)) (startOfD st r)
+      (deep : depth (rootRow (lone r) r) ≤ 23) where
+    pub split-good : SplitGood (separator st near r w .0) (leanOf st r)
     unfolding separator
     split-good =
         let z = split w r f over most deep in
-        record { fits = z .0; small = omega (arith, z .1); some = separator-some r w f (omega (arith, base-le r)); lean = z .2 }
+        record { fits = z .0; small = omega (arith, z .1); some = separator-some r w f (omega (arith, base-le r)); leans = z .2 }
 
     pub split-whole : base r + size (separator st near r w .0) ≤ 506
     unfolding separator

@@ -3,13 +3,13 @@ use mathlib.Core.Path.{_≡_, refl, sym, ap, subst, _∙_}
 use mathlib.Core.Bool.{Bool, true, false, cond, not, _&&_, _||_, false≢true}
 use Prim.Native.Nat.{ℕ, _+_, _≤_, _<_, max}
 use native.Mathlib.Omega.{arith}
-use borrow.Author.Tests.{ltb-true, leb-true, leb-false, not-false}
+use borrow.Author.Tests.{ltb-true, leb-true, leb-false, le-ltb, not-false}
 use lib.Dec.{leb, ltb}
 use Rattle.model.specs.Limits.{capacity, mostNode}
-use Rattle.model.specs.Row.{Head, Row, nil, agg, lit, rec, _⊹_, size, isNil, isAgg, lone, recordSize, Config}
-use Rattle.model.specs.Growth.{Cut, atD, through, separate, goOn, stops, cutFrom, cutRoot, cutOf, splitPoint}
+use Rattle.model.specs.Row.{Head, Row, nil, agg, lit, rec, _⊹_, size, isNil, isAgg, lone, base, recordSize, Config}
+use Rattle.model.specs.Growth.{Cut, atD, through, separate, goOn, stops, cutFrom, cutOf, splitPoint}
 use Rattle.theory_rows.specs.Fits.{Fits}
-use Rattle.theory_rows.specs.Laws.{⊹-assoc, size-⊹, isNil-nil, cond-case}
+use Rattle.theory_rows.specs.Laws.{⊹-assoc, size-⊹, isNil-nil, not-nil, cond-case}
 use Rattle.theory_rows.specs.First.{headOf, sizeOf, kidsOf, restOf, oneOf, size-first, size-one, row-first, by-first}
 
 -- The row that is cut.
@@ -94,13 +94,6 @@ module _ (st : Config) (p : ℕ) where
           (λ i. ap (λ (x : Row). left ⊹ agg (headOf r) x (restOf r)) (kids (at + 6) nil) ∙ ap (λ (x : Row). left ⊹ x) (sym (into-agg st r i)))
           (λ _. refl))
 
-  cut-root : (b : Bool) (r : Row) → cutRow (cutRoot st p b r) ≡ r
-  cut-root false r = cut-row r 6 nil
-  cut-root true nil = refl
-  cut-root true (agg h cs rest) = ap (λ (x : Row). agg h x rest) (cut-row cs 6 nil)
-  cut-root true (lit h c rest) = refl
-  cut-root true (rec q s r rest) = refl
-
   -- On the way to the chosen child of `row`, which starts at `start`: at `at` stands the first node of `from`, and `left` was passed.
   pub record Choosing (start : ℕ) (row : Row) (at : ℕ) (left from : Row) : Type 0 where
     pub parts : row ≡ left ⊹ from
@@ -146,17 +139,16 @@ module _ (st : Config) (p : ℕ) where
 
 -- ── what step 3 says of a cut ──
 
-module _ (st : Config) (p : ℕ) (tol : st .tolerance ≤ 512) where
-  -- The cut of a row that starts at `at`: at each level the chosen child starts at or before p, or is the first; it ends past p, if the row does.
-  abbrev pub Follows : (at : ℕ) → Cut → Type 0
-  Follows at (atD left right) =
-      (at + size left ≤ max p at) × (isNil right ≡ false) × (Fits right → sizeOf right ≤ mostNode)
-      × (p < at + (size left + size right) → p < at + size left + sizeOf right)
-  Follows at (through left h inner right) =
-      let n = 6 + size (cutRow inner) in
-      (at + size left ≤ max p at) × (p < at + (size left + (n + size right)) → p < at + size left + n) × Follows (at + size left + 6) inner
+-- The cut of a row that starts at `at`: at each level the chosen child starts at or before p, or is the first; it ends past p, if the row does. d is small.
+abbrev pub Follows : (p at : ℕ) → Cut → Type 0
+Follows p at (atD left right) =
+    (at + size left ≤ max p at) × (isNil right ≡ false) × (Fits right → sizeOf right ≤ mostNode)
+    × (p < at + (size left + size right) → p < at + size left + sizeOf right)
+Follows p at (through left h inner right) =
+    let n = 6 + size (cutRow inner) in
+    (at + size left ≤ max p at) × (p < at + (size left + (n + size right)) → p < at + size left + n) × Follows p (at + size left + 6) inner
 
-  -- d is small.
+module _ (st : Config) (p : ℕ) (tol : st .tolerance ≤ 512) where
   d-small : (r : Row) → goesInto st r ≡ false → Fits r → sizeOf r ≤ mostNode
   d-small nil e f = omega arith
   d-small (agg h cs rest) e f = go (isNil cs) refl e
@@ -167,24 +159,24 @@ module _ (st : Config) (p : ℕ) (tol : st .tolerance ≤ 512) where
   d-small (lit h c rest) e f = omega (arith, f .1)
   d-small (rec q s r rest) e f = omega arith
 
-  pub cut-follows : (start : ℕ) (row : Row) → isNil row ≡ false → Follows start (cutFrom st p start nil row)
+  pub cut-follows : (start : ℕ) (row : Row) → isNil row ≡ false → Follows p start (cutFrom st p start nil row)
   cut-follows start row e = by-first Followed (λ start row at left k. absurd (false≢true (sym (k .some)))) step row start row start nil (choosing st p start row e)
     where
       Followed : Row → Type 0
-      Followed from = (start : ℕ) (row : Row) (at : ℕ) (left : Row) → Choosing st p start row at left from → Follows start (cutFrom st p at left from)
+      Followed from = (start : ℕ) (row : Row) (at : ℕ) (left : Row) → Choosing st p start row at left from → Follows p start (cutFrom st p at left from)
 
       step : (r : Row) → isNil r ≡ false → Followed (kidsOf r) → Followed (restOf r) → Followed r
       step r e kids rest start row at left k =
           let z : size row ≡ size left + (sizeOf r + size (restOf r)) = omega (arith, ap size (k .parts), size-⊹ left r, size-first r) in
-          subst (Follows start) (sym (cut-step st p at left r e)) (cond-case (Follows start) (goOn p at (sizeOf r) (restOf r))
+          subst (Follows p start) (sym (cut-step st p at left r e)) (cond-case (Follows p start) (goOn p at (sizeOf r) (restOf r))
           (λ g. rest start row (at + sizeOf r) (left ⊹ oneOf r) (choose-on st p k g))
-          (λ g. cond-case (Follows start) (goesInto st r)
+          (λ g. cond-case (Follows p start) (goesInto st r)
           (λ i.
           let n = ap size (cut-row st p (kidsOf r) (at + 6) nil) in
           let m = ap sizeOf (into-agg st r i) in (
             omega (arith, k .here, k .low),
             (λ h. omega (arith, n, m, k .here, choose-past st p k g (omega arith))),
-            subst (λ (x : ℕ). Follows (x + 6) (cutFrom st p (at + 6) nil (kidsOf r))) (k .here)
+            subst (λ (x : ℕ). Follows p (x + 6) (cutFrom st p (at + 6) nil (kidsOf r))) (k .here)
                 (kids (at + 6) (kidsOf r) (at + 6) nil (choosing st p (at + 6) (kidsOf r) (into-some st r i))),
           ))
           (λ i. (omega (arith, k .here, k .low), e, d-small r i, λ h. omega (arith, k .here, choose-past st p k g (omega (arith, size-first r)))))))
@@ -192,23 +184,31 @@ module _ (st : Config) (p : ℕ) (tol : st .tolerance ≤ 512) where
 -- ── a record ──
 
 -- A record that is too large has a helper, or is one aggregate: what is so of both.
-pub by-root : (P : Bool → Row → Type 0) → ((r : Row) → P false r) → ((h : Head) (cs : Row) → P true (agg h cs nil)) → (r : Row) → Fits r
+pub by-root : (P : Bool → Row → Type 0) → ((r : Row) → P false r) → ((h : Head) (cs : Row) → capacity < 6 + size cs → P true (agg h cs nil)) → (r : Row) → Fits r
     → capacity < recordSize r → P (lone r) r
 by-root P f g r = go (lone r) r refl
   where
     go : (b : Bool) (r : Row) → lone r ≡ b → Fits r → capacity < cond b 0 6 + size r → P b r
     go false r e k h = f r
     go true nil e k h = absurd (false≢true e)
-    go true (agg l cs rest) e k h = subst (λ (x : Row). P true (agg l cs x)) (sym (isNil-nil rest e)) (g l cs)
+    go true (agg l cs rest) e k h =
+        let z = isNil-nil rest e in
+        subst (λ (x : Row). P true (agg l cs x)) (sym z) (g l cs (omega (arith, ap size z)))
     go true (lit l c rest) e k h = absurd (omega (arith, ap size (isNil-nil rest e), k .1))
     go true (rec p s x rest) e k h = absurd (false≢true e)
+
+-- The cut of such an aggregate goes through it.
+pub cut-through : (st : Config) → st .tolerance ≤ 512 → (p : ℕ) (h : Head) (cs : Row) → capacity < 6 + size cs
+    → cutFrom st p 0 nil (agg h cs nil) ≡ through nil h (cutFrom st p 6 nil cs) nil
+unfolding cutFrom
+cut-through st tol p h cs big = rw (not-nil cs (omega arith), le-ltb (6 + size cs) (st .tolerance) (omega arith))
 
 module _ (st : Config) {S : Type 0} (f : Row → S → Row × S) where
   -- Where what is put for each group is related, so are the splits of a record.
   pub split-related : {T : Type 0} (g : Row → T → Row × T) (R : Row → S → T → Row × S → Row × T → Type 0) → Joins R
       → ((r : Row) (s : S) (t : T) → R r s t (f r s) (g r t)) → (r : Row) (s : S) (t : T) → R r s t (separate f (cutOf st r) s) (separate g (cutOf st r) t)
   split-related g R j e r s t =
-      subst (λ (x : Row). R x s t (separate f (cutOf st r) s) (separate g (cutOf st r) t)) (cut-root st (splitPoint st (recordSize r)) (lone r) r)
+      subst (λ (x : Row). R x s t (separate f (cutOf st r) s) (separate g (cutOf st r) t)) (cut-row st (splitPoint st (recordSize r)) r (base r) nil)
       (separate-related f g R j e (cutOf st r) s t)
 
   -- The same of one split,

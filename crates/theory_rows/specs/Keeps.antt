@@ -1,5 +1,5 @@
 -- Growth keeps the rules: every record of the new row fits its page and has the shape of a record.
-use mathlib.Core.Path.{_≡_, refl, ap}
+use mathlib.Core.Path.{_≡_, refl}
 use mathlib.Core.Bool.{Bool, true, false, cond, false≢true}
 use mathlib.Core.List.{List, [], _∷_}
 use Prim.Native.Nat.{ℕ, zero, suc, _+_, _≤_, _<_, max}
@@ -11,11 +11,12 @@ use Rattle.model.specs.Limits.{capacity, mostContent, mostNode}
 use Rattle.model.specs.Row.{Head, Row, nil, agg, lit, rec, _⊹_, size, lone, base, recordSize, Config, nodeCount, height}
 use Rattle.theory_rows.specs.Fits.{Ranges, HeadFits, Fits, Shape, one, more, IsByte}
 use Rattle.model.specs.Tree.{Tree, end, branch, leaf, _⊞_, shown, New, newNode, putAt, insertAt}
-use Rattle.model.specs.Growth.{Work, Out, onRow, rootRow, splitPoint, cutRoot, separate, group, separator, kept, close, counted, freed, asRow, place, apart}
-use Rattle.theory_rows.specs.Laws.{size-⊹, cond-case, isNil-nil}
+use Rattle.model.specs.Claims.{rootRow}
+use Rattle.model.specs.Growth.{Work, Out, onRow, splitPoint, cutFrom, separate, group, separator, kept, close, counted, freed, asRow, place, apart}
+use Rattle.theory_rows.specs.Laws.{size-⊹, cond-case, two-nodes}
 use Rattle.theory_rows.specs.Shows.{shape-nodeCount, nodeCount-some}
-use Rattle.theory_rows.specs.Cut.{by-root}
-use Rattle.theory_rows.specs.Bound.{depth, split-good, Fits-⊹}
+use Rattle.theory_rows.specs.Cut.{by-root, cut-through}
+use Rattle.theory_rows.specs.Bound.{depth, split-good, Fits-⊹, base-le}
 
 -- ── levels ──
 
@@ -72,13 +73,7 @@ nodeCount-⊹ (agg l cs rest) b = rw (nodeCount-⊹ rest b) (omega arith)
 nodeCount-⊹ (lit l c rest) b = rw (nodeCount-⊹ rest b) (omega arith)
 nodeCount-⊹ (rec p s r rest) b = rw (nodeCount-⊹ rest b) (omega arith)
 
-lone-one : (r : Row) → lone r ≡ true → nodeCount r ≤ 1
-lone-one nil e = absurd (false≢true e)
-lone-one (agg l cs rest) e = omega (arith, ap nodeCount (isNil-nil rest e))
-lone-one (lit l c rest) e = omega (arith, ap nodeCount (isNil-nil rest e))
-lone-one (rec p s r rest) e = absurd (false≢true e)
-
--- What growth makes of a row: it fits, is at most 526 bytes larger, and has no fewer nodeCount.
+-- What growth makes of a row: it fits, is at most 526 bytes larger, and has no fewer nodes.
 pub record Grew (row : Row) (o : Out) : Type 0 where
   pub fits : Fits (o .0)
   pub grown : size (o .0) ≤ size row + mostNode
@@ -92,24 +87,21 @@ shape-kept r r′ (more r₁ h) n k = more r′ (omega arith)
 
 pub base-kept : {s : Bool} (r r′ : Row) → Shape s r → nodeCount r ≤ nodeCount r′ → (lone r ≡ true → lone r′ ≡ true) → base r′ ≤ base r
 base-kept r r′ (one e) n k = rw (e, k e) (omega arith)
-base-kept r r′ (more r₁ h) n k = go (lone r) refl
-  where
-    six : (b : Bool) → cond b 0 6 ≤ 6
-    six true = omega arith
-    six false = omega arith
-
-    go : (b : Bool) → lone r ≡ b → cond (lone r′) 0 6 ≤ cond b 0 6
-    go true e = absurd (omega (arith, lone-one r e))
-    go false e = six (lone r′)
+base-kept r r′ (more r₁ h) n k = rw (two-nodes r h) (base-le r′)
 
 -- ── a record after growth ──
 
 -- The separator of a record of one node has one node.
-pub separator-lone : (st : Config) (near : ℕ) (r : Row) (w : Work) → Fits r → capacity < recordSize r → lone r ≡ true → lone (separator st near r w .0) ≡ true
+pub separator-lone : (st : Config) → st .tolerance ≤ 512 → (near : ℕ) (r : Row) (w : Work) → Fits r → capacity < recordSize r → lone r ≡ true
+    → lone (separator st near r w .0) ≡ true
 unfolding separator separate group
-separator-lone st near r w =
-    by-root (λ b x. b ≡ true → lone (separate (group st near) (cutRoot st (splitPoint st (recordSize r)) b x) w .0) ≡ true)
-    (λ _ e. absurd (false≢true e)) (λ _ _ _. refl) r
+separator-lone st tol near r w =
+    let p = splitPoint st (recordSize r) in
+    by-root (λ b x. b ≡ true → lone (separate (group st near) (cutFrom st p (cond b 0 6) nil x) w .0) ≡ true) (λ _ e. absurd (false≢true e))
+    (λ h cs big _. rw (cut-through st tol p h cs big)) r
+
+pub asRow-lone : (st : Config) (x : New) → lone (asRow st x nil) ≡ true
+asRow-lone st x = cond-case (λ (r : Row). lone r ≡ true) (eqb (x .kind) 1) (λ _. refl) (λ _. refl)
 
 module _ (st : Config) (k : Ranges st) where
   -- what stands where a record's proxy stood
@@ -118,7 +110,7 @@ module _ (st : Config) (k : Ranges st) where
     pub grown : size (o .0) ≤ size rest + 506
     pub keeps : suc (nodeCount rest) ≤ nodeCount (o .0)
 
-  pub close-good : (q : ℕ) (s : Bool) (rest : Row) (o : Out) → Fits rest → Fits (o .0) → Shape s (o .0) → depth (rootRow st (lone (o .0)) (o .0)) ≤ 23
+  pub close-good : (q : ℕ) (s : Bool) (rest : Row) (o : Out) → Fits rest → Fits (o .0) → Shape s (o .0) → depth (rootRow (lone (o .0)) (o .0)) ≤ 23
       → recordSize (o .0) ≤ (capacity + mostNode)
       → Closed rest (close st q s rest o)
   unfolding close kept
@@ -128,7 +120,7 @@ module _ (st : Config) (k : Ranges st) where
       (λ t.
       let w = counted st (o .0) (o .1) in
       let b = split-good st k q (o .0) w f (leb-false (recordSize (o .0)) capacity t) m h in
-      let z = separator-lone st q (o .0) w f (leb-false (recordSize (o .0)) capacity t) e in
+      let z = separator-lone st (k .tol) q (o .0) w f (leb-false (recordSize (o .0)) capacity t) e in
       record { fits = (record { fits = rw z (omega (arith, b .small)); shape = one z }, b .fits, g); grown = omega arith; keeps = omega arith })
   close-good q false rest o g f a h m =
       cond-case (Closed rest) (leb (recordSize (o .0)) capacity)
@@ -156,14 +148,11 @@ module _ (st : Config) (k : Ranges st) where
         (λ _. record { fits = (head, tt, f); grown = omega arith; keeps = omega arith })
         (λ _. record { fits = (head, long, byte, f); grown = omega arith; keeps = omega arith })
 
-    asRow-lone : lone (asRow st x nil) ≡ true
-    asRow-lone = cond-case (λ (r : Row). lone r ≡ true) (eqb (x .kind) 1) (λ _. refl) (λ _. refl)
-
     pub place-good : (l : Head) (page : ℕ) (rest : Row) (w : Work) → Fits rest → Placed rest (place st x l page rest w)
     place-good l page rest w f =
         cond-case (Placed rest) (apart st l (x .head))
         (λ _.
         let a = asRow-good nil w tt in
-        let e : base (asRow st x nil) ≡ 0 = rw asRow-lone in
-        record { fits = (record { fits = omega (arith, a .grown); shape = one asRow-lone }, a .fits, f); grown = omega arith; keeps = omega arith })
+        let e : base (asRow st x nil) ≡ 0 = rw (asRow-lone st x) in
+        record { fits = (record { fits = omega (arith, a .grown); shape = one (asRow-lone st x) }, a .fits, f); grown = omega arith; keeps = omega arith })
         (λ _. asRow-good rest w f)

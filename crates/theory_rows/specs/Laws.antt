@@ -169,6 +169,13 @@ size-some (rec p s r rest) e = omega arith
 pub nodes-some : (r : Row) → 1 ≤ nodeCount r → isNil r ≡ false
 nodes-some r h = not-nil r (omega (arith, nodes-size r h))
 
+-- Two nodes are not one.
+pub two-nodes : (r : Row) → 2 ≤ nodeCount r → lone r ≡ false
+two-nodes nil h = absurd (omega arith)
+two-nodes (agg l cs rest) h = nodes-some rest (omega arith)
+two-nodes (lit l c rest) h = nodes-some rest (omega arith)
+two-nodes (rec p s r rest) h = refl
+
 pub size-nil : (r : Row) → size r ≡ 0 → isNil r ≡ true
 size-nil r e = go (isNil r) refl
   where

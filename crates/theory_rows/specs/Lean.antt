@@ -9,8 +9,8 @@ use lib.Dec.{leb, eqb}
 use Rattle.model.specs.Limits.{capacity, mostNode}
 use Rattle.model.specs.Row.{Head, Row, isNil, lone, loneRec, recordSize, Config}
 use Rattle.model.specs.Tree.{New}
-use Rattle.model.specs.Growth.{place, apart, Work, Out, group, separator, rootRow, kept, close, counted, freed}
-use Rattle.model.specs.Claims.{InLean}
+use Rattle.model.specs.Growth.{place, apart, Work, Out, group, separator, kept, close, counted, freed}
+use Rattle.model.specs.Claims.{rootRow, InLean}
 use Rattle.theory_rows.specs.Fits.{Ranges, Fits}
 use Rattle.theory_rows.specs.Laws.{cond-case}
 use Rattle.theory_rows.specs.Cut.{split-carries}
@@ -39,13 +39,13 @@ lean-split st near r w l = let k = split-counts st near r w in (subst InLean (sy
 pub record Splittable (st : Config) (r : Row) : Type 0 where
   pub fits : Fits r
   pub most : recordSize r ≤ (capacity + mostNode)
-  pub deep : depth (rootRow st (lone r) r) ≤ 23
+  pub deep : depth (rootRow (lone r) r) ≤ 23
 
 module _ (st : Config) (k : Ranges st) where
   -- where the groups go (`near`) does not matter to the lean
   lean-counted : (r : Row) (w : Work) → Splittable st r → leb (recordSize r) capacity ≡ false → Leaned w → Leaned (counted st r w)
   lean-counted r w m t l = (
-    cond-case InLean (eqb (w .splits) 0) (λ _. split-good st k 0 r w (m .fits) (leb-false (recordSize r) capacity t) (m .most) (m .deep) .lean) (λ _. l .0),
+    cond-case InLean (eqb (w .splits) 0) (λ _. split-good st k 0 r w (m .fits) (leb-false (recordSize r) capacity t) (m .most) (m .deep) .leans) (λ _. l .0),
     λ e. absurd (omega arith),
   )
 

@@ -18,10 +18,10 @@ use Rattle.base_layout.specs.Growing.{bufferSize, separatorSize, nearTo}
 use Rattle.grow_split_point.specs.Lean.{lean-signed}
 use Rattle.theory_growth.specs.Chain.{lastSettled}
 use Rattle.grow_groups.specs.Step.{front-end}
-use Rattle.grow_write_back.specs.Off.{leanOf, leaves, SplitOff}
-use Rattle.grow_cascade.specs.Rising.{inside, long-image, settled-is, settled-most, holder-is, holder-high, able, range, env, good, off}
+use Rattle.model.specs.Growth.{leanOf}
+use Rattle.grow_write_back.specs.Off.{leaves, SplitOff}
+use Rattle.grow_cascade.specs.Rising.{inside, long-image, settled-is, settled-most, holder-is, holder-high, able, range, env, good, off, bit-one, bit-other}
 use Rattle.grow_cascade.specs.Stops.{leanNow, lean-in, content, low-done, severed-long, severed-content, settled-done}
-use Rattle.grow_split.specs.Severed.{is-one, is-other}
 use Rattle.grow_cascade.specs.Cascade.{Cascade, goalOf, memOf, Onward, onward-start, onward-end, Upward, upward}
 use Rattle.grow_cascade.proofs.cascade.Statement.{statement}
 use Rattle.grow_cascade.proofs.cascade.Tie as tie
@@ -156,7 +156,7 @@ lean-last : (x : tie.After-split-off Inv-loop μ-loop) → let z = x .split-off 
 lean-last x =
     let w = at-start (at-loop x) .pre .1 in
     let k = at-loop x .loop .inv .0 w .now in
-    let y = subst InLean (sym (cut-of x w .1)) (good (k .rising) (large x w) (k .work) .lean) in
+    let y = subst InLean (sym (cut-of x w .1)) (good (k .rising) (large x w) (k .work) .leans) in
     (y, toZ-ofZ {w = w32} (lean-signed _ y))
 
 lean-now-requires : tie.Need-lean-now-requires Inv-loop μ-loop
@@ -201,7 +201,7 @@ slice-aggregate-keep-2 c = taken-end (c .before .before .before .before .before 
 -- the split record is settled
 stays-of : (x : tie.After-split-off Inv-loop μ-loop) → let l = at-loop x in x .before .before .before .before .before .before .before .before .settled-at .result ≡ 1 → (w : Given (at-start l))
     → lastSettled (l .loop .inv .0 w .now .chain) ≡ true
-stays-of x e w = is-one (lastSettled (at-loop x .loop .inv .0 w .now .chain)) _ 0 (bit-of (x .before .before .before .before .before .before) w) (λ z. omega arith) e
+stays-of x e w = bit-one (lastSettled (at-loop x .loop .inv .0 w .now .chain)) (bit-of (x .before .before .before .before .before .before) w) e
 
 keep-requires-2 : tie.Need-keep-requires-2 Inv-loop μ-loop
 keep-requires-2 c κs =
@@ -253,7 +253,7 @@ above y e w =
     let x = at-split y in
     let b = x .before .before .before .before .before .before in
     let o = at-loop x .loop .inv .0 w in
-    upward o (large x w) (is-other (lastSettled (o .now .chain)) _ 0 (bit-of b w) e) (b .back-at .ensures .0 ∙ holder-is (o .now .rising))
+    upward o (large x w) (bit-other (lastSettled (o .now .chain)) (bit-of b w) e) (b .back-at .ensures .0 ∙ holder-is (o .now .rising))
     (cut-of x w .0) (lean-of y w)
 
 lift-requires : tie.Need-lift-requires Inv-loop μ-loop

@@ -28,9 +28,10 @@ same-length : tie.Need-same-length
 same-length c = search needs
 
 returns : tie.Need-returns
-returns c =
-    λ w. group-kept (c .before .before .before .before .before .before .before .before .before .pre .0) w (sym (c .before .before .before .before .if1 .taken) ∙ c .before .before .before .before .before .stays .ensures (w .row) (w .is)) _ _ _
-    (c .before .before .copy-in .ensures)
+returns c w =
+    let s = c .before .before .before .before .before .before .before .before .before in
+    let h = sym (c .before .before .before .before .if1 .taken) ∙ c .before .before .before .before .before .stays .ensures (w .row) (w .is) in
+    group-kept (s .pre .0) w h _ _ _ (c .before .before .copy-in .ensures)
 
 first-free-requires : tie.Need-first-free-requires
 first-free-requires c κs = search needs

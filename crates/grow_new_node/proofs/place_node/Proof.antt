@@ -3,7 +3,8 @@ use mathlib.Core.Path.{sym, _∙_}
 use borrow.Author.Needs.{needs}
 use Rattle.model.specs.Growth.{asRow}
 use Rattle.model.specs.Row.{nil}
-use Rattle.grow_new_node.specs.Placed.{node-lone, placed-apart, placed-within}
+use Rattle.theory_rows.specs.Keeps.{asRow-lone}
+use Rattle.grow_new_node.specs.Placed.{placed-apart, placed-within}
 use Rattle.grow_new_node.proofs.place_node.Statement.{statement}
 use Rattle.grow_new_node.proofs.place_node.Tie as tie
 
@@ -26,7 +27,7 @@ returns c =
     let s = i .before .before .before .before .before .before .before in
     λ st root r e w t x h eh ex b.
     placed-apart st x h (s .args .out .now) e (s .pre .0) t (s .args .node .now) b _ _ _ _ (s .pre .1 .1 .0)
-    (sym (i .before .is-apart .ensures st root r e h (x .head) eh ex) ∙ i .if1 .taken) (f .place-apart .ensures st e (asRow st x nil) (node-lone st x) b)
+    (sym (i .before .is-apart .ensures st root r e h (x .head) eh ex) ∙ i .if1 .taken) (f .place-apart .ensures st e (asRow st x nil) (asRow-lone st x) b)
 
 copy-in-requires : tie.Need-copy-in-requires
 copy-in-requires c κs = search needs

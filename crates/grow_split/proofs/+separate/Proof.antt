@@ -1,7 +1,7 @@
 -- `grow_split::separate`: a level of the separator. The measure is the length of the row.
--- In each need: s the start, w the row that stands there, g, z, y, v, o the places after put_group, size_at, copy_in, separate and put16;
--- ml is what the inner level leaves.
-use mathlib.Core.Path.{_≡_, refl, sym, _∙_}
+-- In each need: s the start, w the row that stands there, x, g, z, y, v, o the places after child, put_group, size_at, copy_in, separate and put16;
+-- i is what the inner level leaves.
+use mathlib.Core.Path.{_≡_, sym, _∙_}
 use mathlib.Core.Bool.{true, false}
 use native.Mathlib.Omega.{arith}
 use lib.ListN.{length, length-take}
