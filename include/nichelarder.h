@@ -15,7 +15,7 @@
  * when the call is made. So format keeps its own matrix by image + 16, 256, insert copies a content from where nl_read has found it, and the path of a
  * removal may stand in the node that it removes.
  * The image and the buffers stay the caller's; the library keeps no pointer. The functions keep no state and allocate nothing: they may be called
- * from several threads on different images. They need up to 28 KB of stack or, where records are nested deeply in one another, 10 KB and some
+ * from several threads on different images. They need up to 29 KB of stack or, where records are nested deeply in one another, 10 KB and some
  * 355 bytes for each: up to 384 KB.
  *
  * The format, for those who look at bytes: a record is a tree of nodes, each a header of six bytes (kind, origin, one byte each; label, size, two bytes
