@@ -12,11 +12,11 @@ use Rattle.theory_row_bytes.specs.RowAt.{RowIs, row-long, row-whole}
 use Rattle.model.specs.Limits.{mostPages, capacity}
 use Rattle.model.specs.Row.{Row, nil, agg, lit, rec, size, isNil, lone, loneRec, recordSize, two, header, recordBytes, Config, noHead}
 use Rattle.model.specs.Reading.{twoAt}
-use Rattle.model.specs.Growth.{freeFrom, taken, group}
+use Rattle.model.specs.Growth.{freeFrom, taken, grouped}
 use Rattle.theory_rows.specs.Laws.{isNil-nil, size-some, size-nil}
 use Rattle.theory_rows.specs.Fits.{Fits}
 use Rattle.theory_rows.specs.Pages.{or-left, free-found}
-use Rattle.theory_page_memory.specs.Memory.{WorkMem, OutMem, putMem, groupMem, groupM}
+use Rattle.theory_page_memory.specs.Memory.{WorkMem, OutMem, putMem, groupM}
 use Rattle.base_numbers.specs.Over.{over, over-right, over-then}
 use Rattle.base_layout.specs.declared.Growing.{Growing}
 use Rattle.base_layout.specs.Setup.{setupOf}
@@ -185,8 +185,8 @@ pub record Grouping (g : Growing) (l u img : List ℕ) (room : ℕ) : Type 0 whe
   pub below : Below (g .setup .pages) row
   pub state : WorkMem
   pub same : InStep g u img state
-  pub fits : Fits (group st (g .near) row (state .0) .0)
-  pub within : size (group st (g .near) row (state .0) .0) ≤ room
+  pub fits : Fits (groupM st (g .near) row state .0)
+  pub within : size (groupM st (g .near) row state .0) ≤ room
 
 module _ {g : Growing} {l u img : List ℕ} {room : ℕ} (env : Env g u img) (w : Grouping g l u img room) where
   abbrev q : ℕ
@@ -198,25 +198,25 @@ module _ {g : Growing} {l u img : List ℕ} {room : ℕ} (env : Env g u img) (w 
 
   module _ (h : true ≡ (isNil (w .row) || loneRec (w .row))) where
     pub kept-room : length l ≤ room
-    unfolding group
+    unfolding grouped
     kept-room =
         let z : size (w .row) ≤ room = rw (sym h) at (w .within) in
         omega (arith, row-long (w .row) (w .is))
 
     pub group-kept : (at : ℕ) (out o : List ℕ) → o ≡ over at l out → Step g (w .row) (w .state) put at (at + length l) false u img out u img o
-    unfolding group groupMem
+    unfolding grouped
     group-kept at out o e = rw (sym h) (stay-step env (w .row) (w .below) (w .state) (w .same) at _ l out o (w .is) e refl)
 
   module _ (h : false ≡ (isNil (w .row) || loneRec (w .row))) where
     pub fits-own : Fits (rec q false (w .row) nil)
-    unfolding group
+    unfolding grouped
     fits-own = rw (sym h) at (w .fits)
 
     abbrev pub group-record : NewRecord l (g .setup .pages)
     group-record = record { row = w .row; is = w .is; below = w .below; moves = sym h; small = fits-own .0 .fits }
 
     pub proxy-room : 8 ≤ room
-    unfolding group
+    unfolding grouped
     proxy-room = let z : 8 + 0 ≤ room = rw (sym h) at (w .within) in omega arith
 
     abbrev pub group-linked : Linked l mostPages
@@ -225,7 +225,7 @@ module _ {g : Growing} {l u img : List ℕ} {room : ℕ} (env : Env g u img) (w 
     pub group-moved : (k n at : ℕ) (b out o : List ℕ) → k ≡ freeFrom (w .st) (g .setup .pages) (usedBy u) (g .near) → n ≡ numberOf u (w .row)
         → b ≡ cond (g .dry) img (written k false 0 (w .row) img) → o ≡ over at (proxyBytes k) out
         → Step g (w .row) (w .state) put at (at + 8) (eqb k 0) u img out (set u k n) b o
-    unfolding group groupMem
+    unfolding grouped
     group-moved k n at b out o e en pb po =
         rw (sym h) (own-step env (w .st) (w .setup) false 0 (w .row) (w .below) (fits-own .0 .fits) (or-left (isNil (w .row)) (loneRec (w .row)) (sym h))
         (w .state) (w .same) k n at b out o e en pb po)

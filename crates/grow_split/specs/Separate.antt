@@ -7,13 +7,13 @@ use native.Mathlib.Omega.{arith}
 use lib.ListN.{length, take, drop}
 use Rattle.model.specs.Row.{Row, nil, agg, _⊹_, size, two, header, Config}
 use Rattle.model.specs.Reading.{sizeAt}
-use Rattle.model.specs.Growth.{Cut, atD, through, startOf, separate, cutFrom, group}
+use Rattle.model.specs.Growth.{Cut, atD, through, startOf, separate, cutFrom, grouped}
 use Rattle.theory_rows.specs.Bound.{fits-parts}
 use Rattle.theory_rows.specs.Cut.{goesInto, into-agg, cutAt, choose-here}
 use Rattle.theory_rows.specs.Laws.{size-⊹}
 use Rattle.theory_rows.specs.Fits.{Fits}
 use Rattle.theory_row_bytes.specs.RowAt.{RowIs}
-use Rattle.theory_page_memory.specs.Memory.{WorkMem, OutMem, groupMem, groupM}
+use Rattle.theory_page_memory.specs.Memory.{WorkMem, OutMem, groupM}
 use Rattle.base_numbers.specs.Over.{over, length-over}
 use Rattle.grow_pages.specs.Links.{Below, below-parted}
 use Rattle.grow_split_point.specs.Kids.{Kids, headOf, kidsOf, restOf}
@@ -70,7 +70,7 @@ module _ {g : Growing} {ch : Children} {l u img : List ℕ} {room x : ℕ} (w : 
   cut-is = choose-here (w .st) (ch .p) (c .way) (c .last)
 
   level-is : separate (put w) (levelCut w) (w .state) ≡ (A .0 ⊹ T .0, T .1)
-  unfolding separate group groupMem
+  unfolding separate grouped
   level-is = ap (λ (k : Cut). separate (put w) k (w .state)) cut-is ∙ go (goesInto (w .st) (c .from))
     where
       go : (b : Bool) → let k : Row → Cut = λ left. cond b (through left (headOf (c .from)) (cutFrom (w .st) (ch .p) (x + 6) nil (kidsOf (c .from)))
@@ -134,7 +134,7 @@ module _ {g : Growing} {ch : Children} {l u img : List ℕ} {room at x : ℕ} {r
 
   module _ (e : goesInto (w .st) F ≡ false) where
     pub apart-is : T w (v .is) ≡ put w F s₁
-    unfolding separate group groupMem
+    unfolding separate grouped
     apart-is = rw e refl
 
     abbrev pub right-group : Grouping g (take (ch .end - x) (drop x l)) u₁ i₁ (length o₁ - r .end)
@@ -161,7 +161,7 @@ module _ {g : Growing} {ch : Children} {l u img : List ℕ} {room at x : ℕ} {r
 
   module _ (e : goesInto (w .st) F ≡ true) where
     pub into-is : T w (v .is) ≡ (agg (headOf F) (B .0) (C .0), C .1)
-    unfolding separate group groupMem
+    unfolding separate grouped
     into-is = rw e refl
 
     pub into-room : Fits (B .0) × Fits (C .0) × (r .end + (6 + size (B .0) + size (C .0)) ≤ length o₁)

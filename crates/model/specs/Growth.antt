@@ -58,6 +58,12 @@ separate group (through left h inner right) s =
     let c = group right (b .1) in
     (a .0 ⊹ agg h (b .0) (c .0), c .1)
 
+-- What stands for a group: one proxy, or no node, stays; a single other node becomes a record, two or more a record under a helper, which `own` makes.
+unfoldable pub grouped : {S : Type 0} → (own : Row → S → Row × S) → Row → S → Row × S
+grouped own g s =
+    let new = own g s in
+    cond (isNil g || loneRec g) (g, s) new
+
 -- A later child starts at or before the split point p too (step 3): a node of n bytes starts at `at`, and `rest` follows it.
 abbrev pub goOn : (p at n : ℕ) → (rest : Row) → Bool
 goOn p at n rest = not (isNil rest) && leb (at + n) p
@@ -120,11 +126,9 @@ module _ (st : Config) where
   abbrev pub startOfD : Row → ℕ
   startOfD r = startOf (base r) (cutOf r)
 
-  -- A group that is one proxy stays; a single other node becomes a record, two or more a record under a helper.
-  unfoldable pub group : (near : ℕ) → Row → Work → Out
-  group near g w =
-      let own = ownRecord near false g nil w in
-      cond (isNil g || loneRec g) (g, w) own
+  -- A group's record takes the first free page counting up from `near`.
+  abbrev pub group : (near : ℕ) → Row → Work → Out
+  group near = grouped (λ g. ownRecord near false g nil)
 
   -- The separator of a record that is too large, with the proxies of its groups; a helper root is dropped.
   unfoldable pub separator : (near : ℕ) → Row → Work → Out

@@ -1,14 +1,14 @@
 -- Once a page was taken where none was free, growth does not forget it.
 use mathlib.Core.Path.{_≡_}
-use mathlib.Core.Bool.{Bool, true, false, _||_}
+use mathlib.Core.Bool.{Bool, true, false}
 use Prim.Native.Nat.{ℕ}
 use lib.Dec.{leb, eqb}
 use Rattle.model.specs.Limits.{capacity}
-use Rattle.model.specs.Row.{Row, isNil, loneRec, recordSize, Config}
+use Rattle.model.specs.Row.{Row, recordSize, Config}
 use Rattle.model.specs.Growth.{Work, Out, onRow, freeFrom, group, separator, counted, freed, kept, close, rise}
 use Rattle.model.specs.Spot.{fill, Chain, top, below}
 use Rattle.theory_rows.specs.Laws.{cond-case}
-use Rattle.theory_rows.specs.Cut.{split-carries}
+use Rattle.theory_rows.specs.Cut.{split-carries, grouped-by}
 use Rattle.theory_rows.specs.Pages.{or-left}
 
 -- If no page was missing in the end, none was before.
@@ -17,8 +17,7 @@ Since w o = o .1 .full ≡ false → w .full ≡ false
 
 module _ (st : Config) where
   full-group : (near : ℕ) (g : Row) (w : Work) → Since w (group st near g w)
-  unfolding group
-  full-group near g w = cond-case (Since w) (isNil g || loneRec g) (λ _ z. z) (λ _ z. or-left (w .full) (eqb (freeFrom st (st .pages) (w .used) near) 0) z)
+  full-group near g w = grouped-by _ (Since w) g w (λ _ z. z) (λ _ z. or-left (w .full) (eqb (freeFrom st (st .pages) (w .used) near) 0) z)
 
   full-separator : (near : ℕ) (r : Row) (w : Work) → Since w (separator st near r w)
   unfolding separator

@@ -6,8 +6,8 @@ use lib.ListN.{take, drop, replicate}
 use lib.Dec.{leb, eqb}
 use Rattle.model.specs.Limits.{pageSize, capacity}
 use Rattle.model.specs.Tree.{New}
-use Rattle.model.specs.Row.{Head, Row, nil, agg, lit, rec, _⊹_, isNil, loneRec, recordSize, two, recordPage, Config, recordOn}
-use Rattle.model.specs.Growth.{Work, separate, cutOf, freeFrom, group, separator, counted, freed, apart, asRow}
+use Rattle.model.specs.Row.{Head, Row, nil, agg, lit, rec, _⊹_, recordSize, two, recordPage, Config, recordOn}
+use Rattle.model.specs.Growth.{Work, separate, cutOf, freeFrom, taken, grouped, separator, counted, freed, apart, asRow}
 use Rattle.model.specs.Spot.{fill, Chain, top, below, lastPage}
 
 abbrev pub Mem : Type 0
@@ -48,15 +48,14 @@ putMem q s h r m = linkMem q r (setMem q (recordPage (recordOn q s h r)) m)
 -- ── the split ──
 
 module _ (st : Config) where
-  -- A group that becomes a record is written with holder 0: its holder is known when the record above is written.
-  unfoldable pub groupMem : (near : ℕ) → Row → Work → Mem → Mem
-  groupMem near g w m =
-      let own = putMem (freeFrom st (st .pages) (w .used) near) false 0 g m in
-      cond (isNil g || loneRec g) m own
+  -- The model's group with its page writes: its record has holder 0, since its holder is known when the record above is written.
+  abbrev pub ownMem : (near : ℕ) → Row → WorkMem → OutMem
+  ownMem near g s =
+      let q = freeFrom st (st .pages) (s .0 .used) near in
+      (rec q false g nil, (taken st q (s .0), putMem q false 0 g (s .1)))
 
-  -- The model's group with its page writes.
   abbrev pub groupM : (near : ℕ) → Row → WorkMem → OutMem
-  groupM near g s = (group st near g (s .0) .0, (group st near g (s .0) .1, groupMem near g (s .0) (s .1)))
+  groupM near = grouped (ownMem near)
 
   unfoldable pub separatorMem : (near : ℕ) → Row → Work → Mem → Mem
   separatorMem near r w m = separate (groupM near) (cutOf st r) (w, m) .1 .1

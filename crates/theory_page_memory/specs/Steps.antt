@@ -5,14 +5,14 @@ use Prim.Native.Nat.{ℕ, _+_, _≤_, _<_}
 use native.Mathlib.Omega.{arith}
 use lib.Dec.{eqb}
 use Rattle.model.specs.Row.{Head, Row, nil, agg, rec, _⊹_, isNil, loneRec, count, Config}
-use Rattle.model.specs.Growth.{Work, Out, onRow, separate, cutOf, freeFrom, taken, group, separator}
+use Rattle.model.specs.Growth.{Work, Out, onRow, separate, cutOf, freeFrom, taken, ownRecord, grouped, group, separator}
 use Rattle.model.specs.Spot.{Position, fill}
 use Rattle.theory_growth.specs.Chain.{fill-more, count-refill}
 use Rattle.theory_rows.specs.Bound.{fits-parts}
 use Rattle.theory_rows.specs.Fits.{Fits}
 use Rattle.theory_rows.specs.Pages.{bit, count-⊹, or-left, or-right, free-found, tally-own}
-use Rattle.theory_page_memory.specs.Memory.{Mem, WorkMem, OutMem, blank, putMem, groupMem, groupM, separatorMem, separatorM}
-use Rattle.theory_rows.specs.Cut.{split-related, split-keeps}
+use Rattle.theory_page_memory.specs.Memory.{Mem, WorkMem, OutMem, blank, putMem, ownMem, groupM, separatorMem, separatorM}
+use Rattle.theory_rows.specs.Cut.{split-related, split-keeps, grouped-by}
 use Rattle.theory_page_memory.specs.Links.{Loose, not-bit, all-parted, loose-agree, put-other, put-same, put-stored}
 
 -- A row, a work and a memory that go together: `e q` times is page q named elsewhere.
@@ -117,22 +117,18 @@ module _ (st : Config) (near : ℕ) where
 
   -- A group stays, or becomes a record.
   step-group : (r : Row) (s : WorkMem) (e : ℕ → ℕ) → Fits (groupM st near r s .0) → StepKeeps e r s (groupM st near r s)
-  unfolding group groupMem
-  step-group r s e = go (isNil r || loneRec r)
-    where
-      q : ℕ
-      q = freeFrom st (st .pages) (s .0 .used) near
-
-      go : (b : Bool) → let o = cond {A = Out} b (r, s .0) (rec q false r nil, taken st q (s .0)) in
-          Fits (o .0) → StepKeeps e r s (o .0, (o .1, cond b (s .1) (putMem q false 0 r (s .1))))
-      go true f = stay e r s
-      go false f = step-own e false 0 r (s .0) (s .1) (f .1)
+  step-group r s e =
+      grouped-by _ (λ o. Fits (o .0) → StepKeeps e r s o) r s (λ _ _. stay e r s) (λ _ f. step-own e false 0 r (s .0) (s .1) (f .1))
 
   -- Rows and works are the model's.
   pub split-same : (r : Row) (s : WorkMem) → separate (groupM st near) (cutOf st r) s ≡ separatorM st near r s
-  unfolding separator separatorMem
+  unfolding separator separatorMem grouped
   split-same r s = λ n. (same n .0, (same n .1, separatorMem st near r (s .0) (s .1)))
     where
+      go : (r : Row) (s : WorkMem) (b : Bool) → let o = cond b (r, s) (ownMem st near r s) in (o .0, o .1 .0) ≡ cond b (r, s .0) (ownRecord st near false r nil (s .0))
+      go r s true = refl
+      go r s false = refl
+
       same : let o = separate (groupM st near) (cutOf st r) s in (o .0, o .1 .0) ≡ separate (group st near) (cutOf st r) (s .0)
       same =
           split-related st (groupM st near) (group st near) (λ r s w o u. s .0 ≡ w → (o .0, o .1 .0) ≡ u)
@@ -142,7 +138,7 @@ module _ (st : Config) (near : ℕ) where
                 let l = j (ap (λ (o : Out). o .1) k) in
                 λ n. (k n .0 ⊹ l n .0, l n .1);
             under = λ h r s w x x′ i e. ap (onRow (λ r. agg h r nil)) (i e);
-          }) (λ r s w e. ap (group st near r) e) r s (s .0) refl
+          }) (λ r s w e. go r s (isNil r || loneRec r) ∙ ap (group st near r) e) r s (s .0) refl
 
   -- A split: if the records that it makes fit, they stand on their pages.
   pub step-separator : (e : ℕ → ℕ) (r : Row) (s : WorkMem) → Fits (separator st near r (s .0) .0) → StepKeeps e r s (separatorM st near r s)

@@ -10,10 +10,10 @@ use lib.Dec.{ltb}
 use Rattle.model.specs.Limits.{capacity, mostNode}
 use Rattle.model.specs.Row.{Row, nil, agg, lit, rec, _⊹_, size, isNil, lone, loneRec, nodeCount, base, recordSize, Config}
 use Rattle.theory_rows.specs.Fits.{Ranges, Fits, Shape, one, more}
-use Rattle.model.specs.Growth.{Work, Out, Cut, atD, through, separate, startOf, leanOf, cutFrom, cutOf, group, splitPoint, separator}
+use Rattle.model.specs.Growth.{Work, Out, Cut, atD, through, separate, startOf, leanOf, cutFrom, cutOf, grouped, group, splitPoint, separator}
 use Rattle.model.specs.Claims.{rootRow, InLean}
 use Rattle.theory_rows.specs.Laws.{not-nil, size-⊹, cond-case, isNil-nil}
-use Rattle.theory_rows.specs.Cut.{cutRow, cut-row, Follows, cut-follows, by-root, cut-through}
+use Rattle.theory_rows.specs.Cut.{cutRow, grouped-by, cut-row, Follows, cut-follows, by-root, cut-through}
 use Rattle.theory_rows.specs.Point.{point-nearest}
 use Rattle.theory_rows.specs.Shows.{nodeCount-some, nodes-shown, separator-width}
 use Rattle.model.specs.Tree.{width}
@@ -97,11 +97,7 @@ group-shape g e = go (lone g) refl
 
 module _ (st : Config) (near : ℕ) where
   pub group-fits : (g : Row) (w : Work) → Fits g → size g + 6 ≤ capacity → Fits (group st near g w .0)
-  unfolding group
-  group-fits g w f h =
-      cond-case (λ (o : Out). Fits (o .0)) (isNil g || loneRec g)
-      (λ e. f)
-      (λ e. (record { fits = omega (arith, base-le g); shape = group-shape g e }, f, tt))
+  group-fits g w f h = grouped-by _ (λ (o : Out). Fits (o .0)) g w (λ _. f) (λ e. (record { fits = omega (arith, base-le g); shape = group-shape g e }, f, tt))
 
   lone-size : (g : Row) → isNil g || loneRec g ≡ true → size g ≤ 8
   lone-size nil e = omega arith
@@ -110,8 +106,7 @@ module _ (st : Config) (near : ℕ) where
   lone-size (rec p s r rest) e = omega (arith, ap size (isNil-nil rest e))
 
   pub group-size : (g : Row) (w : Work) → size (group st near g w .0) ≤ 8
-  unfolding group
-  group-size g w = cond-case (λ (o : Out). size (o .0) ≤ 8) (isNil g || loneRec g) (λ e. lone-size g e) (λ e. omega arith)
+  group-size g w = grouped-by _ (λ (o : Out). size (o .0) ≤ 8) g w (lone-size g) (λ _. omega arith)
 
 pub isNil-⊹ : (a b : Row) → isNil b ≡ false → isNil (a ⊹ b) ≡ false
 isNil-⊹ nil b e = e
@@ -184,7 +179,7 @@ module _ (st : Config) (k : Ranges st) (near : ℕ) where
   split : (w : Work) (r : Row) → Fits r → capacity < recordSize r → recordSize r ≤ capacity + mostNode → depth (rootRow (lone r) r) ≤ 23
       → let sep = separate (group st near) (cutOf st r) w .0 in Fits sep × (base r + size sep ≤ 506)
       × InLean (leanOf st r)
-  unfolding separate group
+  unfolding separate grouped
   split w r f over =
       by-root (λ b r. Fits r → let S = cond b 0 6 + size r in capacity < S → S ≤ capacity + mostNode → depth (rootRow b r) ≤ 23
       → Good (cond b 0 6) (splitPoint st S) (cutFrom st (splitPoint st S) (cond b 0 6) nil r))

@@ -6,8 +6,8 @@ use native.Mathlib.Omega.{arith}
 use borrow.Author.Tests.{ltb-true, leb-true, leb-false, le-ltb, not-false}
 use lib.Dec.{leb, ltb}
 use Rattle.model.specs.Limits.{capacity, mostNode}
-use Rattle.model.specs.Row.{Head, Row, nil, agg, lit, rec, _⊹_, size, isNil, isAgg, lone, base, recordSize, Config}
-use Rattle.model.specs.Growth.{Cut, atD, through, separate, goOn, stops, cutFrom, cutOf, splitPoint}
+use Rattle.model.specs.Row.{Head, Row, nil, agg, lit, rec, _⊹_, size, isNil, isAgg, lone, loneRec, base, recordSize, Config}
+use Rattle.model.specs.Growth.{Cut, atD, through, separate, grouped, goOn, stops, cutFrom, cutOf, splitPoint}
 use Rattle.theory_rows.specs.Fits.{Fits}
 use Rattle.theory_rows.specs.Laws.{⊹-assoc, size-⊹, isNil-nil, not-nil, cond-case}
 use Rattle.theory_rows.specs.First.{headOf, sizeOf, kidsOf, restOf, oneOf, size-first, size-one, row-first, by-first}
@@ -39,6 +39,12 @@ separate-related f g R j e (through left h inner right) s t =
     j .both left (agg h (cutRow inner) right) s t _ _ _ _ (e left s t)
     (j .both (agg h (cutRow inner) nil) right s₁ t₁ _ _ _ _ (j .under h (cutRow inner) s₁ t₁ a b (separate-related f g R j e inner s₁ t₁))
     (e right (a .1) (b .1)))
+
+-- What is so of a group that stays, and of one that becomes a record, is so of what stands for it.
+pub grouped-by : {S : Type 0} (own : Row → S → Row × S) (P : Row × S → Type 0) (g : Row) (s : S) → (isNil g || loneRec g ≡ true → P (g, s))
+    → (isNil g || loneRec g ≡ false → P (own g s)) → P (grouped own g s)
+unfolding grouped
+grouped-by own P g s = cond-case P (isNil g || loneRec g)
 
 -- ── the choice ──
 

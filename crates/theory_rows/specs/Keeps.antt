@@ -12,7 +12,7 @@ use Rattle.model.specs.Row.{Head, Row, nil, agg, lit, rec, _⊹_, size, lone, b
 use Rattle.theory_rows.specs.Fits.{Ranges, HeadFits, Fits, Shape, one, more, IsByte}
 use Rattle.model.specs.Tree.{Tree, end, branch, leaf, _⊞_, shown, New, newNode, putAt, insertAt}
 use Rattle.model.specs.Claims.{rootRow}
-use Rattle.model.specs.Growth.{Work, Out, onRow, splitPoint, cutFrom, separate, group, separator, kept, close, counted, freed, asRow, place, apart}
+use Rattle.model.specs.Growth.{Work, Out, onRow, splitPoint, cutFrom, separate, grouped, group, separator, kept, close, counted, freed, asRow, place, apart}
 use Rattle.theory_rows.specs.Laws.{size-⊹, cond-case, two-nodes}
 use Rattle.theory_rows.specs.Shows.{shape-nodeCount, nodeCount-some}
 use Rattle.theory_rows.specs.Cut.{by-root, cut-through}
@@ -94,7 +94,7 @@ base-kept r r′ (more r₁ h) n k = rw (two-nodes r h) (base-le r′)
 -- The separator of a record of one node has one node.
 pub separator-lone : (st : Config) → st .tolerance ≤ 512 → (near : ℕ) (r : Row) (w : Work) → Fits r → capacity < recordSize r → lone r ≡ true
     → lone (separator st near r w .0) ≡ true
-unfolding separator separate group
+unfolding separator separate grouped
 separator-lone st tol near r w =
     let p = splitPoint st (recordSize r) in
     by-root (λ b x. b ≡ true → lone (separate (group st near) (cutFrom st p (cond b 0 6) nil x) w .0) ≡ true) (λ _ e. absurd (false≢true e))

@@ -1,19 +1,19 @@
 -- The lean of growth: in range, and 0 unless a record was split.
 use mathlib.Core.Path.{_≡_, refl, sym, subst, _∙_}
-use mathlib.Core.Bool.{Bool, true, false, _||_}
+use mathlib.Core.Bool.{Bool, true, false}
 use Prim.Native.Nat.{ℕ, _+_, _≤_}
 use native.Mathlib.Omega.{arith}
 use borrow.Author.Tests.{leb-false}
 use lib.IntN.{pos}
 use lib.Dec.{leb, eqb}
 use Rattle.model.specs.Limits.{capacity, mostNode}
-use Rattle.model.specs.Row.{Head, Row, isNil, lone, loneRec, recordSize, Config}
+use Rattle.model.specs.Row.{Head, Row, lone, recordSize, Config}
 use Rattle.model.specs.Tree.{New}
 use Rattle.model.specs.Growth.{place, apart, Work, Out, group, separator, kept, close, counted, freed}
 use Rattle.model.specs.Claims.{rootRow, InLean}
 use Rattle.theory_rows.specs.Fits.{Ranges, Fits}
 use Rattle.theory_rows.specs.Laws.{cond-case}
-use Rattle.theory_rows.specs.Cut.{split-carries}
+use Rattle.theory_rows.specs.Cut.{split-carries, grouped-by}
 use Rattle.theory_rows.specs.Bound.{depth, split-good}
 
 -- The lean is in range, and 0 as long as nothing was split.
@@ -27,10 +27,10 @@ Leans o = Leaned (o .1)
 
 -- The groups of a split count for nothing by themselves.
 pub split-counts : (st : Config) (near : ℕ) (r : Row) (w : Work) → let v = separator st near r w .1 in (v .splits ≡ w .splits) × (v .lean ≡ w .lean)
-unfolding separator group
+unfolding separator
 split-counts st near r w =
     split-carries st (group st near) (λ v. (v .splits ≡ w .splits) × (v .lean ≡ w .lean))
-    (λ g v k. cond-case (λ (o : Out). (o .1 .splits ≡ w .splits) × (o .1 .lean ≡ w .lean)) (isNil g || loneRec g) (λ _. k) (λ _. k)) r w (refl, refl)
+    (λ g v k. grouped-by _ (λ (o : Out). (o .1 .splits ≡ w .splits) × (o .1 .lean ≡ w .lean)) g v (λ _. k) (λ _. k)) r w (refl, refl)
 
 lean-split : (st : Config) (near : ℕ) (r : Row) (w : Work) → Leaned w → Leans (separator st near r w)
 lean-split st near r w l = let k = split-counts st near r w in (subst InLean (sym (k .1)) (l .0), λ e. k .1 ∙ l .1 (sym (k .0) ∙ e))

@@ -6,11 +6,11 @@ use native.Mathlib.Omega.{arith}
 use borrow.Author.Tests.{eqb-true, lt-ltb}
 use lib.Dec.{leb, ltb, eqb}
 use Rattle.model.specs.Limits.{capacity}
-use Rattle.model.specs.Row.{Head, Row, nil, agg, lit, rec, _⊹_, isNil, loneRec, recordSize, count, outside, Config}
+use Rattle.model.specs.Row.{Head, Row, nil, agg, lit, rec, _⊹_, recordSize, count, outside, Config}
 use Rattle.model.specs.Tree.{New}
 use Rattle.model.specs.Growth.{Work, Out, freeFrom, taken, ownRecord, group, separator, kept, close, counted, freed, asRow, place, apart, atRest}
 use Rattle.theory_rows.specs.Laws.{cond-case}
-use Rattle.theory_rows.specs.Cut.{split-keeps}
+use Rattle.theory_rows.specs.Cut.{split-keeps, grouped-by}
 
 pub count-⊹ : (q : ℕ) (a b : Row) → count q (a ⊹ b) ≡ count q a + count q b
 count-⊹ q nil b = omega arith
@@ -74,7 +74,7 @@ module _ (st : Config) where
   Tallies e o = Tally e (names (o .0)) (o .1)
 
   tally-separator : (e : ℕ → ℕ) (near : ℕ) (r : Row) (w : Work) → Tally e (names r) w → Tallies e (separator st near r w)
-  unfolding separator group
+  unfolding separator
   tally-separator e near r w =
       split-keeps st (group st near) (λ r w o. (e : ℕ → ℕ) → Tally e (names r) w → Tallies e o)
       (λ a b w x y i j e t.
@@ -83,7 +83,7 @@ module _ (st : Config) where
       λ full q. omega (arith, v full q, count-⊹ q (x .0) (y .0)))
       (λ h r w x i e t. let u = i e (λ full q. omega (arith, t full q)) in λ full q. omega (arith, u full q))
       (λ r w e t.
-      cond-case (Tallies e) (isNil r || loneRec r) (λ _. t) (λ _. tally-own e near false r nil w (λ full q. omega (arith, t full q)))) r w e
+      grouped-by _ (Tallies e) r w (λ _. t) (λ _. tally-own e near false r nil w (λ full q. omega (arith, t full q)))) r w e
 
   pub tally-kept : (e : ℕ → ℕ) (q : ℕ) (o : Out) → Tallies e o → Tallies e (kept st q o)
   unfolding kept

@@ -1,16 +1,16 @@
 -- A split shows what was there, and a new node shows itself.
 use mathlib.Core.Path.{_≡_, refl, sym, ap, ap₂, _∙_}
-use mathlib.Core.Bool.{Bool, true, false, cond, _||_, false≢true, true≢false}
+use mathlib.Core.Bool.{Bool, true, false, cond, false≢true, true≢false}
 use Prim.Native.Nat.{ℕ, _≤_}
 use lib.Dec.{leb, eqb}
 use Rattle.model.specs.Limits.{capacity}
-use Rattle.model.specs.Row.{Head, Row, nil, agg, lit, rec, isNil, lone, nodeCount, loneRec, recordSize, Config}
+use Rattle.model.specs.Row.{Head, Row, nil, agg, lit, rec, isNil, lone, nodeCount, recordSize, Config}
 use Rattle.model.specs.Tree.{width, breadth, Tree, end, branch, leaf, _⊞_, shown, New, newNode}
 use Rattle.model.specs.Growth.{Work, Out, group, separator, kept, close, counted, freed, asRow, place, apart}
 use native.Mathlib.Omega.{arith}
 use Rattle.theory_rows.specs.Fits.{Fits, Shape, one, more}
 use Rattle.theory_rows.specs.Laws.{cond-case, ⊞-end, shown-⊹, breadth-shown, newNode-⊞}
-use Rattle.theory_rows.specs.Cut.{split-keeps}
+use Rattle.theory_rows.specs.Cut.{split-keeps, grouped-by}
 
 -- ── how many nodes ──
 
@@ -44,11 +44,11 @@ Shows t o = shown (o .0) ≡ t
 
 module _ (st : Config) where
   pub shown-separator : (near : ℕ) (r : Row) (w : Work) → Shows (shown r) (separator st near r w)
-  unfolding separator group
+  unfolding separator
   shown-separator near =
       split-keeps st (group st near) (λ r w o. Shows (shown r) o)
       (λ a b w x y i j. shown-⊹ (x .0) (y .0) ∙ ap₂ _⊞_ i j ∙ sym (shown-⊹ a b)) (λ h r w x i. ap (λ t. branch h t end) i)
-      (λ r w. cond-case (Shows (shown r)) (isNil r || loneRec r) (λ e. refl) (λ e. ⊞-end (shown r)))
+      (λ r w. grouped-by _ (Shows (shown r)) r w (λ _. refl) (λ _. ⊞-end (shown r)))
 
   -- So it shows as many nodes as the record did.
   pub separator-width : (near : ℕ) (r : Row) (w : Work) → width r ≡ width (separator st near r w .0)

@@ -10,7 +10,7 @@ use Rattle.model.specs.Limits.{pageSize, capacity, mostContent, mostNode, longe
 use Rattle.model.specs.Row.{Row, nil, agg, lit, rec, _⊹_, recordSize, header, bytes, two, Config, image, inRange, valid, noHead}
 use Rattle.model.specs.Tree.{shown, New, placeAt, placeOf}
 use Rattle.model.specs.Spot.{standIn, Spot, spotIn, spotOf}
-use Rattle.model.specs.Growth.{received, rise, fromSpot, Out, atRest, grow, kept, close, separator, separate, cutFrom, group, freeFrom, startOfD}
+use Rattle.model.specs.Growth.{received, rise, fromSpot, Out, atRest, grow, kept, close, separator, separate, cutFrom, grouped, freeFrom, startOfD}
 use Rattle.model.specs.Growth.{splitPoint}
 use Rattle.model.specs.Reading.{lengthOk, twoAt, pageOf, nodesIn, sameBytes, reading, usedAt}
 use Rattle.model.specs.Answers.{usualSettings, findRefused, insertRefused}
@@ -173,7 +173,7 @@ pub record BenchSheet : Type 0 where
 
 -- Naming this unfolds every definition that the calls compute with.
 computed : Unit {0}
-unfolding image inRange valid placeAt twoAt grow standIn spotIn rise kept close separator separate cutFrom group freeFrom splitPoint lengthOk
+unfolding image inRange valid placeAt twoAt grow standIn spotIn rise kept close separator separate cutFrom grouped freeFrom splitPoint lengthOk
     nodesIn sameBytes reading insertNumber findIn formatNumber opened formatOf insertOf findOf
 computed = tt
 

@@ -2,6 +2,7 @@
 use mathlib.Core.Path.{_≡_, sym, _∙_}
 use mathlib.Core.Bool.{_&&_}
 use Prim.Native.Nat.{ℕ}
+use native.Mathlib.Omega.{arith}
 use borrow.Author.Needs.{needs}
 use borrow.Author.Tests.{not-true, not-false, lt-ltb, le-ltb}
 use lib.Dec.{leb, ltb}
@@ -37,12 +38,14 @@ returns c = λ end w st e. sym (reads (c .before) end w st e ∙ rw (not-true (c
 returns-2 : tie.Need-returns-2
 returns-2 c = λ end w st e.
     let m = c .before .before in
-    sym (reads m end w st e ∙ rw (not-false (m .may-stand .result) (c .before .if1 .left), le-ltb 6 _ (c .if2 .taken)))
+    let n = m .before .before .before .size-at .result in
+    sym (reads m end w st e ∙ rw (not-false (m .may-stand .result) (c .before .if1 .left), le-ltb 6 n (omega (arith, c .if2 .taken))))
 
 returns-3 : tie.Need-returns-3
 returns-3 c = λ end w st e.
     let m = c .before .before in
-    sym (reads m end w st e ∙ rw (not-false (m .may-stand .result) (c .before .if1 .left), lt-ltb 6 _ (c .if2 .left)))
+    let n = m .before .before .before .size-at .result in
+    sym (reads m end w st e ∙ rw (not-false (m .may-stand .result) (c .before .if1 .left), lt-ltb 6 n (omega (arith, c .if2 .left))))
 
 pub enters-spec : {M : Type 1} → statement M
 enters-spec =
