@@ -13,7 +13,7 @@ use Rattle.theory_page_memory.specs.Memory.{WorkMem, OutMem}
 use Rattle.base_numbers.specs.Over.{over, over-then, over-inside, take-over, length-over}
 use Rattle.base_layout.specs.declared.Growing.{Growing}
 use Rattle.grow_pages.specs.Links.{Below, below-parted}
-use Rattle.grow_pages.specs.Relinked.{After}
+use Rattle.grow_pages.specs.Relinked.{After, after-then}
 use Rattle.grow_groups.specs.Used.{InUse, Past}
 use Rattle.grow_groups.specs.Tells.{Tabled, Keeps, tabled-parts, tabled-same, keeps-both}
 
@@ -51,7 +51,7 @@ module _ {g : Growing} {s : WorkMem} {at end : ℕ} {filled : Bool} {u img out u
         used = j .used;
         full = sym (or-assoc (s .0 .full) filled filled₂) ∙ ap (λ (z : Bool). z || filled₂) (i .full) ∙ j .full;
         past = j .past;
-        after = record { long = j .after .long ∙ i .after .long; same = λ d. j .after .same d ∙ i .after .same d; pages = j .after .pages };
+        after = after-then (λ _. y .1 .1) (i .after) (j .after);
         below = below-parted (g .setup .pages) .join (x .0) (y .0) (i .below) (j .below);
         written =
             over-then at end (bytes (x .0)) (bytes (y .0)) out out′ out″ (i .written) (j .written) (omega (arith, i .next))

@@ -64,7 +64,9 @@ grouped own g s =
     let new = own g s in
     cond (isNil g || loneRec g) (g, s) new
 
--- A later child starts at or before the split point p too (step 3): a node of n bytes starts at `at`, and `rest` follows it.
+-- ── the choice of a child (step 3) ──
+
+-- A later child starts at or before the split point p too: a node of n bytes starts at `at`, and `rest` follows it.
 abbrev pub goOn : (p at n : ℕ) → (rest : Row) → Bool
 goOn p at n rest = not (isNil rest) && leb (at + n) p
 
@@ -103,8 +105,8 @@ module _ (st : Config) where
   abbrev pub stops : (children : Row) → Bool
   stops cs = isNil cs || ltb (6 + size cs) (st .tolerance)
 
-  -- The cut of the children of a separator node, from the one at `at` on, those before it being `left`. The path goes through the last child that starts
-  -- at or before p, or the first, unless that is d.
+  -- The cut of a row from the child at `at` on, those before it being `left`. The path goes through the last child that starts at or before p, or the first,
+  -- unless that is d.
   unfoldable pub cutFrom : (p at : ℕ) → (left row : Row) → Cut
   cutFrom p at left nil = atD left nil
   cutFrom p at left (agg h cs rest) =
@@ -118,8 +120,8 @@ module _ (st : Config) where
       let on = cutFrom p (at + 8) (left ⊹ rec q s r nil) rest in
       cond (goOn p at 8 rest) on (atD left (rec q s r rest))
 
-  -- The cut of a record's row that is too large. A helper's children are the row, and start at byte 6. An aggregate as root is the row's one node, and no
-  -- tolerance is as large as it, so the path begins with it.
+  -- The cut of a record that is too large. With a helper as root the row is its children, which start at byte 6. An aggregate as root is the row's one node;
+  -- it is larger than every tolerance, so the path begins with it.
   abbrev pub cutOf : Row → Cut
   cutOf r = cutFrom (splitPoint (recordSize r)) (base r) nil r
 
