@@ -19,7 +19,7 @@ use Rattle.grow_replace_proxy.specs.Lift.{Lift, lifted}
 use Rattle.grow_write_back.specs.Off.{SplitOff}
 use Rattle.grow_cascade.specs.declared.Grown.{Grown}
 use Rattle.grow_cascade.specs.Rising.{Rising, LeftTable, Risen}
-use Rattle.grow_cascade.specs.Stops.{leanNow}
+use Rattle.grow_split_point.specs.Lean.{leanNow}
 use Rattle.grow_cascade.specs.Up.{up-lift, up-rising, next-goal, next-mem, split-after}
 
 -- A record of a store has a new row, in the buffer l, and is to be written, or split.

@@ -6,7 +6,7 @@ use Prim.Native.Nat.{ℕ, suc, _+_, _<_, _≤_}
 use native.Mathlib.Omega.{arith}
 use native.Mathlib.Numerals.{add-one}
 use borrow.Author.Tests.{le-leb, lt-leb}
-use lib.Dec.{eqb, leb}
+use lib.Dec.{leb}
 use lib.ListN.{length, take}
 use lib.IntN.{ℤ}
 use Rattle.model.specs.Limits.{capacity}
@@ -14,9 +14,7 @@ use Rattle.model.specs.Row.{Row, size, lone, bytes, recordSize, recordBytes, Co
 use Rattle.model.specs.Reading.{pageOf}
 use Rattle.theory_rows.specs.Lean.{split-counts}
 use Rattle.model.specs.Growth.{leanOf, Work, Out, onRow, separator, counted, kept, rise}
-use Rattle.model.specs.Claims.{InLean}
 use Rattle.theory_rows.specs.Fits.{Shape}
-use Rattle.theory_rows.specs.Laws.{cond-case}
 use Rattle.theory_rows.specs.Shows.{separator-width}
 use Rattle.theory_rows.specs.Keeps.{separator-lone}
 use Rattle.theory_growth.specs.Store.{settled-lone}
@@ -31,19 +29,13 @@ use Rattle.grow_pages.specs.Links.{Below}
 use Rattle.grow_pages.specs.Relinked.{After, after-then, written, after-written}
 use Rattle.base_layout.specs.declared.Growing.{Growing}
 use Rattle.grow_split.specs.Severed.{Severed}
+use Rattle.grow_split_point.specs.Lean.{leanNow}
 use Rattle.grow_write_back.specs.Content.{Content}
 use Rattle.grow_write_back.specs.Off.{leftImage, SplitOff}
 use Rattle.theory_rows.specs.Pages.{or-right}
 use Rattle.grow_groups.specs.Tells.{Keeps}
 use Rattle.grow_groups.specs.Step.{front-is}
 use Rattle.grow_cascade.specs.Rising.{Rising, Risen, risen-by, valid, inside, long-image, some, good, named-used, tabled}
-
--- The lean after one split more, whose own is `last`.
-abbrev pub leanNow : (count : ℕ) → (lean last : ℤ) → ℤ
-leanNow k lean last = cond (eqb k 0) last lean
-
-pub lean-in : (k : ℕ) (lean last : ℤ) → InLean lean → InLean last → InLean (leanNow k lean last)
-lean-in k lean last a b = cond-case InLean (eqb k 0) (λ _. b) (λ _. a)
 
 left-stays : (g : Growing) (img : List ℕ) → leftImage g true img ≡ img
 left-stays g img = rw or-true

@@ -19,7 +19,7 @@ use Rattle.theory_rows.specs.Lean.{split-counts}
 use Rattle.theory_rows.specs.Shows.{nodeCount-some, separator-width}
 use Rattle.theory_rows.specs.Pages.{count-⊹, or-right}
 use Rattle.model.specs.Tree.{width}
-use Rattle.grow_cascade.specs.Stops.{leanNow}
+use Rattle.grow_split_point.specs.Lean.{leanNow}
 use Rattle.theory_rows.specs.Laws.{width-⊹}
 use Rattle.theory_rows.specs.Image.{length-record}
 use Rattle.base_numbers.specs.Over.{over, take-over}

@@ -3,16 +3,15 @@ use base_layout::Growing;
 use base_layout::back_at;
 use base_layout::settled_at;
 use grow_replace_proxy::lift;
+use grow_split_point::lean_now;
 use grow_write_back::keep;
 use grow_write_back::split_off;
 use model::Settings;
 ghost use mathlib.Core.Path.{_≡_};
 ghost use lib.ListN.{length};
 ghost use lib.IntN.{pos};
-ghost use Rattle.model.specs.Claims.{InLean};
 ghost use Rattle.base_layout.specs.Growing.{bufferSize};
 ghost use Rattle.grow_cascade.specs.Rising.{Risen};
-ghost use Rattle.grow_cascade.specs.Stops.{leanNow};
 ghost use Rattle.grow_cascade.specs.Cascade.{Cascade, goalOf, memOf};
 
 // What growth counted: whether a page was taken where none was free, the records split, the lean of the first split.
@@ -20,17 +19,6 @@ pub struct Grown {
     pub full: bool,
     pub splits: u32,
     pub lean: i32,
-}
-
-// The lean after a split whose own is `last`: that of the first split stays.
-fn lean_now(splits: u32, lean: i32, last: i32) -> i32
-    requires { ⌜ InLean lean × InLean last ⌝ }
-    ensures { λ r. ⌜ r ≡ leanNow splits lean last ⌝ }
-{
-    if splits != 0 {
-        return lean;
-    }
-    last
 }
 
 // The record on the page that `start` is near has the new content buf[..len]; `full` says whether a page was missing before.

@@ -4,11 +4,12 @@ use mathlib.Core.Bool.{Bool, true, false, cond}
 use Prim.Native.Nat.{ℕ, zero, suc, _+_, _-_, _≤_}
 use native.Mathlib.Omega.{arith}
 use borrow.Author.Tests.{ltb-true, ltb-false, le-ltb}
-use lib.Dec.{ltb}
+use lib.Dec.{ltb, eqb}
 use lib.IntN.{ℤ, pos, negsuc, subℕ, _-ℤ_}
 use mir.Syntax.{w32}
 use mir.Val.{SFits}
 use Rattle.model.specs.Claims.{InLean}
+use Rattle.theory_rows.specs.Laws.{cond-case}
 
 pub minus-is : (d p : ℕ) → pos d -ℤ pos p ≡ subℕ d p
 minus-is d zero =
@@ -23,6 +24,13 @@ lean-bounds d p h = go (ltb d p) refl h
     go : (b : Bool) → ltb d p ≡ b → InLean (cond b (negsuc (p - suc d)) (pos (d - p))) → (p ≤ d + 525) × (d ≤ p + 132)
     go true e h = omega (arith, ltb-true d p e)
     go false e h = omega (arith, ltb-false d p e)
+
+-- The lean after k splits and one more, whose own is `last`.
+abbrev pub leanNow : (k : ℕ) → (first last : ℤ) → ℤ
+leanNow k first last = cond (eqb k 0) last first
+
+pub lean-in : (k : ℕ) (first last : ℤ) → InLean first → InLean last → InLean (leanNow k first last)
+lean-in k first last a b = cond-case InLean (eqb k 0) (λ _. b) (λ _. a)
 
 -- An i32 holds it.
 pub lean-signed : (z : ℤ) → InLean z → SFits w32 z

@@ -15,6 +15,7 @@ ghost use Rattle.theory_rows.specs.Cut.{goesInto};
 ghost use Rattle.theory_row_bytes.specs.RowAt.{RecordIs};
 ghost use Rattle.grow_split_point.specs.Kids.{Kids};
 ghost use Rattle.grow_split_point.specs.Chosen.{Chosen};
+ghost use Rattle.grow_split_point.specs.Lean.{leanNow};
 
 // p: the nearest whole number to target × size / 256, and at an exact half the even one.
 pub fn split_point(target: usize, size: usize) -> usize
@@ -99,4 +100,15 @@ pub fn lean(d: usize, p: usize) -> i32
     ensures { λ r. ⌜ (r ≡ subℕ d p) × InLean r ⌝ }
 {
     (d as i32) - (p as i32)
+}
+
+// The lean after so many splits and one whose own is `last`: that of the first split stays.
+pub fn lean_now(splits: u32, first: i32, last: i32) -> i32
+    requires { ⌜ InLean first × InLean last ⌝ }
+    ensures { λ r. ⌜ r ≡ leanNow splits first last ⌝ }
+{
+    if splits != 0 {
+        return first;
+    }
+    last
 }

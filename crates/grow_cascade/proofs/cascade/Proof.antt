@@ -15,13 +15,13 @@ use Rattle.model.specs.Limits.{mostPages, capacity}
 use Rattle.model.specs.Row.{recordSize}
 use Rattle.model.specs.Claims.{InLean}
 use Rattle.base_layout.specs.Growing.{bufferSize, separatorSize, nearTo}
-use Rattle.grow_split_point.specs.Lean.{lean-signed}
+use Rattle.grow_split_point.specs.Lean.{lean-signed, leanNow, lean-in}
 use Rattle.theory_growth.specs.Chain.{lastSettled}
 use Rattle.grow_groups.specs.Step.{front-end}
 use Rattle.model.specs.Growth.{leanOf}
 use Rattle.grow_write_back.specs.Off.{leaves, SplitOff}
 use Rattle.grow_cascade.specs.Rising.{inside, long-image, settled-is, settled-most, holder-is, holder-high, able, range, env, good, off, bit-one, bit-other}
-use Rattle.grow_cascade.specs.Stops.{leanNow, lean-in, content, low-done, severed-long, severed-content, settled-done}
+use Rattle.grow_cascade.specs.Stops.{content, low-done, severed-long, severed-content, settled-done}
 use Rattle.grow_cascade.specs.Cascade.{Cascade, goalOf, memOf, Onward, onward-start, onward-end, Upward, upward}
 use Rattle.grow_cascade.proofs.cascade.Statement.{statement}
 use Rattle.grow_cascade.proofs.cascade.Tie as tie

@@ -1,15 +1,15 @@
--- `grow_cascade::lean_now`: the lean of the first split stays.
+-- `grow_split_point::lean_now`: the lean of the first split stays.
 use borrow.Author.Tests.{eq-eqb, ne-eqb}
 use mir.Syntax.{w32}
 use mir.Facts.{toZ-ofZ}
 use Rattle.grow_split_point.specs.Lean.{lean-signed}
-use Rattle.grow_cascade.proofs.lean_now.Statement.{statement}
-use Rattle.grow_cascade.proofs.lean_now.Tie as tie
+use Rattle.grow_split_point.proofs.lean_now.Statement.{statement}
+use Rattle.grow_split_point.proofs.lean_now.Tie as tie
 
 returns : tie.Need-returns
 returns c =
     let s = c .before in
-    rw (ne-eqb (s .args .splits) 0 (c .if1 .taken)) (toZ-ofZ {w = w32} (lean-signed (s .args .lean) (s .pre .0)))
+    rw (ne-eqb (s .args .splits) 0 (c .if1 .taken)) (toZ-ofZ {w = w32} (lean-signed (s .args .first) (s .pre .0)))
 
 returns-2 : tie.Need-returns-2
 returns-2 c =
