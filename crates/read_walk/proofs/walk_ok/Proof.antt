@@ -10,9 +10,9 @@ use Rattle.theory_check.specs.Check.{walkOk}
 use Rattle.theory_check.specs.Facts.{passes, fails}
 use Rattle.theory_check.specs.Steps.{length-part}
 use Rattle.base_ranges.specs.Long.{length-says}
-use Rattle.read_check.proofs.Checks.{first-fits, walked, walked-table}
-use Rattle.read_check.proofs.walk_ok.Statement.{statement}
-use Rattle.read_check.proofs.walk_ok.Tie as tie
+use Rattle.read_walk.proofs.Checks.{first-fits, walked, walked-table}
+use Rattle.read_walk.proofs.walk_ok.Statement.{statement}
+use Rattle.read_walk.proofs.walk_ok.Tie as tie
 
 shared-slice-read-if1 : tie.Need-shared-slice-read-if1
 shared-slice-read-if1 c = let s = c .before .before in omega (arith, length-says (length (now (s .args .image))) (s .pre .0))

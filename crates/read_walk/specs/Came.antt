@@ -5,7 +5,7 @@ use Prim.Native.Nat.{ℕ}
 use Rattle.model.specs.Tree.{width}
 use Rattle.theory_check.specs.Walk.{state, Decoded}
 use Rattle.theory_check.specs.Widths.{widthsAfter}
-use Rattle.read_check.specs.declared.Walked.{Walked}
+use Rattle.read_walk.specs.declared.Walked.{Walked}
 
 -- Its state is the one that `decode` says, and the row's records are in the table of widths, which was `old`.
 pub record Came (d : Decoded) (left : ℕ) (marks old new : List ℕ) : Type 0 where

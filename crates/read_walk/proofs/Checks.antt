@@ -16,8 +16,8 @@ use Rattle.theory_check.specs.Tests.{tailZero}
 use Rattle.theory_check.specs.Walk.{State, state, nodeOf}
 use Rattle.theory_check.specs.Check.{walkOf, walkOk}
 use Rattle.theory_check.specs.Widths.{widthsAfter}
-use Rattle.read_check.specs.Came.{Came}
-use Rattle.read_check.proofs.Walks.{came-at}
+use Rattle.read_walk.specs.Came.{Came}
+use Rattle.read_walk.proofs.Walks.{came-at}
 
 -- page 1's record ends before its trailer
 pub first-fits : (img : List ℕ) → 2 ≤ pageCount img → beforeWalk img ≡ true → usedAt img pageSize ≤ capacity

@@ -23,7 +23,7 @@ use Rattle.theory_check.specs.Facts.{both, rest-is, passes}
 use Rattle.theory_check.specs.Steps.{Entered, entered, node-eq, list-eq, head-long, list-none, list-more}
 use Rattle.read_nodes.specs.Leaf.{aggregateOf, literalOf}
 use Rattle.read_nodes.specs.Leaves.{no-kind, sized, aggregate-head, childless-head, literal-head}
-use Rattle.read_check.specs.Came.{Came}
+use Rattle.read_walk.specs.Came.{Came}
 
 -- what a page that is entered shows of itself; the test is made the other way round
 pub goes : (img : List ℕ) (p page : ℕ) (w : State) (r : Bool) → r ≡ entersOf img p page w → not r ≡ false → Entered img p page w

@@ -20,8 +20,8 @@ use Rattle.theory_check.specs.Facts.{rest-is}
 use Rattle.read_nodes.specs.Inner.{Each, alone, each-fits}
 use Rattle.read_nodes.specs.Leaf.{aggregateOf, Only}
 use Rattle.read_nodes.specs.Leaves.{aggregate-head, aggregate-size}
-use Rattle.read_check.specs.Came.{Came}
-use Rattle.read_check.proofs.Walks.{list-bad, node-inner, came-at, came-agg}
+use Rattle.read_walk.specs.Came.{Came}
+use Rattle.read_walk.proofs.Walks.{list-bad, node-inner, came-at, came-agg}
 
 -- Two outcomes with the same walk, whose rows leave the same in a table of widths.
 record Alike (d e : Decoded) : Type 0 where

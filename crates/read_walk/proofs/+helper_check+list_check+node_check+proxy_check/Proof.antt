@@ -15,22 +15,22 @@ use Rattle.theory_check.specs.Walk.{State, state, node, Decoded, listOf, proxyO
 use Rattle.theory_check.specs.Facts.{rest-is, passes, fails}
 use Rattle.theory_check.specs.Steps.{less, length-part, list-none}
 use Rattle.read_nodes.specs.Leaves.{sized, aggregate-head}
-use Rattle.read_check.proofs.Walks.{goes, headed, node-inside, list-bad, list-stop, On, Counted, on-end, counted-end, Past, turn, turn-childless}
-use Rattle.read_check.proofs.Walks.{turn-literal, node-3-bad, node-3, node-4, node-deep, node-2, node-none, came-at, wide-at, came-stop, came-literal}
-use Rattle.read_check.proofs.Walks.{proxy-no, proxy-done, node-small, count-small}
-use Rattle.read_check.proofs.Chains.{Chain, chain}
-use Rattle.read_check.proofs.helper_check.Reads as helper-check
-use Rattle.read_check.proofs.helper_check.Kinds as helper-check-kinds
-use Rattle.read_check.proofs.+helper_check+list_check+node_check+proxy_check.Lts-helper_check as helper-check-lts
-use Rattle.read_check.proofs.list_check.Reads as list-check
-use Rattle.read_check.proofs.list_check.Kinds as list-check-kinds
-use Rattle.read_check.proofs.+helper_check+list_check+node_check+proxy_check.Lts-list_check as list-check-lts
-use Rattle.read_check.proofs.node_check.Reads as node-check
-use Rattle.read_check.proofs.node_check.Kinds as node-check-kinds
-use Rattle.read_check.proofs.+helper_check+list_check+node_check+proxy_check.Lts-node_check as node-check-lts
-use Rattle.read_check.proofs.proxy_check.Reads as proxy-check
-use Rattle.read_check.proofs.proxy_check.Kinds as proxy-check-kinds
-use Rattle.read_check.proofs.+helper_check+list_check+node_check+proxy_check.Lts-proxy_check as proxy-check-lts
+use Rattle.read_walk.proofs.Walks.{goes, headed, node-inside, list-bad, list-stop, On, Counted, on-end, counted-end, Past, turn, turn-childless}
+use Rattle.read_walk.proofs.Walks.{turn-literal, node-3-bad, node-3, node-4, node-deep, node-2, node-none, came-at, wide-at, came-stop, came-literal}
+use Rattle.read_walk.proofs.Walks.{proxy-no, proxy-done, node-small, count-small}
+use Rattle.read_walk.proofs.Chains.{Chain, chain}
+use Rattle.read_walk.proofs.helper_check.Reads as helper-check
+use Rattle.read_walk.proofs.helper_check.Kinds as helper-check-kinds
+use Rattle.read_walk.proofs.+helper_check+list_check+node_check+proxy_check.Lts-helper_check as helper-check-lts
+use Rattle.read_walk.proofs.list_check.Reads as list-check
+use Rattle.read_walk.proofs.list_check.Kinds as list-check-kinds
+use Rattle.read_walk.proofs.+helper_check+list_check+node_check+proxy_check.Lts-list_check as list-check-lts
+use Rattle.read_walk.proofs.node_check.Reads as node-check
+use Rattle.read_walk.proofs.node_check.Kinds as node-check-kinds
+use Rattle.read_walk.proofs.+helper_check+list_check+node_check+proxy_check.Lts-node_check as node-check-lts
+use Rattle.read_walk.proofs.proxy_check.Reads as proxy-check
+use Rattle.read_walk.proofs.proxy_check.Kinds as proxy-check-kinds
+use Rattle.read_walk.proofs.+helper_check+list_check+node_check+proxy_check.Lts-proxy_check as proxy-check-lts
 use Rattle.read_nodes.proofs.aggregate.Reads as aggregate-reads
 use Rattle.read_marks.proofs.enters.Reads as enters-reads
 use Rattle.read_nodes.proofs.head.Reads as head-reads
@@ -40,8 +40,8 @@ use Rattle.read_marks.proofs.set_mark.Reads as set-mark-reads
 use Rattle.read_nodes.proofs.size_of.Reads as size-of-reads
 use Rattle.base_layout.proofs.name_at.Reads as name-at-reads
 use Rattle.base_layout.proofs.used_at.Reads as used-at-reads
-use Rattle.read_check.proofs.+helper_check+list_check+node_check+proxy_check.{statement}
-use Rattle.read_check.proofs.+helper_check+list_check+node_check+proxy_check.Tie.{close}
+use Rattle.read_walk.proofs.+helper_check+list_check+node_check+proxy_check.{statement}
+use Rattle.read_walk.proofs.+helper_check+list_check+node_check+proxy_check.Tie.{close}
 
 abbrev μ-helper-check : Measures 3 helper-check-kinds.ps ℕ
 μ-helper-check κs a = 16384 * a .1 .1 .1 .1 .0 + 2 * length (a .1 .0 .now) + 1
