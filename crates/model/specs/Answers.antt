@@ -19,6 +19,7 @@ use Rattle.model.specs.declared.NextAnswer.{NextAnswer}
 use Rattle.model.specs.declared.InsertAnswer.{InsertAnswer}
 use Rattle.model.specs.declared.FindAnswer.{FindAnswer}
 use Rattle.model.specs.declared.WriteAnswer.{WriteAnswer}
+use Rattle.model.specs.declared.WalkAnswer.{WalkAnswer}
 use Rattle.model.specs.declared.ReadNode.{ReadNode}
 
 abbrev pub usualSettings : (pages : ℕ) → Settings
@@ -133,3 +134,6 @@ readRefused n = record { number = n; kind = 0; origin = 0; label = 0; children =
 
 abbrev pub nextRefused : (number : ℕ) → NextAnswer
 nextRefused n = record { number = n; next = End }
+
+abbrev pub walkRefused : (number : ℕ) → WalkAnswer
+walkRefused n = record { number = n; written = 0; more = 0; next = noPlace }

@@ -8,6 +8,8 @@ pub mod Climb
 pub mod Read
 pub mod Next
 pub mod Records
+pub mod Walk
+pub mod Diagnose
 use mathlib.Core.List.{List}
 use Prim.Native.Nat.{ℕ}
 use Rattle.model.specs.Effect.{Effect}
@@ -20,6 +22,8 @@ use Climb.{climbCall}
 use Read.{readCall}
 use Next.{nextCall}
 use Records.{recordsCall}
+use Walk.{walkCall}
+use Diagnose.{diagnoseCall}
 use Rattle.model.specs.declared.Settings.{Settings}
 use Rattle.model.specs.declared.Place.{Place}
 
@@ -34,3 +38,5 @@ pub data Call (order : (img buffer : List ℕ) → List ℕ) : Effect → Type 1
   read : (x : Place) → Call order (readCall x)
   next : (x : Place) → Call order (nextCall x)
   records : (buffer : List ℕ) → Call order (recordsCall order buffer)
+  walk : (x : Place) (buffer : List ℕ) → Call order (walkCall x buffer)
+  diagnose : Call order diagnoseCall

@@ -16,15 +16,18 @@ use Rattle.model.specs.Removal.{removed}
 use Rattle.model.specs.Growth.{Work, splitPoint, leanOf, separator, risen, atRest}
 use Rattle.model.specs.Reading.{Reads, lengthOk, reading, pageOf}
 use Rattle.model.specs.BeforeWalk.{allZero, settingsOk, trailerOf, isFree, trailerFits, pageCount, beforeWalk}
-use Rattle.model.specs.Answers.{notPassed, wrongLength, noFreePage}
-use Rattle.model.specs.Common.{four, pathOf, namedBy, opened, onStore, treeOn}
+use Rattle.model.specs.Answers.{notPassed, wrongLength, noFreePage, noPlace}
+use Rattle.model.specs.Common.{four, pathBytes, pathOf, namedBy, opened, onStore, treeOn}
 use Rattle.model.specs.Effect.{Effect, roomy, feedOf, handedOf}
 use Rattle.model.specs.Calls.Check.{checkOf}
 use Rattle.model.specs.Calls.Insert.{insertNumber, grown, insertOf, insertCall}
 use Rattle.model.specs.Calls.Remove.{removeNumber, removeOf}
 use Rattle.model.specs.Calls.Find.{findOf}
 use Rattle.model.specs.Calls.Climb.{climbOf}
+use Rattle.model.specs.Calls.Read.{readOf}
 use Rattle.model.specs.Calls.Records.{IsOrder}
+use Rattle.model.specs.Calls.Walk.{entry, joined, walkOf}
+use Rattle.model.specs.Calls.Diagnose.{noFault, diagnosis, diagnoseOf}
 use Rattle.model.specs.Calls.{Call}
 use Rattle.model.specs.declared.Place.{Place}
 
@@ -56,6 +59,32 @@ pub record BeforeWalkExact (img : List ℕ) : Type 0 where
   pub exactly : (beforeWalk img ≡ true) ↔ PagesKeep img
   pub alone : (other : List ℕ) → AlikeBefore img other → beforeWalk img ≡ beforeWalk other
   pub needed : checkOf img ≡ 0 → beforeWalk img ≡ true
+
+-- ── diagnose ──
+
+-- The number is the check's; of an image of the right length the stage is 0 exactly where that is 0; there are zeros where it is not 3; and the stage is the
+-- walk's exactly where the part before the walk passes.
+pub record DiagnoseExact (img : List ℕ) : Type 0 where
+  pub number : diagnoseOf img .number ≡ checkOf img
+  pub stage : lengthOk (length img) ≡ true → (diagnoseOf img .stage ≡ 0) ↔ (checkOf img ≡ 0)
+  pub zeros : (checkOf img ≡ notPassed → ⊥) → diagnoseOf img ≡ diagnosis (checkOf img) noFault
+  pub walk : checkOf img ≡ notPassed → (diagnoseOf img .stage ≡ 3) ↔ (beforeWalk img ≡ true)
+
+-- ── walk ──
+
+-- A node's entry by Find and Read: its level, the place that Find gives for its path, and what Read gives there.
+abbrev pub entryBy : (img : List ℕ) → Node → List ℕ
+entryBy img n =
+    let x = findOf img (pathBytes (n .path)) .place in
+    entry (1 + length (n .path)) x (readOf img x)
+
+-- A walk from the root with a buffer that takes all entries: the nodes of the tree in document order, each as Find and Read give it.
+abbrev pub WalkWhole : Type 0
+WalkWhole = (img : List ℕ) (t : Tree) (buffer : List ℕ) → treeOn img ≡ some t
+    → let all = joined (map (entryBy img) (nodes t)) in
+    length all ≤ length buffer
+    → walkOf img (record { page = 1; offset = 0 }) buffer
+    ≡ (record { number = 0; written = length (nodes t); more = 0; next = noPlace }, all ++ drop (length all) buffer)
 
 -- ── step 1 ──
 

@@ -6,6 +6,7 @@ pub mod Growth
 pub mod Removal
 pub mod Reading
 pub mod BeforeWalk
+pub mod WalkTests
 pub mod Answers
 pub mod Common
 pub mod Effect

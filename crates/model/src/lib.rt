@@ -184,6 +184,22 @@ pub struct WriteAnswer {
     pub written: usize,
 }
 
+// Of walk: how many entries were written, 1 if more nodes follow, else 0, and the place of the first that was not written.
+pub struct WalkAnswer {
+    pub number: u32,
+    pub written: usize,
+    pub more: u32,
+    pub next: Place,
+}
+
+// Of diagnose: the check's number, and where that is 3 the stage, the page at fault and the reason.
+pub struct Diagnosis {
+    pub number: u32,
+    pub stage: u32,
+    pub page: usize,
+    pub reason: u32,
+}
+
 // Of read: the content is the part of the image that starts at `start` and has `len` bytes.
 pub struct ReadNode {
     pub number: u32,

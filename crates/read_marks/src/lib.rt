@@ -10,7 +10,8 @@ ghost use Prim.Native.Nat.{_+_, _*_, _≤_, _<_};
 ghost use lib.ListN.{length};
 ghost use Rattle.model.specs.Limits.{mostPages, pageSize, capacity};
 ghost use Rattle.model.specs.Reading.{usedAt};
-ghost use Rattle.theory_check.specs.Tests.{isMarked, marked, namesOf, rootFits, tailZero};
+ghost use Rattle.model.specs.WalkTests.{namesOf, rootFits, tailZero};
+ghost use Rattle.theory_check.specs.Tests.{isMarked, marked};
 ghost use Rattle.theory_check.specs.Walk.{state, entersOf};
 ghost use Rattle.theory_check.specs.Check.{PassedBefore};
 

@@ -13,7 +13,7 @@ use Rattle.model.specs.Row.{mayStand}
 use Rattle.model.specs.Reading.{twoAt, headAt, sizeAt}
 use Rattle.theory_decoding.specs.Valid.{both as and-both}
 use Rattle.theory_check.specs.Steps.{passing, size-long}
-use Rattle.theory_check.specs.Tests.{wholeSize, passingKind, shapeOf}
+use Rattle.model.specs.WalkTests.{wholeSize, passingKind, shapeOf}
 use Rattle.theory_check.specs.Facts.{no}
 use Rattle.read_nodes.specs.Leaf.{standsOf, aggregateOf, literalOf}
 

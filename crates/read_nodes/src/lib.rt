@@ -11,7 +11,7 @@ ghost use lib.ListN.{length};
 ghost use lib.Dec.{leb};
 ghost use Rattle.model.specs.Limits.{mostLevels, mostOrigin};
 ghost use Rattle.model.specs.Reading.{headAt};
-ghost use Rattle.theory_check.specs.Tests.{wholeSize, twoChildren, bareHead, shapeOf, passingKind};
+ghost use Rattle.model.specs.WalkTests.{wholeSize, twoChildren, bareHead, shapeOf, passingKind};
 ghost use Rattle.read_nodes.specs.Leaf.{standsOf, aggregateOf, literalOf, Only};
 
 // The size of the node that the part starts with, 0 where no whole node stands there.

@@ -13,7 +13,7 @@ use Rattle.model.specs.Row.{nil}
 use Rattle.model.specs.Tree.{width}
 use Rattle.model.specs.Reading.{headAt}
 use Rattle.theory_check.specs.Steps.{list-none, list-more}
-use Rattle.theory_check.specs.Tests.{wholeSize}
+use Rattle.model.specs.WalkTests.{wholeSize}
 use Rattle.theory_check.specs.Walk.{State, Decoded, asAgg, before, nodeOf, listOf}
 use Rattle.theory_check.specs.Widths.{widthsAfter}
 use Rattle.theory_check.specs.Facts.{rest-is}

@@ -12,7 +12,7 @@ use Rattle.model.specs.Limits.{pageSize, capacity, markBytes}
 use Rattle.model.specs.Reading.{usedAt}
 use Rattle.model.specs.BeforeWalk.{pageCount, beforeWalk}
 use Rattle.theory_check.specs.Before.{first-used, used-fits}
-use Rattle.theory_check.specs.Tests.{tailZero}
+use Rattle.model.specs.WalkTests.{tailZero}
 use Rattle.theory_check.specs.Walk.{State, state, nodeOf}
 use Rattle.theory_check.specs.Check.{walkOf, walkOk}
 use Rattle.theory_check.specs.Widths.{widthsAfter}

@@ -14,8 +14,8 @@ use Rattle.model.specs.Row.{Head, nil, lit}
 use Rattle.model.specs.Tree.{width}
 use Rattle.model.specs.Reading.{usedAt, settledAt, headAt, nameAt}
 use Rattle.theory_rows.specs.Laws.{width-⊹}
-use Rattle.theory_check.specs.Tests.{wholeSize, passingKind}
-use Rattle.theory_check.specs.Walk.{State, state, node, list, withMark, entersOf, Decoded, stop, recordOf, asAgg, asRec, before, proxyStep, nodeStep}
+use Rattle.model.specs.WalkTests.{wholeSize, passingKind, recordOf}
+use Rattle.theory_check.specs.Walk.{State, state, node, list, withMark, entersOf, Decoded, stop, asAgg, asRec, before, proxyStep, nodeStep}
 use Rattle.theory_check.specs.Walk.{listStep, decode, nodeOf, listOf, proxyOf}
 use Rattle.theory_check.specs.Widths.{widthsAfter, widths-⊹}
 use Rattle.theory_check.specs.Bounds.{decoded-wide}

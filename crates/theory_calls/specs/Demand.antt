@@ -8,7 +8,7 @@ use Rattle.model.specs.Tree.{Tree, shown}
 use Rattle.model.specs.Reading.{Reads}
 use Rattle.model.specs.Common.{treeOn}
 use Rattle.model.specs.Effect.{Effect, feedOf, handedOf}
-use Rattle.model.specs.Calls.{Call, format, check, insert, remove, find, climb, read, next, records}
+use Rattle.model.specs.Calls.{Call, format, check, insert, remove, find, climb, read, next, records, walk, diagnose}
 use Rattle.model.specs.Claims.{Matches, CallHolds, Calls, Agrees, Orders, Demand3}
 use Rattle.theory_calls.specs.Open.{opens, passing}
 use Rattle.theory_calls.specs.Matches.{image-matches}
@@ -21,6 +21,8 @@ use Rattle.theory_calls.specs.Climb.{climb-holds}
 use Rattle.theory_calls.specs.Read.{read-holds}
 use Rattle.theory_calls.specs.Next.{next-holds}
 use Rattle.theory_calls.specs.Records.{records-holds}
+use Rattle.theory_calls.specs.Walk.{walk-holds}
+use Rattle.theory_calls.specs.Diagnose.{diagnose-holds}
 
 -- An image that matches a tree reads as a store that shows it.
 pub record Reading (img : List ℕ) (t : Tree) : Type 0 where
@@ -50,6 +52,8 @@ module _ (order : (img buffer : List ℕ) → List ℕ) (o : Orders order) where
   one-call img st root r c (read x) y = read-holds order img st root r x
   one-call img st root r c (next x) y = next-holds order img st root r x
   one-call img st root r c (records buffer) y = records-holds order o img st root r buffer
+  one-call img st root r c (walk x buffer) y = walk-holds order img st root r x buffer
+  one-call img st root r c diagnose y = diagnose-holds order img st root r
 
   pub call-holds : (img : List ℕ) (t : Tree) → Matches img t → (c : Effect) → Call order c → c .Typed → CallHolds order img t c
   call-holds img t s c k y =

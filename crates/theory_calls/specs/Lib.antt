@@ -15,6 +15,8 @@ pub mod Climb
 pub mod Read
 pub mod Next
 pub mod Records
+pub mod Walk
+pub mod Diagnose
 pub mod Demand
 pub mod OldImages
 pub mod Navigate

@@ -38,7 +38,7 @@ abbrev pub NoNode : Row → Place → Type 0
 NoNode root x = (n : Node) → Mem n (nodes (shown root)) → placeOf root (n .path) ≡ some x → ⊥
 
 -- What a place finds is the end of the list.
-from-suffix : (place : List ℕ → Option Place) (x : Place) (ns ms : List Node) → fromPlace place x ns ≡ ms → (before : List Node) × (ns ≡ before ++ ms)
+pub from-suffix : (place : List ℕ → Option Place) (x : Place) (ns ms : List Node) → fromPlace place x ns ≡ ms → (before : List Node) × (ns ≡ before ++ ms)
 unfolding fromPlace
 from-suffix place x [] ms e = ([], e)
 from-suffix place x (n ∷ ns) ms e = go (isPlace x (place (n .path))) e (from-suffix place x ns ms)

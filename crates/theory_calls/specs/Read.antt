@@ -29,7 +29,7 @@ use Rattle.theory_calls.specs.Pieces.{literal-content}
 
 module _ (img : List ℕ) (st : Config) (root : Row) (r : Reads img st root) (x : Place) where
   -- A node's content stands where its place says.
-  part : (n : Node) → Mem n (nodes (shown root)) → placeOf root (n .path) ≡ some x
+  pub part : (n : Node) → Mem n (nodes (shown root)) → placeOf root (n .path) ≡ some x
       → take (length (n .content)) (drop (cond (eqb (length (n .content)) 0) 0 (pageSize * x .page + x .offset + 6)) img) ≡ n .content
   part n m e = go (eqb (length (n .content)) 0) refl
     where

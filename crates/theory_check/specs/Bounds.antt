@@ -10,8 +10,8 @@ use Rattle.model.specs.Tree.{width}
 use Rattle.model.specs.Reading.{usedAt, nameAt}
 use Rattle.theory_rows.specs.Laws.{width-⊹, cond-case}
 use Rattle.theory_check.specs.Rec.{keeps}
-use Rattle.theory_check.specs.Tests.{wholeSize, passingKind}
-use Rattle.theory_check.specs.Walk.{State, withMark, entersOf, Decoded, Job, node, list, measure, stop, none, recordOf, step, proxyStep, nodeStep}
+use Rattle.model.specs.WalkTests.{wholeSize, passingKind, recordOf}
+use Rattle.theory_check.specs.Walk.{State, withMark, entersOf, Decoded, Job, node, list, measure, stop, none, step, proxyStep, nodeStep}
 use Rattle.theory_check.specs.Walk.{moreStep, listStep, decode}
 use Rattle.theory_check.specs.Facts.{both}
 use Rattle.theory_check.specs.Steps.{from, head-long, size-long, entered, length-part}

@@ -9,8 +9,9 @@ use Rattle.model.specs.Limits.{mostPages, pageSize, markBytes}
 use Rattle.model.specs.Reading.{lengthOk, pageOf, kindAt}
 use Rattle.model.specs.BeforeWalk.{trailerOf, isFree, pageCount, beforeWalk}
 use Rattle.theory_check.specs.Sums.{sum}
-use Rattle.theory_check.specs.Tests.{tailZero, stateOf}
-use Rattle.theory_check.specs.Walk.{state, Decoded, recordOf, nodeOf}
+use Rattle.model.specs.WalkTests.{tailZero, recordOf}
+use Rattle.theory_check.specs.Tests.{stateOf}
+use Rattle.theory_check.specs.Walk.{state, Decoded, nodeOf}
 
 -- 1 for a page in use.
 abbrev pub inUse : (img : List ℕ) → (q : ℕ) → ℕ

@@ -18,7 +18,8 @@ use Rattle.theory_decoding.specs.Steps.{recordCount}
 use Rattle.theory_decoding.specs.Length.{length-image, image-length-ok}
 use Rattle.theory_decoding.specs.Decode.{stored-image}
 use Rattle.theory_decoding.specs.Reading.{reads-valid}
-use Rattle.theory_check.specs.Walk.{state, Decoded, recordOf, nodeOf}
+use Rattle.model.specs.WalkTests.{recordOf}
+use Rattle.theory_check.specs.Walk.{state, Decoded, nodeOf}
 use Rattle.theory_check.specs.Check.{trailersOf, walkOf, walkOk, checkBy}
 use Rattle.theory_check.specs.Before.{before-each}
 use Rattle.theory_check.specs.Marks.{marks-none, none-marked}

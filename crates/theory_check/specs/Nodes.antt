@@ -13,7 +13,7 @@ use Rattle.model.specs.Reading.{twoAt, sizeAt}
 use Rattle.theory_rows.specs.Laws.{length-bytes, isNil-nil, ⊹-nil}
 use Rattle.theory_rows.specs.Fits.{Shape, one, more, RecordFits, HeadFits}
 use Rattle.theory_decoding.specs.Decode.{two-bytes}
-use Rattle.theory_check.specs.Tests.{wholeSize, twoChildren, bareHead, shapeOf, passingKind}
+use Rattle.model.specs.WalkTests.{wholeSize, twoChildren, bareHead, shapeOf, passingKind}
 use Rattle.theory_check.specs.Walk.{State, Decoded, asAgg, before, nodeStep, nodeOf, listOf, proxyOf}
 use Rattle.theory_check.specs.Steps.{node-eq, list-none, list-more}
 

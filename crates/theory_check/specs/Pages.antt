@@ -17,8 +17,9 @@ use Rattle.theory_growth.specs.Store.{settled-lone}
 use Rattle.theory_rows.specs.Image.{length-record}
 use Rattle.theory_decoding.specs.Valid.{ranges-say}
 use Rattle.theory_decoding.specs.Decode.{two-bytes, getD-past, in-trailer, settled-page, used-page, take-page}
-use Rattle.theory_check.specs.Tests.{isMarked, namesOf, rootFits, tailZero}
-use Rattle.theory_check.specs.Walk.{State, withMark, asRec, recordOf, entersOf, proxyStep, proxyOf, nodeOf}
+use Rattle.model.specs.WalkTests.{namesOf, rootFits, tailZero, recordOf}
+use Rattle.theory_check.specs.Tests.{isMarked}
+use Rattle.theory_check.specs.Walk.{State, withMark, asRec, entersOf, proxyStep, proxyOf, nodeOf}
 use Rattle.theory_check.specs.Parts.{tail-part}
 
 zeros : (n : ℕ) → allZero (replicate n 0) ≡ true

@@ -13,8 +13,7 @@ use Rattle.model.specs.Limits.{pageSize, capacity}
 use Rattle.model.specs.Row.{Row, recordBytes, recordPage, recordOn}
 use Rattle.model.specs.Reading.{twoAt, pageOf, stateAt, usedAt, backAt, settledAt}
 use Rattle.model.specs.BeforeWalk.{allZero, trailerOf, isFree}
-use Rattle.theory_check.specs.Tests.{tailZero}
-use Rattle.theory_check.specs.Walk.{recordOf}
+use Rattle.model.specs.WalkTests.{tailZero, recordOf}
 use Rattle.theory_check.specs.Heads.{AllBytes, all-take, all-drop}
 use Rattle.theory_check.specs.Trailers.{TrailerIs, record-page}
 

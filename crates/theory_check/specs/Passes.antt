@@ -12,8 +12,8 @@ use Rattle.model.specs.Limits.{pageSize, mostLevels}
 use Rattle.model.specs.Row.{Row, nil, agg, lit, rec, _⊹_}
 use Rattle.model.specs.Reading.{usedAt, settledAt, headAt, nameAt}
 use Rattle.theory_rows.specs.Laws.{cond-case}
-use Rattle.theory_check.specs.Tests.{wholeSize, passingKind}
-use Rattle.theory_check.specs.Walk.{State, withMark, entersOf, Decoded, Job, node, list, measure, stop, recordOf, proxyStep, nodeStep, moreStep}
+use Rattle.model.specs.WalkTests.{wholeSize, passingKind, recordOf}
+use Rattle.theory_check.specs.Walk.{State, withMark, entersOf, Decoded, Job, node, list, measure, stop, proxyStep, nodeStep, moreStep}
 use Rattle.theory_check.specs.Walk.{listStep, decode, listOf, proxyOf}
 use Rattle.theory_check.specs.Steps.{Entered, entered, length-part, less, size-long, node-eq, list-eq, passing}
 use Rattle.theory_check.specs.Heads.{AllBytes, all-drop, all-take, PassingNode}

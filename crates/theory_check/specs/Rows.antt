@@ -19,8 +19,8 @@ use Rattle.theory_rows.specs.Bound.{Fits-⊹}
 use Rattle.theory_rows.specs.Image.{length-record}
 use Rattle.theory_decoding.specs.Valid.{both as and-both}
 use Rattle.theory_check.specs.Facts.{no}
-use Rattle.theory_check.specs.Tests.{wholeSize, bareHead, shapeOf, twoChildren, rootFits}
-use Rattle.theory_check.specs.Walk.{State, Job, node, list, recordOf}
+use Rattle.model.specs.WalkTests.{wholeSize, bareHead, shapeOf, twoChildren, rootFits, recordOf}
+use Rattle.theory_check.specs.Walk.{State, Job, node, list}
 use Rattle.theory_check.specs.Steps.{length-part}
 use Rattle.theory_check.specs.Heads.{PassingNode, two-at, two-low, is-byte, all-drop, header-is}
 use Rattle.theory_check.specs.Passes.{Passes, proxy, helper, literal, aggregate, empty, next}

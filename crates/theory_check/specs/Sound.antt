@@ -17,8 +17,9 @@ use Rattle.theory_rows.specs.Image.{placed-once}
 use Rattle.theory_decoding.specs.Valid as valid
 use Rattle.theory_decoding.specs.Valid.{valid-holds}
 use Rattle.theory_check.specs.Facts.{bit-low, not-else}
-use Rattle.theory_check.specs.Tests.{isMarked, tailZero}
-use Rattle.theory_check.specs.Walk.{State, state, recordOf, node}
+use Rattle.model.specs.WalkTests.{tailZero, recordOf}
+use Rattle.theory_check.specs.Tests.{isMarked}
+use Rattle.theory_check.specs.Walk.{State, state, node}
 use Rattle.theory_check.specs.Check.{inUse, trailersOf, walkOf, walkOk, checkBy}
 use Rattle.theory_check.specs.Before.{before-says, first-used, used-fits, trailers-are}
 use Rattle.theory_check.specs.Marks.{marks-none}

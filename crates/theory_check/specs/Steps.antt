@@ -14,8 +14,9 @@ use Rattle.model.specs.Limits.{mostPages, pageSize, capacity, mostLevels, mostO
 use Rattle.model.specs.Reading.{sizeAt, usedAt, stateAt, settledAt, headAt, nameAt, backAt, kindAt}
 use Rattle.theory_decoding.specs.Valid.{both as and-both}
 use Rattle.theory_check.specs.Rec.{under, unfold', keeps}
-use Rattle.theory_check.specs.Tests.{wholeSize, passingKind, namesOf, rootFits, tailZero, isMarked, shapeOf}
-use Rattle.theory_check.specs.Walk.{State, withMark, entersOf, Decoded, Job, node, list, measure, stop, none, recordOf, asAgg, asRec, step, proxyStep}
+use Rattle.model.specs.WalkTests.{wholeSize, passingKind, namesOf, rootFits, tailZero, shapeOf, recordOf}
+use Rattle.theory_check.specs.Tests.{isMarked}
+use Rattle.theory_check.specs.Walk.{State, withMark, entersOf, Decoded, Job, node, list, measure, stop, none, asAgg, asRec, step, proxyStep}
 use Rattle.theory_check.specs.Walk.{nodeStep, moreStep, listStep, decode, nodeOf, listOf, proxyOf, before}
 use Rattle.theory_check.specs.Facts.{both, arms, not-else}
 

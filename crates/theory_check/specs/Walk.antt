@@ -8,7 +8,8 @@ use Rattle.model.specs.Limits.{pageSize, mostLevels}
 use Rattle.model.specs.Row.{Head, Row, nil, agg, lit, rec, _⊹_}
 use Rattle.model.specs.Reading.{headAt, nameAt, usedAt, settledAt}
 use Rattle.theory_check.specs.Rec.{run}
-use Rattle.theory_check.specs.Tests.{wholeSize, passingKind, isMarked, marked, namesOf, rootFits, tailZero}
+use Rattle.model.specs.WalkTests.{wholeSize, passingKind, namesOf, rootFits, tailZero, recordOf}
+use Rattle.theory_check.specs.Tests.{isMarked, marked}
 
 -- The state of the walk: 0 where it is refused, else one more than the record pages still to be reached; and a mark for each page.
 pub record State : Type 0 where
@@ -48,10 +49,6 @@ stop w = record { row = nil; walk = refusedOf w }
 abbrev pub none : Job → Decoded
 none (node s page holder level w) = stop w
 none (list s page holder level w) = stop w
-
--- The bytes of the record on page p.
-abbrev pub recordOf : List ℕ → (p : ℕ) → List ℕ
-recordOf img p = take (usedAt img (pageSize * p)) (drop (pageSize * p) img)
 
 abbrev pub asAgg : Head → Decoded → Decoded
 asAgg h d = record { row = agg h (d .row) nil; walk = d .walk }

@@ -9,7 +9,7 @@ use lib.Dec.{leb}
 use Rattle.model.specs.Limits.{mostPages, pageSize, capacity}
 use Rattle.model.specs.Reading.{usedAt}
 use Rattle.theory_decoding.specs.Valid.{both as and-both}
-use Rattle.theory_check.specs.Tests.{namesOf}
+use Rattle.model.specs.WalkTests.{namesOf}
 use Rattle.theory_check.specs.Walk.{entersOf}
 use Rattle.theory_check.specs.Facts.{passes, fails}
 use Rattle.read_marks.proofs.enters.Statement.{statement}

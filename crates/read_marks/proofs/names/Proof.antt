@@ -5,7 +5,7 @@ use lib.ListN.{length}
 use denote.Ref.{now}
 use borrow.Author.Tests.{le-leb, lt-leb, lt-ltb, eq-eqb, ne-eqb}
 use Rattle.model.specs.Limits.{mostPages, pageSize, capacity}
-use Rattle.theory_check.specs.Tests.{namesOf}
+use Rattle.model.specs.WalkTests.{namesOf}
 use Rattle.theory_check.specs.Before.{used-fits}
 use Rattle.theory_check.specs.Parts.{in-use}
 use Rattle.read_marks.proofs.names.Statement.{statement}

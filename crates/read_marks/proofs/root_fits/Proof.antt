@@ -1,6 +1,6 @@
 use borrow.Author.Needs.{needs}
 use borrow.Author.Tests.{eq-eqb, ne-eqb}
-use Rattle.theory_check.specs.Tests.{rootFits}
+use Rattle.model.specs.WalkTests.{rootFits}
 use Rattle.read_marks.proofs.root_fits.Statement.{statement}
 use Rattle.read_marks.proofs.root_fits.Tie as tie
 

@@ -7,7 +7,7 @@ use denote.Ref.{now}
 use borrow.Author.Needs.{needs}
 use Rattle.model.specs.Limits.{pageSize, capacity}
 use Rattle.model.specs.BeforeWalk.{allZero}
-use Rattle.theory_check.specs.Tests.{tailZero}
+use Rattle.model.specs.WalkTests.{tailZero}
 use Rattle.read_marks.proofs.tail_zero.Statement.{statement}
 use Rattle.read_marks.proofs.tail_zero.Tie as tie
 

@@ -1,5 +1,5 @@
 use borrow.Author.Needs.{needs}
-use Rattle.theory_check.specs.Tests.{bareHead}
+use Rattle.model.specs.WalkTests.{bareHead}
 use Rattle.read_nodes.specs.Leaves.{both-zero}
 use Rattle.read_nodes.proofs.bare.Statement.{statement}
 use Rattle.read_nodes.proofs.bare.Tie as tie

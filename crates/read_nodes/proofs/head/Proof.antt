@@ -2,7 +2,7 @@ use mathlib.Core.Bool.{and-false}
 use borrow.Author.Needs.{needs}
 use borrow.Author.Tests.{le-leb, lt-leb, eq-eqb, ne-eqb}
 use Rattle.theory_check.specs.Facts.{passes, fails}
-use Rattle.theory_check.specs.Tests.{passingKind}
+use Rattle.model.specs.WalkTests.{passingKind}
 use Rattle.read_nodes.proofs.head.Statement.{statement}
 use Rattle.read_nodes.proofs.head.Tie as tie
 

@@ -3,7 +3,7 @@ use denote.Ref.{now}
 use borrow.Author.Needs.{needs}
 use borrow.Author.Tests.{eq-eqb, ne-eqb}
 use Rattle.theory_check.specs.Facts.{rest-is, passes, fails}
-use Rattle.theory_check.specs.Tests.{shapeOf, twoChildren}
+use Rattle.model.specs.WalkTests.{shapeOf, twoChildren}
 use Rattle.read_nodes.proofs.shaped.Statement.{statement}
 use Rattle.read_nodes.proofs.shaped.Tie as tie
 

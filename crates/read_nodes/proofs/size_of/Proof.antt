@@ -1,7 +1,7 @@
 use mathlib.Core.Bool.{and-false}
 use borrow.Author.Needs.{needs}
 use borrow.Author.Tests.{le-leb, lt-leb}
-use Rattle.theory_check.specs.Tests.{wholeSize}
+use Rattle.model.specs.WalkTests.{wholeSize}
 use Rattle.read_nodes.proofs.size_of.Statement.{statement}
 use Rattle.read_nodes.proofs.size_of.Tie as tie
 

@@ -1,6 +1,6 @@
 use borrow.Author.Needs.{needs}
 use borrow.Author.Tests.{eq-eqb, ne-eqb}
-use Rattle.theory_check.specs.Tests.{twoChildren}
+use Rattle.model.specs.WalkTests.{twoChildren}
 use Rattle.read_nodes.proofs.two_children.Statement.{statement}
 use Rattle.read_nodes.proofs.two_children.Tie as tie
 

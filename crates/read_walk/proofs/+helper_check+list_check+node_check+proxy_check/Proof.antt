@@ -10,7 +10,7 @@ use borrow.Fn.Kinds.{In}
 use borrow.Fn.PlainCycle.{Measures, is, falls, and}
 use Rattle.model.specs.Limits.{pageSize}
 use Rattle.model.specs.Row.{nil}
-use Rattle.theory_check.specs.Tests.{wholeSize}
+use Rattle.model.specs.WalkTests.{wholeSize}
 use Rattle.theory_check.specs.Walk.{State, state, node, Decoded, listOf, proxyOf}
 use Rattle.theory_check.specs.Facts.{rest-is, passes, fails}
 use Rattle.theory_check.specs.Steps.{less, length-part, list-none}
