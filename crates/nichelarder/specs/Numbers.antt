@@ -5,6 +5,7 @@ use Rattle.model.specs.declared.Settings.{Settings}
 use Rattle.model.specs.declared.Place.{Place}
 use Rattle.model.specs.declared.ReadNode.{ReadNode}
 use Rattle.model.specs.declared.InsertAnswer.{InsertAnswer}
+use Rattle.model.specs.declared.WalkAnswer.{WalkAnswer}
 
 abbrev pub settings : (pages target tolerance form : ℕ) → Settings
 settings p t o f = record { pages = p; target = t; tolerance = o; form = f }
@@ -19,3 +20,7 @@ readNumbers r = r .kind ∷ r .label ∷ r .children ∷ r .start ∷ r .len ∷
 -- Page and offset of the new node, records split.
 abbrev pub insertNumbers : InsertAnswer → List ℕ
 insertNumbers a = a .place .page ∷ a .place .offset ∷ a .splits ∷ []
+
+-- Entries written, 1 if more nodes follow, page and offset of the next.
+abbrev pub walkNumbers : WalkAnswer → List ℕ
+walkNumbers a = a .written ∷ a .more ∷ a .next .page ∷ a .next .offset ∷ []

@@ -1,16 +1,16 @@
 -- Every number that a call answers has 32 bits.
-use mathlib.Core.Path.{_≡_, refl}
+use mathlib.Core.Path.{_≡_, refl, ap}
 use mathlib.Core.Bool.{Bool, true, false, cond}
-use mathlib.Core.List.{List, [], _∷_, _++_}
+use mathlib.Core.List.{List, [], _∷_, _++_, map}
 use mathlib.Core.Option.{Option, none, some}
-use Prim.Native.Nat.{ℕ, _+_, _*_, _≤_, _<_}
+use Prim.Native.Nat.{ℕ, _+_, _*_, _/_, _≤_, _<_}
 use native.Mathlib.Omega.{arith}
 use borrow.Author.Tests.{eqb-true, eqb-false}
-use lib.ListN.{length}
+use lib.ListN.{length, take, drop, length-append, length-take, length-map}
 use lib.Dec.{ltb, eqb}
 use Rattle.model.specs.Limits.{mostPages, pageSize, mostBytes, longestPath}
-use Rattle.model.specs.Row.{Row, image, Config}
-use Rattle.model.specs.Tree.{shown, New, Node, nodes, placeOf, fromPlace}
+use Rattle.model.specs.Row.{Row, nil, agg, lit, rec, image, Config}
+use Rattle.model.specs.Tree.{shown, breadth, New, Node, below, further, nodes, placeOf, fromPlace}
 use Rattle.model.specs.Reading.{Reads}
 use Rattle.model.specs.Answers.{firstRefusal, insertRefused}
 use Rattle.model.specs.Common.{isNone, namedBy, placeOr, pathOf, pathBytes, write, recordPages}
@@ -21,6 +21,7 @@ use Rattle.model.specs.Calls.Climb.{climbIn, climbFrom, climbOf}
 use Rattle.model.specs.Calls.Read.{readOf}
 use Rattle.model.specs.Calls.Next.{nextIn, nextFrom, nextOf}
 use Rattle.model.specs.Calls.Records.{pageBytes, recordsOf}
+use Rattle.model.specs.Calls.Walk.{walkAnswer, walkFrom, walkIn, walkOf}
 use Rattle.model.specs.declared.Place.{Place}
 use Rattle.model.specs.declared.Next.{Next}
 use Rattle.model.specs.declared.Next.the-variants as next-is
@@ -29,19 +30,22 @@ use Rattle.model.specs.declared.WriteAnswer.{WriteAnswer}
 use Rattle.model.specs.Growth.{Out}
 use Rattle.model.specs.Claims.{InLean}
 use Rattle.model.specs.declared.InsertAnswer.{InsertAnswer}
+use Rattle.model.specs.declared.WalkAnswer.{WalkAnswer}
 use Rattle.theory_rows.specs.Fits.{IsByte}
 use Rattle.theory_decoding.specs.Valid.{bytes-hold}
+use Rattle.theory_decoding.specs.Steps.{steps, few-steps}
 use Rattle.theory_calls.specs.Growth.{growth}
 use Rattle.theory_rows.specs.Laws.{cond-case}
 use Rattle.theory_rows.specs.Keeps.{height-shown}
 use Rattle.theory_decoding.specs.Reading.{reads-valid, reads-length}
 use Rattle.theory_places.specs.Inside.{place-inside}
-use Rattle.theory_places.specs.Order.{one-root}
+use Rattle.theory_places.specs.Order.{one-root, nodes-⊞}
 use Rattle.theory_places.specs.Named.{in-tree}
 use Rattle.theory_places.specs.From.{from-stands}
 use Rattle.theory_places.specs.Pages.{pages-few}
 use Rattle.theory_calls.specs.Open.{opens, passing, refuses}
 use Rattle.theory_calls.specs.Paths.{path-levels}
+use Rattle.theory_calls.specs.Navigate.{from-suffix}
 use Rattle.theory_calls.specs.Pieces.{same-length}
 use Rattle.theory_calls.specs.Records.{length-pageBytes}
 use Rattle.read_records.specs.Up.{upPages}
@@ -162,6 +166,68 @@ records-small img buffer = by-store _ img (λ n z e. records-zero img n z e (upP
 
 pub read-small : (img : List ℕ) (x : Place) → readOf img x .start + readOf img x .len ≤ mostBytes
 read-small img x = by-store _ img (λ n z e. read-zero img n z e x) (λ st root r. read-start-small img st root r x)
+
+-- ── walk ──
+
+-- A row shows fewer nodes than a walk over it takes steps.
+nodes-few : (row : Row) → length (nodes (shown row)) ≤ steps row
+nodes-few nil = omega arith
+nodes-few (agg h cs rest) =
+    let a = map below (nodes (shown cs)) in
+    let b = map (further 1) (nodes (shown rest)) in
+    omega (arith, length-append a b, length-map (nodes (shown cs)) below, length-map (nodes (shown rest)) (further 1), nodes-few cs, nodes-few rest)
+nodes-few (lit h c rest) = omega (arith, length-map (nodes (shown rest)) (further 1), nodes-few rest)
+nodes-few (rec p s r rest) =
+    let k = further (breadth (shown r)) in
+    omega (
+      arith,
+      ap length (nodes-⊞ (shown r) (shown rest)),
+      length-append (nodes (shown r)) (map k (nodes (shown rest))),
+      length-map (nodes (shown rest)) k,
+      nodes-few r,
+      nodes-few rest,
+    )
+
+take-fewer : {A : Type 0} (k : ℕ) (l : List A) → length (take k l) ≤ length l
+take-fewer k l = omega (arith, length-take k l)
+
+pub record SmallWalk (a : WalkAnswer) : Type 0 where
+  pub written : a .written ≤ mostBytes
+  pub next : SmallPlace (a .next)
+
+module _ (img : List ℕ) (x : Place) (buffer : List ℕ) where
+  walked-small : (st : Config) (root : Row) → Reads img st root → SmallWalk (walkOf img x buffer .0)
+  unfolding walkOf walkIn
+  walked-small st root r =
+      let v = reads-valid img st root r in
+      let s = from-suffix (placeOf root) x (nodes (shown root)) (fromPlace (placeOf root) x (nodes (shown root))) refl in
+      let few : length (fromPlace (placeOf root) x (nodes (shown root))) ≤ mostBytes =
+      omega (
+        arith,
+        ap length (s .1),
+        length-append (s .0) (fromPlace (placeOf root) x (nodes (shown root))),
+        nodes-few root,
+        few-steps st root v,
+        v .ranges .many,
+      ) in
+      rw (opens img st root r) (go (fromPlace (placeOf root) x (nodes (shown root))) few)
+    where
+      left : (k : ℕ) → k ≤ mostBytes → (ns : List Node) → SmallWalk (walkAnswer (placeOf root) k ns)
+      left k h [] = record { written = h; next = no-place }
+      left k h (n ∷ ns) = record { written = h; next = small-place img st root r (n .path) }
+
+      go : (ns : List Node) → length ns ≤ mostBytes → SmallWalk (walkFrom (placeOf root) ns buffer .0)
+      go [] h = record { written = omega arith; next = no-place }
+      go (n ∷ ns) h =
+          let k = length buffer / 9 in
+          left (length (take k (n ∷ ns))) (omega (arith, take-fewer k (n ∷ ns))) (drop k (n ∷ ns))
+
+  walk-zero : (n : ℕ) → (n ≡ 0 → ⊥) → checkOf img ≡ n → SmallWalk (walkOf img x buffer .0)
+  unfolding walkOf
+  walk-zero n z e = rw (refuses img n e z) (record { written = omega arith; next = no-place })
+
+  pub walk-small : SmallWalk (walkOf img x buffer .0)
+  walk-small = by-store _ img walk-zero walked-small
 
 -- ── insert ──
 

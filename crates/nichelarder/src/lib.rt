@@ -14,8 +14,9 @@ ghost use Rattle.model.specs.Calls.Climb.{climbOf};
 ghost use Rattle.model.specs.Calls.Read.{readOf};
 ghost use Rattle.model.specs.Calls.Next.{nextOf};
 ghost use Rattle.model.specs.Calls.Records.{recordsOf};
+ghost use Rattle.model.specs.Calls.Walk.{walkOf};
 ghost use Rattle.read_records.specs.Up.{upPages};
-ghost use Rattle.nichelarder.specs.Numbers.{settings, insertNumbers, placeNumbers, readNumbers};
+ghost use Rattle.nichelarder.specs.Numbers.{settings, insertNumbers, placeNumbers, readNumbers, walkNumbers};
 ghost use Rattle.nichelarder.specs.Small.{SmallNext};
 
 #[no_mangle]
@@ -187,5 +188,32 @@ pub extern "C" fn nl_records(image: &[u8], pages: &mut [u8], written: &mut u32) 
 {
     let a = store::records(image, pages);
     *written = a.written as u32;
+    a.number
+}
+
+#[no_mangle]
+pub extern "C" fn nl_walk(
+    image: &[u8],
+    page: u32,
+    offset: u32,
+    entries: &mut [u32],
+    answer: &mut [u32; 4],
+) -> u32
+    ensures number { λ r. ⌜ r ≡ walkOf (now (image .entry)) (record { page = page; offset = offset }) (now (entries .entry)) .0 .number ⌝ }
+    ensures answer { λ _. ⌜ now (answer .exit)
+        ≡ walkNumbers (walkOf (now (image .entry)) (record { page = page; offset = offset }) (now (entries .entry)) .0) ⌝ }
+    ensures entries { λ _. ⌜ now (entries .exit) ≡ walkOf (now (image .entry)) (record { page = page; offset = offset }) (now (entries .entry)) .1 ⌝ }
+{
+    let x = Place {
+        page: page as usize,
+        offset: offset as usize,
+    };
+    let a = store::walk(image, x, entries);
+    *answer = [
+        a.written as u32,
+        a.more,
+        a.next.page as u32,
+        a.next.offset as u32,
+    ];
     a.number
 }

@@ -251,7 +251,7 @@ fn read_agg(image: &[u8], widths: &[u32; Settings::PAGES], pos: usize) -> ReadNo
 }
 
 // Where the content of a literal starts; an empty one has no place.
-fn content_at(pos: usize, len: usize) -> usize
+pub fn content_at(pos: usize, len: usize) -> usize
     requires { ⌜ pos < mostBytes ⌝ }
     ensures { λ r. ⌜ r ≡ cond (eqb len 0) 0 (pos + 6) ⌝ }
 {

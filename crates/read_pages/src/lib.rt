@@ -90,7 +90,7 @@ fn record_trailer(page: &[u8], pages: usize, p: usize) -> bool
 }
 
 // What page p is by its trailer and, where that says free, by its bytes: 0 against the rules, 1 free, 2 a record's.
-fn page_state(page: &[u8], pages: usize, p: usize) -> usize
+pub fn page_state(page: &[u8], pages: usize, p: usize) -> usize
     requires { ⌜ length (now page) ≡ pageSize ⌝ }
     ensures { λ r. ⌜ r ≡ stateOf pages p (now (page .entry)) ⌝ }
 {
@@ -123,7 +123,7 @@ fn numbers_on(page: &[u8]) -> Settings
 }
 
 // Whether page 0 holds settings, for an image of so many pages.
-fn settings_ok(page: &[u8], pages: usize) -> bool
+pub fn settings_ok(page: &[u8], pages: usize) -> bool
     requires { ⌜ length (now page) ≡ pageSize ⌝ }
     ensures { λ r. ⌜ r ≡ settingsOk (now (page .entry)) pages ⌝ }
 {

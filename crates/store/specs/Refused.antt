@@ -2,7 +2,7 @@
 use mathlib.Core.Path.{_≡_, sym}
 use mathlib.Core.List.{List}
 use Prim.Native.Nat.{ℕ}
-use Rattle.model.specs.Answers.{insertRefused, findRefused, writeRefused, readRefused, nextRefused}
+use Rattle.model.specs.Answers.{insertRefused, findRefused, writeRefused, readRefused, nextRefused, walkRefused}
 use Rattle.model.specs.Calls.Check.{checkOf}
 use Rattle.model.specs.Calls.Insert.{insertOf}
 use Rattle.model.specs.Calls.Remove.{removeOf}
@@ -11,6 +11,7 @@ use Rattle.model.specs.Calls.Climb.{climbOf}
 use Rattle.model.specs.Calls.Read.{readOf}
 use Rattle.model.specs.Calls.Next.{nextOf}
 use Rattle.model.specs.Calls.Records.{recordsOf}
+use Rattle.model.specs.Calls.Walk.{walkOf}
 use Rattle.model.specs.declared.Place.{Place}
 use Rattle.theory_calls.specs.Open.{refuses}
 
@@ -43,3 +44,7 @@ module _ (img : List ℕ) (n : ℕ) (e : n ≡ checkOf img) (z : n ≡ 0 → ⊥
   pub records-refused : (order buffer : List ℕ) → recordsOf order img buffer ≡ (writeRefused n, buffer)
   unfolding recordsOf
   records-refused order buffer = rw (refuses img n (sym e) z)
+
+  pub walk-refused : (x : Place) (buffer : List ℕ) → walkOf img x buffer ≡ (walkRefused n, buffer)
+  unfolding walkOf
+  walk-refused x buffer = rw (refuses img n (sym e) z)

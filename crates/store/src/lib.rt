@@ -6,6 +6,7 @@ use model::NextAnswer;
 use model::Place;
 use model::ReadNode;
 use model::Settings;
+use model::WalkAnswer;
 use model::WriteAnswer;
 ghost use mathlib.Core.Path.{_≡_};
 ghost use lib.ListN.{replicate};
@@ -19,6 +20,7 @@ ghost use Rattle.model.specs.Calls.Climb.{climbOf};
 ghost use Rattle.model.specs.Calls.Read.{readOf, partOf};
 ghost use Rattle.model.specs.Calls.Next.{nextOf};
 ghost use Rattle.model.specs.Calls.Records.{recordsOf};
+ghost use Rattle.model.specs.Calls.Walk.{walkOf};
 ghost use Rattle.theory_layout.specs.Widths.{Widths};
 ghost use Rattle.store.specs.Part.{slice, startIn, byteOf};
 ghost use Rattle.read_records.specs.Up.{upPages};
@@ -223,4 +225,22 @@ pub fn records(image: &[u8], buffer: &mut [u8]) -> WriteAnswer
         };
     }
     read_records::records_of(image, buffer)
+}
+
+// The nodes from a place on, in document order, nine numbers each, to the front of the lent buffer.
+pub fn walk(image: &[u8], place: Place, entries: &mut [u32]) -> WalkAnswer
+    ensures answer { λ r. ⌜ r ≡ walkOf (now (image .entry)) place (now (entries .entry)) .0 ⌝ }
+    ensures entries { λ _. ⌜ now (entries .exit) ≡ walkOf (now (image .entry)) place (now (entries .entry)) .1 ⌝ }
+{
+    let mut widths = [0u32; Settings::PAGES];
+    let n = check_widths(image, &mut widths);
+    if n != 0 {
+        return WalkAnswer {
+            number: n,
+            written: 0,
+            more: 0,
+            next: Place { page: 0, offset: 0 },
+        };
+    }
+    read_entries::walk_of(image, &widths, place, entries)
 }

@@ -1,0 +1,124 @@
+-- The walk from page 1 to its end, and the stages together.
+use mathlib.Core.Path.{_≡_, refl, sym, ap, _∙_}
+use mathlib.Core.Bool.{Bool, true, false, cond}
+use mathlib.Core.List.{List, []}
+use Prim.Native.Nat.{ℕ, zero, suc, _+_, _-_, _*_, _<_}
+use native.Mathlib.Omega.{arith}
+use lib.ListN.{length, getD, replicate}
+use lib.Dec.{eqb}
+use borrow.Author.Tests.{eq-eqb, ne-eqb, eqb-true, eqb-false}
+use Rattle.model.specs.Limits.{pageSize, markBytes}
+use Rattle.model.specs.Reading.{lengthOk, kindAt, pageOf}
+use Rattle.model.specs.BeforeWalk.{settingsOk, pagesFit, pageCount, beforeWalk}
+use Rattle.model.specs.Calls.Diagnose.{fault, noFault, settingsReason, pagesFault, notReached, into, rowWalk, unreached, walkEnd, recordCount, walkFault}
+use Rattle.model.specs.Calls.Diagnose.{faultOf, diagnosis, diagnoseOf}
+use Rattle.model.specs.Calls.Check.{checkOf}
+use Rattle.model.specs.Answers.{notPassed}
+use Rattle.theory_decoding.specs.Valid.{both as and-both}
+use Rattle.theory_check.specs.Sums.{sum}
+use Rattle.theory_check.specs.Check.{inUse, trailersOf, checkBy}
+use Rattle.theory_check.specs.Before.{first-used, used-fits, trailers-are}
+use Rattle.theory_check.specs.Exact.{exact}
+use Rattle.theory_check.specs.Marks.{marks-none, none-marked}
+use Rattle.theory_faults.specs.Exact.{no-fault, some-fault}
+use Rattle.base_ranges.specs.Long.{length-says}
+use Rattle.read_faults.specs.declared.Inner.{Inner}
+use Rattle.read_faults.specs.declared.Walked.{Walked}
+use Rattle.read_faults.specs.Answer.{answer}
+use Rattle.read_faults.specs.Pages.{pages-none, pages-some}
+use Rattle.read_faults.specs.Rows.{Matches, Holds, innerOf, LeadsTo, recordOn, Ended, walkOf, Ends}
+
+-- ── before the walk ──
+
+pub first-holds : (img : List ℕ) → lengthOk (length img) ≡ true → beforeWalk img ≡ true → Holds img 1
+first-holds img l e =
+    let k = length-says (length img) l in
+    record {
+      few = omega arith;
+      on = omega (arith, k .few, k .whole);
+      used = used-fits img 1 e (omega arith) (omega (arith, k .few)) (first-used img (k .few) e);
+    }
+
+count-sum : (img : List ℕ) (k p : ℕ) → recordCount img k p ≡ sum (inUse img) k p
+unfolding recordCount
+count-sum img zero p = refl
+count-sum img (suc k) p = omega (arith, count-sum img k (suc p))
+
+pub count-trailers : (img : List ℕ) → beforeWalk img ≡ true → trailersOf img ≡ recordCount img (pageCount img - 1) 1
+count-trailers img e = trailers-are img e ∙ sym (count-sum img (pageCount img - 1) 1)
+
+-- ── the walk ──
+
+abbrev fuelOf : List ℕ → ℕ
+fuelOf img = 16384 * (1 + pageCount img)
+
+none-matches : Matches (replicate markBytes 0) []
+none-matches = record { are = marks-none; same = λ p _. none-marked p }
+
+module _ (img : List ℕ) (n : ℕ) (is : n ≡ recordCount img (pageCount img - 1) 1) (x : Inner)
+    (l : LeadsTo img (recordOn img (eqb (kindAt img pageSize) 1) 1 1 n) x) where
+  begun : walkFault img ≡ walkEnd img (into (innerOf img x []) (rowWalk (fuelOf img) img))
+  unfolding walkFault recordOn
+  begun = rw (← is) (ap (λ w. walkEnd img (into w (rowWalk (fuelOf img) img))) (l .1 []))
+
+  pub root-stops : (x .reason ≡ 0 → ⊥) → walkFault img ≡ fault 3 (x .page) (x .reason)
+  root-stops z = begun ∙ rw (ne-eqb (x .reason) 0 z)
+
+  module _ (z : x .reason ≡ 0) {r : Walked} {m : List ℕ}
+      (e : Ends (walkOf (fuelOf img) img (x .start) (x .stop) (x .kind) (x .level) (x .left)) (replicate markBytes 0) m r) where
+    ended : Ended (walkOf (fuelOf img) img (x .start) (x .stop) (x .kind) (x .level) (x .left) []) r m
+    ended = e [] none-matches
+
+    walked : walkFault img ≡ walkEnd img (walkOf (fuelOf img) img (x .start) (x .stop) (x .kind) (x .level) (x .left) [])
+    walked = begun ∙ rw (eq-eqb (x .reason) 0 z)
+
+    pub walk-stops : (r .reason ≡ 0 → ⊥) → walkFault img ≡ fault 3 (r .page) (r .reason)
+    walk-stops s = walked ∙ rw (ended .same, ne-eqb (r .reason) 0 s)
+
+    module _ (s : r .reason ≡ 0) where
+      pub walk-all : r .left ≡ 1 → walkFault img ≡ noFault
+      walk-all a = walked ∙ rw (ended .same, eq-eqb (r .reason) 0 s, eq-eqb (r .left) 1 a)
+
+      pub walk-some : (r .left ≡ 1 → ⊥) → (p : ℕ) → ((reached : List ℕ) → Matches m reached → p ≡ unreached img reached (pageCount img - 2) 2)
+          → walkFault img ≡ fault 3 p notReached
+      walk-some a p f = walked ∙ rw (ended .same, eq-eqb (r .reason) 0 s, ne-eqb (r .left) 1 a, ← f (ended .reached) (ended .matches s))
+
+-- ── the stages ──
+
+module _ (img : List ℕ) where
+  pub fault-settings : settingsOk (pageOf img 0) (pageCount img) ≡ false → faultOf img ≡ fault 1 0 (settingsReason (pageOf img 0))
+  unfolding faultOf
+  fault-settings e = rw e
+
+  pub fault-pages : settingsOk (pageOf img 0) (pageCount img) ≡ true → beforeWalk img ≡ false
+      → faultOf img ≡ pagesFault img (pageCount img) (pageCount img - 1) 1
+  unfolding faultOf beforeWalk
+  fault-pages e b =
+      let f : pagesFit img (pageCount img) (pageCount img - 1) 1 ≡ false = rw e at b in
+      let s = pages-some img (pageCount img) (pageCount img - 1) 1 f in
+      rw (e, s)
+
+  pub fault-walk : beforeWalk img ≡ true → faultOf img ≡ walkFault img
+  unfolding faultOf beforeWalk
+  fault-walk b =
+      let t = and-both (settingsOk (pageOf img 0) (pageCount img)) _ b in
+      rw (t .0, pages-none img (pageCount img) (pageCount img - 1) 1 (t .1))
+
+-- ── the number ──
+
+module _ (img : List ℕ) (all : (i : ℕ) → getD img i 0 < 256) where
+  pub diagnosed : lengthOk (length img) ≡ true → answer (faultOf img) ≡ diagnoseOf img
+  unfolding diagnoseOf
+  diagnosed ok = go (eqb (faultOf img .stage) 0) refl
+    where
+      go : (b : Bool) → eqb (faultOf img .stage) 0 ≡ b
+          → cond b (diagnosis 0 noFault) (diagnosis notPassed (faultOf img))
+          ≡ diagnosis (checkOf img) (cond (eqb (checkOf img) notPassed) (faultOf img) noFault)
+      go true e = rw (no-fault img all ok (eqb-true (faultOf img .stage) 0 e))
+      go false e = rw (some-fault img all ok (eqb-false (faultOf img .stage) 0 e))
+
+  pub misfit : lengthOk (length img) ≡ false → diagnosis 1 noFault ≡ diagnoseOf img
+  unfolding diagnoseOf checkBy
+  misfit e =
+      let one : checkOf img ≡ 1 = sym (exact img all) ∙ rw e in
+      rw one

@@ -1,0 +1,5 @@
+pub mod Facts
+pub mod Tests
+pub mod Walk
+pub mod Stages
+pub mod Exact

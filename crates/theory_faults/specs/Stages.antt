@@ -1,0 +1,134 @@
+-- Which stage finds a fault: each stage finds one exactly where its part of the check does not pass.
+use mathlib.Core.Path.{_≡_, refl, sym, ap, _∙_}
+use mathlib.Core.Bool.{Bool, true, false, cond, not, _&&_, true≢false}
+use mathlib.Core.List.{List, []}
+use Prim.Native.Nat.{ℕ, zero, suc, _+_, _-_, _*_, _%_, _≤_}
+use native.Mathlib.Omega.{arith}
+use lib.ListN.{length, replicate}
+use lib.Dec.{eqb}
+use borrow.Author.Tests.{eqb-true, eqb-false, leb-true}
+use Rattle.model.specs.Limits.{pageSize, markBytes}
+use Rattle.model.specs.Reading.{lengthOk, pageOf, kindAt, usedAt}
+use Rattle.model.specs.BeforeWalk.{settingsOk, pageFits, pagesFit, pageCount, beforeWalk}
+use Rattle.model.specs.WalkTests.{tailZero, recordOf}
+use Rattle.model.specs.Calls.Diagnose.{Fault, fault, noFault, notReached, settingsReason, pagesFault, been, Walk, on, stopped}
+use Rattle.model.specs.Calls.Diagnose.{recordRow, into, rowWalk, unreached, walkEnd, recordCount, walkFault, faultOf}
+use Rattle.theory_decoding.specs.Valid.{both as and-both}
+use Rattle.theory_check.specs.Sums.{sum}
+use Rattle.theory_check.specs.Parts.{in-use}
+use Rattle.theory_check.specs.Marks.{marks-none, none-marked}
+use Rattle.theory_check.specs.Walk.{State, state, Decoded, stop}
+use Rattle.theory_check.specs.Check.{inUse, trailersOf, walkOf, walkOk}
+use Rattle.theory_check.specs.Before.{first-used, used-fits, trailers-are, trailers-none, trailers-most}
+use Rattle.theory_faults.specs.Tests.{named, record-long, record-some}
+use Rattle.theory_faults.specs.Walk.{Alike, Agree, SomeBytes, record-agrees}
+
+-- ── stage 2 ──
+
+pub pages-stage : (img : List ℕ) (pages k p : ℕ) → pagesFault img pages k p .stage ≡ cond {A = ℕ} (pagesFit img pages k p) 0 2
+unfolding pagesFault pagesFit
+pages-stage img pages zero p = refl
+pages-stage img pages (suc k) p = go (pageFits pages p (pageOf img p)) _ _ _ (pages-stage img pages k (suc p)) refl
+  where
+    go : (c d : Bool) (x y : Fault) → x .stage ≡ cond {A = ℕ} d 0 2 → y .stage ≡ 2 → cond c x y .stage ≡ cond {A = ℕ} (c && d) 0 2
+    go true d x y e f = e
+    go false d x y e f = f
+
+-- ── stage 3 ──
+
+count-is : (img : List ℕ) (k p : ℕ) → recordCount img k p ≡ sum (inUse img) k p
+unfolding recordCount
+count-is img zero p = refl
+count-is img (suc k) p = ap (λ (n : ℕ). inUse img p + n) (count-is img k (suc p))
+
+end-stage : (img : List ℕ) (x : Walk) (v : State) → Agree x v → walkEnd img x .stage ≡ cond {A = ℕ} (eqb (v .left) 1) 0 3
+end-stage img (stopped p r) v a = rw a
+end-stage img (on b) v a = rw (a .left) (go (eqb (v .left) 1))
+  where
+    go : (c : Bool) → cond c noFault (fault 3 (unreached img (b .reached) (pageCount img - 2) 2) notReached) .stage ≡ cond {A = ℕ} c 0 3
+    go true = refl
+    go false = refl
+
+-- Where the part before the walk passes, in an image of two pages at least.
+module _ (img : List ℕ) (few : 2 ≤ pageCount img) (passed : beforeWalk img ≡ true) where
+  abbrev n : ℕ
+  n = trailersOf img
+
+  some : 1 ≤ n
+  some = go (eqb n 0) refl
+    where
+      go : (c : Bool) → eqb n 0 ≡ c → 1 ≤ n
+      go true e = absurd (true≢false (sym passed ∙ trailers-none img few (eqb-true n 0 e)))
+      go false e = omega (arith, eqb-false n 0 e)
+
+  abbrev start : State
+  start = state n (replicate markBytes 0)
+
+  begin : Alike start (been n [])
+  begin = record { marks = marks-none; some = some; left = refl; reached = λ p h. none-marked p }
+
+  used : SomeBytes img
+  used p page e =
+      let k = named img p page e in
+      omega (arith, record-some img p passed (omega (arith, k .past)) (omega (arith, k .inside)) (in-use img p (k .kind)))
+
+  long : length (recordOf img 1) ≡ usedAt img pageSize
+  long = record-long img 1 (omega arith) (used-fits img 1 passed (omega arith) few (first-used img few passed))
+
+  -- the two walks, if the root of page 1 may be one
+  abbrev walked : Bool → Walk
+  walked rootOk = into (recordRow img rootOk 1 1 (been n [])) (rowWalk (16384 * (1 + pageCount img)) img)
+
+  abbrev checked : Bool → Decoded
+  checked rootOk = cond (rootOk && tailZero img 1) (walkOf img n) (stop start)
+
+  same : (rootOk : Bool) → Agree (walked rootOk) (checked rootOk .walk)
+  unfolding walkOf
+  same rootOk =
+      let f = first-used img few passed in
+      let u = record-some img 1 passed (omega arith) few f in
+      let c = used-fits img 1 passed (omega arith) few f in
+      record-agrees img used (16384 * (1 + pageCount img)) rootOk 1 1 start (been n []) begin (omega (arith, long)) (omega (arith, long, trailers-most img))
+
+  pub walk-stage : walkFault img .stage ≡ cond {A = ℕ} (walkOk img n) 0 3
+  unfolding walkFault walkOk
+  walk-stage =
+      let root = eqb (kindAt img pageSize) 1 in
+      rw (count-is img (pageCount img - 1) 1, ← trailers-are img passed)
+      (end-stage img (walked root) (checked root .walk) (same root) ∙ go (root && tailZero img 1))
+    where
+      go : (c : Bool) → cond {A = ℕ} (eqb (cond c (walkOf img n) (stop start) .walk .left) 1) 0 3 ≡ cond {A = ℕ} (c && eqb (walkOf img n .walk .left) 1) 0 3
+      go true = refl
+      go false = refl
+
+-- ── the whole ──
+
+-- an image of the right length has two pages at least
+two-pages : (img : List ℕ) → lengthOk (length img) ≡ true → 2 ≤ pageCount img
+unfolding lengthOk
+two-pages img e =
+    let most = and-both _ _ e in
+    let least = and-both (eqb (length img % pageSize) 0) _ (most .0) in
+    leb-true 2 (pageCount img) (least .1)
+
+-- the two tests before the walk: page 0, and the other pages
+abbrev pub settingsPass : (img : List ℕ) → Bool
+settingsPass img = settingsOk (pageOf img 0) (pageCount img)
+
+abbrev pub pagesPass : (img : List ℕ) → Bool
+pagesPass img = pagesFit img (pageCount img) (pageCount img - 1) 1
+
+-- the stage by the three tests
+abbrev pub stageBy : (settings pages walk : Bool) → ℕ
+stageBy a b c = cond {A = ℕ} a (cond {A = ℕ} b (cond {A = ℕ} c 0 3) 2) 1
+
+pub fault-stage : (img : List ℕ) → lengthOk (length img) ≡ true → faultOf img .stage ≡ stageBy (settingsPass img) (pagesPass img) (walkOk img (trailersOf img))
+unfolding faultOf beforeWalk
+fault-stage img ok = go (settingsPass img) (pagesPass img) refl refl _ (pages-stage img (pageCount img) (pageCount img - 1) 1)
+  where
+    go : (a b : Bool) → settingsPass img ≡ a → pagesPass img ≡ b → (x : Fault) → x .stage ≡ cond {A = ℕ} b 0 2
+        → cond (not a) (fault 1 0 (settingsReason (pageOf img 0))) (cond (eqb (x .stage) 0) (walkFault img) x) .stage
+        ≡ stageBy a b (walkOk img (trailersOf img))
+    go false b d e x s = refl
+    go true false d e x s = rw s
+    go true true d e x s = rw s (walk-stage img (two-pages img ok) (rw (d, e)))
