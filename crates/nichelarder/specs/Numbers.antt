@@ -6,6 +6,7 @@ use Rattle.model.specs.declared.Place.{Place}
 use Rattle.model.specs.declared.ReadNode.{ReadNode}
 use Rattle.model.specs.declared.InsertAnswer.{InsertAnswer}
 use Rattle.model.specs.declared.WalkAnswer.{WalkAnswer}
+use Rattle.model.specs.declared.Diagnosis.{Diagnosis}
 
 abbrev pub settings : (pages target tolerance form : ℕ) → Settings
 settings p t o f = record { pages = p; target = t; tolerance = o; form = f }
@@ -24,3 +25,7 @@ insertNumbers a = a .place .page ∷ a .place .offset ∷ a .splits ∷ []
 -- Entries written, 1 if more nodes follow, page and offset of the next.
 abbrev pub walkNumbers : WalkAnswer → List ℕ
 walkNumbers a = a .written ∷ a .more ∷ a .next .page ∷ a .next .offset ∷ []
+
+-- The stage, the page at fault, the reason.
+abbrev pub faultNumbers : Diagnosis → List ℕ
+faultNumbers a = a .stage ∷ a .page ∷ a .reason ∷ []

@@ -15,8 +15,9 @@ ghost use Rattle.model.specs.Calls.Read.{readOf};
 ghost use Rattle.model.specs.Calls.Next.{nextOf};
 ghost use Rattle.model.specs.Calls.Records.{recordsOf};
 ghost use Rattle.model.specs.Calls.Walk.{walkOf};
+ghost use Rattle.model.specs.Calls.Diagnose.{diagnoseOf};
 ghost use Rattle.read_records.specs.Up.{upPages};
-ghost use Rattle.nichelarder.specs.Numbers.{settings, insertNumbers, placeNumbers, readNumbers, walkNumbers};
+ghost use Rattle.nichelarder.specs.Numbers.{settings, insertNumbers, placeNumbers, readNumbers, walkNumbers, faultNumbers};
 ghost use Rattle.nichelarder.specs.Small.{SmallNext};
 
 #[no_mangle]
@@ -215,5 +216,15 @@ pub extern "C" fn nl_walk(
         a.next.page as u32,
         a.next.offset as u32,
     ];
+    a.number
+}
+
+#[no_mangle]
+pub extern "C" fn nl_diagnose(image: &[u8], answer: &mut [u32; 3]) -> u32
+    ensures number { λ r. ⌜ r ≡ diagnoseOf (now (image .entry)) .number ⌝ }
+    ensures answer { λ _. ⌜ now (answer .exit) ≡ faultNumbers (diagnoseOf (now (image .entry))) ⌝ }
+{
+    let a = store::diagnose(image);
+    *answer = [a.stage, a.page as u32, a.reason];
     a.number
 }

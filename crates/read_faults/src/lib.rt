@@ -1,11 +1,12 @@
 // Diagnose: why an image does not pass the check, that is, the stage that finds it, the page at fault, and a reason.
-use base_layout::back_at;
 use base_layout::name_at;
-use base_layout::settled_at;
 use base_layout::used_at;
 use base_ranges::length_ok;
 use model::Diagnosis;
 use model::Settings;
+use read_marks::is_marked;
+use read_marks::names;
+use read_marks::root_fits;
 use read_marks::set_mark;
 use read_marks::tail_zero;
 use read_nodes::head;
@@ -24,11 +25,9 @@ ghost use Rattle.model.specs.Limits.{mostPages, pageSize, mostLevels};
 ghost use Rattle.model.specs.Row.{every};
 ghost use Rattle.model.specs.Reading.{lengthOk};
 ghost use Rattle.model.specs.BeforeWalk.{trailerOf, pageCount, beforeWalk};
-ghost use Rattle.model.specs.WalkTests.{namesOf, rootFits};
 ghost use Rattle.model.specs.Answers.{notPassed};
 ghost use Rattle.model.specs.Calls.Diagnose.{diagnosis, settingsReason, freeNotZero, badTrailer, pagesFault, recordCount, walkFault, faultOf, diagnoseOf};
 ghost use Rattle.model.specs.Calls.Diagnose as diagnose;
-ghost use Rattle.theory_check.specs.Tests.{isMarked};
 ghost use Rattle.theory_check.specs.Check.{PassedBefore};
 ghost use Rattle.read_faults.specs.Answer.{answer, freeTrailer};
 ghost use Rattle.read_faults.specs.Rows.{Matches, Within, Holds, rowAt, stopsAt, Leads, LeadsTo, recordOn, proxyTo, insideOf, stoppedAt, walkOf, Ends};
@@ -185,46 +184,6 @@ fn row(start: usize, stop: usize, holder: usize, level: usize, left: usize) -> I
         page: 0,
         reason: 0,
     }
-}
-
-// This and the next two are as in read_marks, which shows only their sum, `enters`: here each has a reason of its own.
-fn is_marked(marks: &[u8; Settings::MARKS], p: usize) -> bool
-    requires { ⌜ p < mostPages ⌝ }
-    ensures { λ r. ⌜ r ≡ isMarked (now (marks .entry)) p ⌝ }
-{
-    let i = p / 8;
-    let k = p % 8;
-    (marks[i] >> k) % 2 == 1
-}
-
-// Whether page p by its trailer holds a record whose proxy stands in the record of a page.
-fn names(image: &[u8], p: usize, page: usize) -> bool
-    requires { ⌜ PassedBefore (now image) ⌝ }
-    ensures { λ r. ⌜ r ≡ namesOf (now (image .entry)) p page ⌝ }
-{
-    if p < 2 {
-        return false;
-    }
-    if image.len() / Settings::PAGE <= p {
-        return false;
-    }
-    let a = Settings::PAGE * p;
-    if image[a + Settings::CAPACITY] != 1 {
-        return false;
-    }
-    let back = back_at(image, a);
-    back == page
-}
-
-// A settled record's root is no helper.
-fn root_fits(image: &[u8], p: usize) -> bool
-    requires { ⌜ (p < mostPages) × (pageSize * p + pageSize ≤ length (now image)) ⌝ }
-    ensures { λ r. ⌜ r ≡ rootFits (now (image .entry)) p ⌝ }
-{
-    if settled_at(image, Settings::PAGE * p) != 1 {
-        return true;
-    }
-    image[Settings::PAGE * p] != 4
 }
 
 // The record of page p, if its root may be one: a row of one node, which takes all of the length used.

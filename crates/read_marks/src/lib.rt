@@ -17,7 +17,7 @@ ghost use Rattle.theory_check.specs.Check.{PassedBefore};
 
 // ── marks: a bit for each page ──
 
-fn is_marked(marks: &[u8; Settings::MARKS], p: usize) -> bool
+pub fn is_marked(marks: &[u8; Settings::MARKS], p: usize) -> bool
     requires { ⌜ p < mostPages ⌝ }
     ensures { λ r. ⌜ r ≡ isMarked (now (marks .entry)) p ⌝ }
 {
@@ -39,7 +39,7 @@ pub fn set_mark(marks: &mut [u8; Settings::MARKS], p: usize)
 // ── pages ──
 
 // Whether page p by its trailer holds a record whose proxy stands in the record of a page. What the trailer says by itself is known before the walk.
-fn names(image: &[u8], p: usize, page: usize) -> bool
+pub fn names(image: &[u8], p: usize, page: usize) -> bool
     requires { ⌜ PassedBefore (now image) ⌝ }
     ensures { λ r. ⌜ r ≡ namesOf (now (image .entry)) p page ⌝ }
 {
@@ -58,7 +58,7 @@ fn names(image: &[u8], p: usize, page: usize) -> bool
 }
 
 // A settled record's root is no helper.
-fn root_fits(image: &[u8], p: usize) -> bool
+pub fn root_fits(image: &[u8], p: usize) -> bool
     requires { ⌜ (p < mostPages) × (pageSize * p + pageSize ≤ length (now image)) ⌝ }
     ensures { λ r. ⌜ r ≡ rootFits (now (image .entry)) p ⌝ }
 {

@@ -1,4 +1,5 @@
 // The public calls: each for any bytes and arguments, the first refusal that applies, and nothing written where it is refused.
+use model::Diagnosis;
 use model::FindAnswer;
 use model::InsertAnswer;
 use model::Next;
@@ -21,6 +22,7 @@ ghost use Rattle.model.specs.Calls.Read.{readOf, partOf};
 ghost use Rattle.model.specs.Calls.Next.{nextOf};
 ghost use Rattle.model.specs.Calls.Records.{recordsOf};
 ghost use Rattle.model.specs.Calls.Walk.{walkOf};
+ghost use Rattle.model.specs.Calls.Diagnose.{diagnoseOf};
 ghost use Rattle.theory_layout.specs.Widths.{Widths};
 ghost use Rattle.store.specs.Part.{slice, startIn, byteOf};
 ghost use Rattle.read_records.specs.Up.{upPages};
@@ -243,4 +245,11 @@ pub fn walk(image: &[u8], place: Place, entries: &mut [u32]) -> WalkAnswer
         };
     }
     read_entries::walk_of(image, &widths, place, entries)
+}
+
+// The check's number, and where that is 3 why: the stage that finds it, the page at fault and a reason.
+pub fn diagnose(image: &[u8]) -> Diagnosis
+    ensures { λ r. ⌜ r ≡ diagnoseOf (now (image .entry)) ⌝ }
+{
+    read_faults::diagnose_of(image)
 }

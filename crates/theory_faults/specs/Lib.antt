@@ -2,4 +2,5 @@ pub mod Facts
 pub mod Tests
 pub mod Walk
 pub mod Stages
+pub mod Small
 pub mod Exact
