@@ -39,12 +39,6 @@ static int row(const char *name, const uint8_t *image, size_t len) {
     return 0;
 }
 
-static const struct {
-    const char *name;
-    unsigned (*fill)(uint8_t *, unsigned, unsigned);
-} chains[] = {{"6-byte nodes", fill_small}, {"nested nodes", fill_nested}, {"mixed nodes", fill_mixed},
-              {"combs", fill_combs}, {"pairs", fill_pairs}, {"few nodes", fill_few}};
-
 int main(void) {
     size_t len = 4194304;
     uint8_t *image = malloc(len);

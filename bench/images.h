@@ -262,4 +262,11 @@ static const struct {
              {"mixed nodes", fill_mixed},     {"combs", fill_combs},       {"pairs", fill_pairs},
              {"short literals", fill_short}};
 
+/* Those of which chains are made, by name. */
+static const struct {
+    const char *name;
+    unsigned (*fill)(uint8_t *, unsigned, unsigned);
+} chains[] = {{"6-byte nodes", fill_small}, {"nested nodes", fill_nested}, {"mixed nodes", fill_mixed},
+              {"combs", fill_combs}, {"pairs", fill_pairs}, {"few nodes", fill_few}};
+
 #endif

@@ -125,12 +125,81 @@ static void path_of(uint32_t parent, uint8_t *path) {
     for (int i = 0; i < 4; i++) path[i] = (uint8_t)((parent - 1) >> (8 * i));
 }
 
+/* The tree in order, each node by a call of its own. */
+static double walk_by_next(const uint8_t *image, size_t len) {
+    uint32_t next[5] = {1, 1, 0, 0, 0}, count = 1;
+    double a = now();
+    for (;; count++) {
+        if (nl_next(image, len, next[1], next[2], next)) fail("next");
+        if (!next[0]) break;
+    }
+    a = now() - a;
+    if (count != NODES + 1) fail("the walk is short");
+    return a;
+}
+
+static double walk_by_plain(const uint8_t *image, size_t len) {
+    size_t at = 4096, count = 0;
+    double a = now();
+    for (; at; count++) at = plain_next(image, len, at);
+    a = now() - a;
+    if (count != NODES + 1) fail("the plain walk is short");
+    return a;
+}
+
+/* The same by walks of so many entries a call; the numbers are read, as SQLite's rows are. The median. */
+static double walk_by_walks(const uint8_t *image, size_t len, size_t entries) {
+    static uint32_t numbers[NL_ENTRY * (NODES + 1)];
+    double t[TIMES];
+    memset(numbers, 1, sizeof numbers);
+    for (int i = 0; i < TIMES; i++) {
+        uint32_t walked[NL_WALK] = {0, 1, 1, 0}, count = 0;
+        t[i] = now();
+        while (walked[NL_WALK_MORE]) {
+            if (nl_walk(image, len, walked[NL_WALK_PAGE], walked[NL_WALK_OFFSET], numbers, NL_ENTRY * entries, walked)) fail("walk");
+            for (uint32_t k = 0; k < walked[NL_WALK_ENTRIES]; k++) sink += numbers[NL_ENTRY * k + NL_ENTRY_START];
+            count += walked[NL_WALK_ENTRIES];
+        }
+        t[i] = now() - t[i];
+        if (count != NODES + 1) fail("the walk by walks is short");
+    }
+    return median(t);
+}
+
+/* The median. */
+static double walk_by_query(void) {
+    sqlite3_stmt *walk = stmt("with recursive t(id, path) as (select 1, '' union all select n.id, "
+                              "t.path || printf('%08x', n.pos) from node n join t on n.parent = t.id) "
+                              "select n.id, n.content from t join node n on n.id = t.id order by t.path");
+    double t[TIMES];
+    for (int i = 0; i < TIMES; i++) {
+        size_t count = 0;
+        t[i] = now();
+        for (; sqlite3_step(walk) == SQLITE_ROW; count++) sink += (uint64_t)sqlite3_column_int64(walk, 0);
+        t[i] = now() - t[i];
+        if (count != NODES + 1) fail("SQLite's walk is short");
+        sqlite3_reset(walk);
+    }
+    sqlite3_finalize(walk);
+    return median(t);
+}
+
+/* Milliseconds of a row; plain C has no walk. */
+static void tree_row(const char *name, const double *t) {
+    printf("%-24s %9.2f", name, 1e3 * t[0]);
+    if (t[1] > 0)
+        printf(" %9.2f %9.2f %14.2f", 1e3 * t[1], 1e3 * t[2], t[0] / t[1]);
+    else
+        printf(" %9s %9.2f %14s", "-", 1e3 * t[2], "-");
+    printf(" %15.2f\n", t[0] / t[2]);
+}
+
 static void tree(uint8_t *image, size_t pages, uint8_t *copy) {
-    size_t len = 4096 * pages, at = 4096, count;
+    size_t len = 4096 * pages, at = 4096;
     uint8_t matrix[256], content[60] = {3}, path[8];
-    uint32_t answer[3], place[2], next[5];
+    uint32_t answer[3], place[2];
     int32_t lean;
-    double t[3][3], a;
+    double t[5][3], a;
     plan();
     memset(matrix, 2, sizeof matrix);
 
@@ -168,24 +237,9 @@ static void tree(uint8_t *image, size_t pages, uint8_t *copy) {
     sqlite3_exec(db, "commit", NULL, NULL, NULL);
     t[0][2] = now() - a;
 
-    a = now();
-    for (count = 1, next[1] = 1, next[2] = 0;; count++) {
-        if (nl_next(image, len, next[1], next[2], next)) fail("next");
-        if (!next[0]) break;
-    }
-    t[1][0] = now() - a;
-    if (count != NODES + 1) fail("the walk is short");
-    a = now();
-    for (count = 0, at = 4096; at; count++) at = plain_next(image, len, at);
-    t[1][1] = now() - a;
-    if (count != NODES + 1) fail("the plain walk is short");
-    sqlite3_stmt *walk = stmt("with recursive t(id, path) as (select 1, '' union all select n.id, "
-                             "t.path || printf('%08x', n.pos) from node n join t on n.parent = t.id) "
-                              "select n.id, n.content from t join node n on n.id = t.id order by t.path");
-    a = now();
-    for (count = 0; sqlite3_step(walk) == SQLITE_ROW; count++) sink += (uint64_t)sqlite3_column_int64(walk, 0);
-    t[1][2] = now() - a;
-    if (count != NODES + 1) fail("SQLite's walk is short");
+    t[1][0] = walk_by_next(image, len), t[1][1] = walk_by_plain(image, len);
+    t[2][0] = walk_by_walks(image, len, 64), t[3][0] = walk_by_walks(image, len, NODES + 1), t[2][1] = t[3][1] = 0;
+    t[1][2] = t[2][2] = t[3][2] = walk_by_query();
 
     uint32_t at_parent[LOOKUPS], at_child[LOOKUPS];
     for (int i = 0; i < LOOKUPS; i++) at_parent[i] = 1 + any(100), at_child[i] = any(kids[at_parent[i]]);
@@ -205,13 +259,12 @@ static void tree(uint8_t *image, size_t pages, uint8_t *copy) {
                 sqlite3_reset(child);
             }
         }
-        t[2][who] = now() - a;
+        t[4][who] = now() - a;
         sqlite3_finalize(child);
     }
-    const char *names[] = {"build 10,000 nodes", "walk them in order", "look up 1,000 paths"};
-    puts("\nmilliseconds             library   plain C    SQLite  library/plain  library/SQLite");
-    for (int i = 0; i < 3; i++)
-        printf("%-20s %11.1f %9.1f %9.1f %14.2f %15.2f\n", names[i], 1e3 * t[i][0], 1e3 * t[i][1], 1e3 * t[i][2], t[i][0] / t[i][1], t[i][0] / t[i][2]);
+    const char *names[] = {"build 10,000 nodes", "next, node by node", "walk, 64 entries a call", "walk, one call", "look up 1,000 paths"};
+    puts("\nmilliseconds               library   plain C    SQLite  library/plain  library/SQLite");
+    for (int i = 0; i < 5; i++) tree_row(names[i], t[i]);
 }
 
 int main(void) {

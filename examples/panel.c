@@ -5,22 +5,21 @@
 #include <stdio.h>
 #include <string.h>
 
-static const char *const names[] = NL_REFUSAL_NAMES;
 static const char *const origins[] = NL_ORIGIN_NAMES;
 static uint8_t image[3 * NL_PAGE];
 
 /* Says what a refused call refused; every call can be checked this way. */
 static int refused(const char *call, uint32_t number) {
     if (number)
-        printf("%s: %s (%u)\n", call, names[number], (unsigned)number);
+        printf("%s: %s (%u)\n", call, nl_refusal_name(number), (unsigned)number);
     return number != NL_OK;
 }
 
 /* The usual settings: split in the middle, nodes of 409 bytes or more may be divided, every pair of labels may share a record. */
 static int format(void) {
-    uint8_t matrix[256];
-    memset(matrix, 2, sizeof matrix);
-    return refused("format", nl_format(image, sizeof image, 3, 128, 409, 1, matrix, sizeof matrix, 7));
+    uint8_t matrix[NL_MATRIX];
+    memset(matrix, NL_FREE, sizeof matrix);
+    return refused("format", nl_format(image, sizeof image, 3, NL_TARGET_USUAL, NL_TOLERANCE_USUAL, NL_FORM, matrix, sizeof matrix, 7));
 }
 
 /* Literal 9 with two bytes, typed in, as the root's first child, then aggregate 300, derived, in front of it. The root's path is empty: no bytes. */
@@ -50,18 +49,20 @@ static int find_and_climb(void) {
     return 0;
 }
 
-/* Every node in document order, from the root on page 1 at byte 0: read it, then go to the next. */
+/* Every node in document order, from the root on page 1 at byte 0: as many as there is room for, then on from the first that was left. */
 static int print_all(void) {
-    uint32_t node[6], next[5] = {1, 1, 0, NL_AGGREGATE, NL_WIRE}, i;
-    while (next[0]) {
-        if (refused("read", nl_read(image, sizeof image, next[1], next[2], node)))
+    uint32_t entries[2 * NL_ENTRY], walked[NL_WALK] = {0, 1, 1, 0}, i;
+    const uint32_t *node;
+    while (walked[NL_WALK_MORE]) {
+        if (refused("walk", nl_walk(image, sizeof image, walked[NL_WALK_PAGE], walked[NL_WALK_OFFSET], entries, 2 * NL_ENTRY, walked)))
             return 1;
-        printf("%s %u, origin %s, %u children,", node[0] == NL_AGGREGATE ? "aggregate" : "literal", (unsigned)node[1], origins[node[5]], (unsigned)node[2]);
-        for (i = 0; i < node[4]; i++)
-            printf(" %02x", image[node[3] + i]);
-        printf(node[4] ? "\n" : " no content\n");
-        if (refused("next", nl_next(image, sizeof image, next[1], next[2], next)))
-            return 1;
+        for (node = entries; node < entries + NL_ENTRY * walked[NL_WALK_ENTRIES]; node += NL_ENTRY) {
+            printf("%s %u, origin %s, %u children,", node[NL_ENTRY_KIND] == NL_AGGREGATE ? "aggregate" : "literal", (unsigned)node[NL_ENTRY_LABEL],
+                   origins[node[NL_ENTRY_ORIGIN]], (unsigned)node[NL_ENTRY_CHILDREN]);
+            for (i = 0; i < node[NL_ENTRY_LENGTH]; i++)
+                printf(" %02x", image[node[NL_ENTRY_START] + i]);
+            printf(node[NL_ENTRY_LENGTH] ? "\n" : " no content\n");
+        }
     }
     return 0;
 }

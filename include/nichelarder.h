@@ -14,9 +14,21 @@
  * A buffer that is only read (matrix, path, parent, content) may lie in the image, also where the call changes the image: what counts are its bytes
  * when the call is made. So format keeps its own matrix by image + 16, 256, insert copies a content from where nl_read has found it, and the path of a
  * removal may stand in the node that it removes.
- * The image and the buffers stay the caller's; the library keeps no pointer. The functions keep no state and allocate nothing: they may be called
- * from several threads on different images. They need up to 29 KB of stack or, where records are nested deeply in one another, 10 KB and some
- * 355 bytes for each: up to 384 KB.
+ * The image and the buffers stay the caller's; the library keeps no pointer and no state and allocates nothing. Several threads may call on different
+ * images, and several may read one image at the same time as long as none changes it: only format, insert and remove write to an image.
+ *
+ * Every call but format checks the whole image first, so that damage is never trusted: its time grows with the image's length. An image is best no longer
+ * than needed.
+ *
+ * Stack: a thread with NL_STACK_MOST bytes can make every call on every image, broken ones too. Most of that is for records that are nested in one another.
+ * Where none are, NL_STACK_READ is enough for calls that change nothing and NL_STACK_CHANGE for all; each record on the way down to the deepest takes
+ * NL_STACK_NESTED more. An image of n pages has at most n - 2 of them, whatever its bytes. NL_STACK_READ is for trees of all 24 levels; where there are
+ * few, 6 KB do.
+ * In all trees that were measured, literals, and aggregates of less than 1 KB with all under them, nest up to 6 deep, wherever they are inserted.
+ * Deep nesting comes from many aggregates of more than 1 KB under one parent that are filled one after the other, whether each is put in first or last: a
+ * record more for every one to six of them, 341 in a full image being the most that was met; at random places it was 10. It does not come where the matrix
+ * keeps them apart from their parent (NL_APART): each then has a record of its own, the nesting stays at 2 or 3, and they take about as many pages or
+ * fewer, at random places some fifth more (bench/README.md). `nichelarder records` (tools/) prints how deep an image's records are nested.
  *
  * The format, for those who look at bytes: a record is a tree of nodes, each a header of six bytes (kind, origin, one byte each; label, size, two bytes
  * each, low byte first) and what it holds. Kind 1 is an aggregate, 2 a literal, 3 a proxy: two bytes that name the page of the record that stands in its
@@ -33,12 +45,35 @@
 extern "C" {
 #endif
 
+/* The version of the calls. A call that is changed, or that gives other answers than before, changes the first number; a call that is added changes the
+ * second. The format of images has a number of its own, NL_FORM. */
+#define NL_VERSION "1.0"
+#define NL_VERSION_MAJOR 1
+#define NL_VERSION_MINOR 0
+
 #define NL_PAGE 4096u     /* bytes of a page */
 #define NL_CAPACITY 4080u /* most bytes of a record */
 #define NL_LEVELS 24u     /* most levels of the tree */
 #define NL_PAGES 1024u    /* most pages of an image */
 #define NL_CONTENT 520u   /* most content bytes of a literal */
 #define NL_PATH 92u       /* most bytes of a path: a buffer this long takes every climb */
+
+/* Bytes of stack (see above): a little more than tests/stack.c measures on x86-64, where the most is 373,632. */
+#define NL_STACK_READ 10240u                                      /* a call that changes nothing, where no record is nested in another */
+#define NL_STACK_CHANGE 29696u                                    /* any call, where none is */
+#define NL_STACK_NESTED 355u                                      /* more for each record that is nested in another */
+#define NL_STACK_MOST (NL_STACK_CHANGE + 1022u * NL_STACK_NESTED) /* any call on any image: the records of all pages nested */
+
+/* The settings that format takes. */
+#define NL_TARGET_MIN 64u       /* target: a record that is too large is split at so many 256ths of its size */
+#define NL_TARGET_MAX 192u
+#define NL_TARGET_USUAL 128u    /* in the middle */
+#define NL_TOLERANCE_MAX 512u   /* tolerance, from 0 on: a split divides no node of fewer bytes */
+#define NL_TOLERANCE_USUAL 409u
+#define NL_FORM 1u     /* the layout of an image's bytes, a number on page 0 by which a later version can tell images apart; only 1 is known */
+#define NL_MATRIX 256u /* entries of the split matrix, each one of these two: */
+#define NL_APART 0u    /* such a child gets a record, and so a page, of its own */
+#define NL_FREE 2u     /* free choice: such a child may share its parent's record */
 
 #define NL_AGGREGATE 1u
 #define NL_LITERAL 2u
@@ -72,20 +107,74 @@ enum nl_refusal {
     NL_EMPTY = 14     /* remove: the path is empty, and the root cannot be removed: format instead; tested directly after 4 */
 };
 
-/* The names of the numbers 0 to 14 for messages: static const char *const names[] = NL_REFUSAL_NAMES; */
+/* The names of the numbers 0 to 14 for messages: static const char *const names[] = NL_REFUSAL_NAMES; nl_refusal_name takes any number. */
 #define NL_REFUSAL_NAMES                                                                                                                  \
     { "ok", "wrong length", "wrong settings", "broken image", "path too long", "wrong kind", "content too long", "no such node",           \
       "parent is a literal", "child number too high", "no node at this place", "buffer too short", "store full", "wrong origin",           \
       "path is empty" }
 
+/* Where each number stands in an answer: place[NL_PLACE_PAGE]. The last name of each is how many numbers the answer has: uint32_t place[NL_PLACE]. */
+enum nl_place { NL_PLACE_PAGE, NL_PLACE_OFFSET, NL_PLACE };
+enum nl_inserted { NL_INSERT_PAGE, NL_INSERT_OFFSET, NL_INSERT_SPLITS, NL_INSERT };
+enum nl_node { NL_READ_KIND, NL_READ_LABEL, NL_READ_CHILDREN, NL_READ_START, NL_READ_LENGTH, NL_READ_ORIGIN, NL_READ };
+enum nl_following { NL_NEXT_FOUND, NL_NEXT_PAGE, NL_NEXT_OFFSET, NL_NEXT_KIND, NL_NEXT_ORIGIN, NL_NEXT };
+enum nl_walked { NL_WALK_ENTRIES, NL_WALK_MORE, NL_WALK_PAGE, NL_WALK_OFFSET, NL_WALK };
+enum nl_fault { NL_FAULT_STAGE, NL_FAULT_PAGE, NL_FAULT_REASON, NL_FAULT };
+
+/* A walk's entry: the numbers of one node. NL_ENTRY of them make an entry; those of entry i begin at entries + NL_ENTRY * i. */
+enum nl_entry {
+    NL_ENTRY_LEVEL,    /* 1 for the root, at most NL_LEVELS */
+    NL_ENTRY_PAGE,     /* its place: page .. */
+    NL_ENTRY_OFFSET,   /* .. and offset */
+    NL_ENTRY_KIND,     /* NL_AGGREGATE or NL_LITERAL */
+    NL_ENTRY_ORIGIN,   /* NL_WIRE to NL_DERIVED */
+    NL_ENTRY_LABEL,
+    NL_ENTRY_CHILDREN, /* how many children it has */
+    NL_ENTRY_START,    /* where its content starts: at image + this; 0 without content */
+    NL_ENTRY_LENGTH,   /* bytes of its content; 0 for an aggregate */
+    NL_ENTRY           /* numbers of an entry: 9 */
+};
+
+/* How far the check of a broken image came. Each stage is tried only if those before it found nothing. */
+enum nl_stage {
+    NL_STAGE_NONE = 0,     /* nothing is wrong, or the image's length is */
+    NL_STAGE_SETTINGS = 1, /* page 0 */
+    NL_STAGE_TRAILERS = 2, /* the last 16 bytes of each page, and the free pages, in page order */
+    NL_STAGE_WALK = 3      /* the records, from page 1 on through their proxies */
+};
+
+/* What is wrong with the page that a diagnosis names, and what to do about it. Only the first fault is named: once it is mended, the next diagnosis
+ * names the next. */
+enum nl_reason {
+    NL_SOUND = 0,        /* nothing */
+    NL_UNFORMATTED = 1,  /* page 0 is all zero, or all 255 as erased flash is: the image was never formatted: load it, or format it */
+    NL_BAD_SETTINGS = 2, /* page 0 has no settings for this many pages: it is damaged, or this is not the whole image: load page 0, or all, again */
+    NL_BAD_TRAILER = 3,  /* the page's last 16 bytes are damaged: load the page again */
+    NL_BAD_FREE = 4,     /* the trailer says free, and a byte of the page is not zero: load the page again */
+    NL_BAD_TAIL = 5,     /* a byte past the end of the page's record is not zero: load the page again */
+    NL_BAD_NODE = 6,     /* a node in the page's record is against the rules: load the page again */
+    NL_BAD_LEVEL = 7,    /* a node in the page's record is deeper than level 24: load the page again, and those that hold it */
+    NL_BAD_LINK = 8,     /* a proxy in the page's record and the page that it names do not belong together: load both again */
+    NL_UNREACHED = 9     /* no proxy leads to the page's record: load it and the page of its back link again */
+};
+
+/* The names of the reasons 0 to 9 for messages; nl_reason_name takes any number. */
+#define NL_REASON_NAMES                                                                                                                   \
+    { "nothing wrong", "never formatted", "wrong settings", "wrong trailer", "free page not zero", "bytes past the record", "wrong node",   \
+      "node too deep", "wrong proxy or back link", "page not reached" }
+
 /* Makes any bytes an image with a root aggregate alone, of origin 0. matrix: 256 entries, 16 * class of parent + class of child, each 0
- * (apart) or 2 (free choice); a label's class is the label below 15, else 15. Usual: target 128, tolerance 409, form 1, matrix all 2.
- * Refusals 1, 2. */
+ * (NL_APART) or 2 (NL_FREE); a label's class is the label below 15, else 15. Usual: target 128, tolerance 409, form 1, matrix all 2
+ * (NL_TARGET_USUAL, NL_TOLERANCE_USUAL, NL_FORM, NL_FREE). Refusals 1, 2. */
 uint32_t nl_format(uint8_t *image, size_t image_len, uint32_t pages, uint32_t target, uint32_t tolerance, uint32_t form,
                    const uint8_t *matrix, size_t matrix_len, uint16_t root_label);
 
-/* Refusals 1, 3. */
+/* Whether all bytes of the image keep the rules. Refusals 1, 3. */
 uint32_t nl_check(const uint8_t *image, size_t image_len);
+
+/* The check and, where that gives 3, what is wrong: the stage (enum nl_stage), the page and the reason (enum nl_reason) of the first fault that the check
+ * meets; 0 0 0 where it gives 0 or 1. Refusals 1, 3. */
+uint32_t nl_diagnose(const uint8_t *image, size_t image_len, uint32_t answer[3]);
 
 /* Puts a new node as child number `child` (0 is first) of the aggregate that the path `parent` names: kind NL_AGGREGATE without content or
  * NL_LITERAL, its origin, NL_WIRE to NL_DERIVED, its label, and its content. The answer: page and offset of the new node, how many records were
@@ -112,8 +201,59 @@ uint32_t nl_read(const uint8_t *image, size_t image_len, uint32_t page, uint32_t
 /* The following node in document order: 1 and its page, offset, kind, origin; or 0 0 0 0 0 at the end. Refusals 1, 3, 10. */
 uint32_t nl_next(const uint8_t *image, size_t image_len, uint32_t page, uint32_t offset, uint32_t answer[5]);
 
+/* The node at a place and those that follow in document order: an entry of NL_ENTRY numbers each (enum nl_entry), as many as fit, to the front of the lent
+ * numbers; the rest is unchanged. `entries_len` is how many numbers are lent, not bytes. The answer: how many entries were written; 1 if more nodes follow,
+ * else 0; page and offset of the first that was not written, 0 0 if there is none. With fewer than NL_ENTRY numbers lent, nothing is written, and the
+ * answer is 0, 1 and the place. All of a tree, from the root on page 1 at offset 0:
+ *     uint32_t entries[100 * NL_ENTRY], walked[NL_WALK] = {0, 1, 1, 0}, i;
+ *     while (walked[NL_WALK_MORE]) {
+ *         if (nl_walk(image, image_len, walked[NL_WALK_PAGE], walked[NL_WALK_OFFSET], entries, 100 * NL_ENTRY, walked))
+ *             break;
+ *         for (i = 0; i < walked[NL_WALK_ENTRIES]; i++)
+ *             show(entries + NL_ENTRY * i);
+ *     }
+ * The image is checked once a call, and not once a node as with nl_next: the more numbers are lent, the faster. Refusals 1, 3, 10. */
+uint32_t nl_walk(const uint8_t *image, size_t image_len, uint32_t page, uint32_t offset, uint32_t *entries, size_t entries_len,
+                 uint32_t answer[4]);
+
 /* All record pages, two bytes each, low byte first, in any order, to the front of the lent buffer. Refusals 1, 3, 11. */
 uint32_t nl_records(const uint8_t *image, size_t image_len, uint8_t *pages, size_t pages_len, uint32_t *written);
+
+/* Helpers, which are in this header alone. */
+
+/* The name of what a call returned, for messages; any number may be given. */
+static inline const char *nl_refusal_name(uint32_t number) {
+    static const char *const names[] = NL_REFUSAL_NAMES;
+    return number < sizeof names / sizeof *names ? names[number] : "unknown refusal";
+}
+
+/* The name of a diagnosis' reason; any number may be given. */
+static inline const char *nl_reason_name(uint32_t number) {
+    static const char *const names[] = NL_REASON_NAMES;
+    return number < sizeof names / sizeof *names ? names[number] : "unknown reason";
+}
+
+/* Appends a child number to a path of `len` bytes in a buffer of NL_PATH bytes. Gives the new length; or 0, with the buffer unchanged, where the path has
+ * 23 entries already or `len` is not whole entries. */
+static inline size_t nl_path_append(uint8_t *path, size_t len, uint32_t child) {
+    size_t end = len + 4;
+    if (len >= NL_PATH || len % 4 != 0)
+        return 0;
+    for (; len < end; len++, child >>= 8)
+        path[len] = child & 255u;
+    return end;
+}
+
+/* Entry i, from 0, of a path of more than i entries. */
+static inline uint32_t nl_path_entry(const uint8_t *path, size_t i) {
+    uint32_t child = path[4 * i + 3];
+    child = child << 8 | path[4 * i + 2];
+    child = child << 8 | path[4 * i + 1];
+    return child << 8 | path[4 * i];
+}
+
+/* The length of the parent's path, which is the front of the path; 0, the root's, for the root too. */
+static inline size_t nl_path_parent(size_t len) { return len < 4 ? 0 : len - 4; }
 
 #ifdef __cplusplus
 }

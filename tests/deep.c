@@ -1,5 +1,5 @@
-/* The deepest image, a chain through 1,022 record pages, passes every call, the longest cascade is done, and the deepest branch is removed; run under a
- * small stack. */
+/* The deepest image, a chain through 1,022 record pages, passes every call, is walked whole, and is diagnosed where its last record is broken; the longest
+ * cascade is done, and the deepest branch is removed; run under a small stack. */
 #include <stdio.h>
 #include <stdlib.h>
 
@@ -9,6 +9,49 @@
 static int wrong(const char *what) {
     printf("deep: %s\n", what);
     return 1;
+}
+
+/* The whole chain in one walk: the root, then the aggregates of each record from the last page back; behind a proxy, where there is one. */
+static int walks(const uint8_t *image, size_t len) {
+    const uint32_t nodes = 1 + 677u * 1023u;
+    uint32_t *entries = malloc(sizeof *entries * NL_ENTRY * nodes), answer[4], page, k;
+    const uint32_t *at = entries + NL_ENTRY;
+    if (!entries) return wrong("no memory for the walk");
+    if (nl_walk(image, len, 1, 0, entries, NL_ENTRY * nodes, answer)) return wrong("walk");
+    if (answer[0] != nodes || answer[1] || answer[2] || answer[3]) return wrong("walk gives another number of nodes");
+    const uint32_t root[NL_ENTRY] = {1, 1, 0, NL_AGGREGATE, 0, 7, 677u * 1023u, 0, 0};
+    if (memcmp(entries, root, sizeof root)) return wrong("walk, the root");
+    for (page = 1023; page; page--)
+        for (k = 0; k < 677; k++, at += NL_ENTRY) {
+            const uint32_t want[NL_ENTRY] = {2, page, (page == 1023 ? 6 : 14) + 6 * k, NL_AGGREGATE, 0, 9, 0, 0, 0};
+            if (memcmp(at, want, sizeof want)) return wrong("walk, a node of a record");
+        }
+    free(entries);
+    return 0;
+}
+
+/* Whether the image, with another byte at one place, is diagnosed so. */
+static int is_diagnosed(uint8_t *image, size_t len, size_t at, unsigned byte, uint32_t stage, uint32_t page, uint32_t reason) {
+    uint32_t answer[3];
+    uint8_t kept = image[at];
+    image[at] = (uint8_t)byte;
+    uint32_t number = nl_diagnose(image, len, answer);
+    image[at] = kept;
+    return number == (stage ? 3u : 0u) && answer[0] == stage && answer[1] == page && answer[2] == reason;
+}
+
+/* Faults at the end of the chain, and after it. */
+static int diagnoses(uint8_t *image, size_t len) {
+    const size_t last = 1023u * 4096u;
+    if (!is_diagnosed(image, len, last, image[last], 0, 0, 0)) return wrong("diagnose, nothing wrong");
+    if (!is_diagnosed(image, len, last + 4079, 1, 3, 1023, 5)) return wrong("diagnose, past the length of the last record");
+    if (!is_diagnosed(image, len, last + 6 * 677, 3, 3, 1023, 6)) return wrong("diagnose, the last node of the last record");
+    if (!is_diagnosed(image, len, last - 4096 + 12, 1, 3, 1022, 8)) return wrong("diagnose, the last proxy");
+    if (!is_diagnosed(image, len, 4096 + 14 + 6 * 676 + 1, 4, 3, 1, 6)) return wrong("diagnose, page 1 after the chain");
+    if (!is_diagnosed(image, len, last + 4095, 1, 2, 1023, 3)) return wrong("diagnose, the last trailer");
+    /* a literal in the place of the last proxy */
+    if (!is_diagnosed(image, len, last - 4096 + 6, 2, 3, 1023, 9)) return wrong("diagnose, the last page not reached");
+    return 0;
 }
 
 /* A literal after the first node of the deepest record of a chain: all its records split, if there are pages. */
@@ -89,7 +132,7 @@ int main(void) {
     /* from the last node of the deepest record up one, and from the root all the way down */
     if (nl_next(image, len, 1023, 4062, following) || following[1] != 1022 || following[2] != 14) return wrong("next, upwards");
     if (nl_next(image, len, 1, 0, following) || following[1] != 1023 || following[2] != 6) return wrong("next, downwards");
-    if (inserts(image, len) || removals(image, len)) return 1;
+    if (walks(image, len) || diagnoses(image, len) || inserts(image, len) || removals(image, len)) return 1;
     free(image);
     puts("deep: passed");
     return 0;

@@ -1,4 +1,5 @@
-"""Writes a call script of hostile calls with the reference's answers: images with a few bytes wrong and any arguments, through all calls.
+"""Writes a call script of hostile calls with the reference's answers: images with a few bytes wrong, or broken in a known way (faults.py), and any
+arguments, through all calls. Each image is diagnosed first.
 
     make_hostile.py SEED CALLS > SCRIPT
 
@@ -10,11 +11,13 @@ import random
 import sys
 import zlib
 
+import faults
 import make_scripts as made
 import reference as ref
 
 LONGEST = 9000                                        # no line is longer
 SHAPES = [(2, 4), (3, 12), (4, 30), (5, 60)]          # small images, so that many calls take little time
+FAULTS = ("stage 1", "stage 2", "stage 3") + ref.REASONS
 uncached = ref.read_store
 stores = {}
 
@@ -74,26 +77,26 @@ def hurt_page_end(rng, image, out):
         made.put_byte(number * ref.PAGE + past, rng.randrange(1, 256), image, out)
 
 
-def any_records(rng, image):
-    """The image with any bytes in the place of its records: before_walk must not tell them apart."""
-    other = bytearray(image)
-    for at in range(ref.PAGE, len(image) - ref.PAGE + 1, ref.PAGE):
-        if image[at + ref.CAPACITY] != ref.FREE:
-            other[at:at + ref.CAPACITY] = rng.randbytes(ref.CAPACITY)
-    return other
-
-
 def stage(rng, image):
-    """Where the reference's check ends, for the count of what was reached; its part before the walk is tried by itself."""
-    if len(image) % ref.PAGE or len(image) < 2 * ref.PAGE:
+    """Where the reference's check ends, for the count of what was reached; its part before the walk is tried by itself, and so is diagnose, which must
+    agree with both."""
+    number, at, page, reason = ref.run_diagnose(image, ())
+    assert number == ref.check(image)[0] and bool(at) == (number == ref.BROKEN) == bool(reason)
+    if number == ref.MISFIT:
         return "length"
     passed = ref.before_walk(image)
-    assert ref.before_walk(any_records(rng, image)) == passed
-    number = ref.check(image)[0]
+    assert ref.before_walk(faults.any_records(rng, image)) == passed
+    assert passed == (at not in (1, 2))
+    assert passed or ref.diagnose(faults.any_records(rng, image)) == (number, at, page, reason)
     if not passed:
-        assert number == ref.BROKEN
         return "before the walk"
     return "in the walk" if number else "passed"
+
+
+def fault_names(answer):
+    """What a diagnosis adds to the count of what was reached."""
+    _, at, _, reason = answer
+    return ["stage %d" % at, ref.REASONS[reason - 1]] if at else []
 
 
 def some_number(rng):
@@ -114,9 +117,19 @@ def some_position(rng, entries):
     return made.some_path(rng, entries), rng.choice((0, 0, 1, rng.randrange(8), some_number(rng)))
 
 
-def some_call(rng, entries):
-    """A call with arguments that are right, nearly right, or wrong."""
-    kind = rng.randrange(24)
+def some_walk(rng, entries, going):
+    """A walk from any place, or from that to which the last one, perhaps on another image, came."""
+    place = going if going and rng.random() < 0.5 else made.some_place(rng, entries)
+    return "walk %d %d %d" % (*place, made.some_room(rng))
+
+
+def some_call(rng, entries, going):
+    """A call with arguments that are right, nearly right, or wrong; `going` is the place to which the last walk came, or None."""
+    kind = rng.randrange(28)
+    if kind >= 25:
+        return some_walk(rng, entries, going)
+    if kind == 24:
+        return "diagnose"
     if kind >= 20:
         return some_removal(rng, entries)
     if kind < 5:
@@ -146,41 +159,51 @@ def some_call(rng, entries):
 def main(seed, calls):
     rng = random.Random(seed)
     made.SHAPES = SHAPES
-    numbers, stages = collections.Counter(), collections.Counter()
+    numbers, stages, met = collections.Counter(), collections.Counter(), collections.Counter()
     out = ["V 1 %s %d" % (ref.RULES, LONGEST)]
-    done, said = 0, 0
+    done, said, going = 0, 0, None
     while done < calls:
         ref.read_store = uncached
-        image = grow_store(rng)
+        image = grow_store(rng) if done else made.nested_helpers()      # which has all that a fault needs: also a short run meets each
+        broken = faults.variants(rng, image)
         ref.read_store = read_store
         made.put_image(image, out)
         out.append("S")
         origins = origin_bytes(rng, image)
-        for _ in range(60):
+        for _ in range(60 + len(broken)):
             out.append("R")
-            hurt = bytearray(image)
+            hurt, fault = bytearray(image), None
             if origins:
                 made.put_byte(*origins.pop(), hurt, out)
+            elif broken:
+                hurt, fault = broken.pop()
+                made.put_runs(image, hurt, out)
             elif rng.random() < 0.3:
                 hurt_page_end(rng, hurt, out)
             elif rng.random() < 0.6:
                 made.damage(rng, hurt, out)
-            if rng.random() < 0.05:
+            if not fault and rng.random() < 0.05:
                 cut = rng.choice((0, 1, 4095, 4096, 8191, len(hurt) - 1))
                 hurt = bytearray(hurt[:cut])
                 out.append("I %d" % cut)
                 hurt = bytearray(cut)
             stages[stage(rng, hurt)] += 1
-            for _ in range(12):
+            for turn in range(4 if fault else 12):    # what is known to be broken has one answer to nearly all calls
                 try:
                     entries = ref.document_order(ref.read_store(hurt))
                 except ref.Refused:
                     entries = []
-                call = some_call(rng, entries)
-                ref.read_store = uncached if call.startswith(("insert", "remove")) else read_store
-                made.ask(call, hurt, out)
+                call = some_call(rng, entries, going) if turn else "diagnose"
+                name = call.split(" ")[0]
+                ref.read_store = uncached if name in ("insert", "remove") else read_store
+                answer = made.ask(call, hurt, out)
                 ref.read_store = read_store
-                numbers[call.split(" ")[0] + " " + out[-1].split(" ")[1]] += 1
+                if name == "diagnose":
+                    assert turn or fault in (None, answer[1:])
+                    met.update(fault_names(answer))
+                elif name == "walk":
+                    going = answer[3:5] if answer[2] else None
+                numbers["%s %d" % (name, answer[0])] += 1
                 done += 1
         print("\n".join(out))
         out = []
@@ -188,6 +211,7 @@ def main(seed, calls):
             said = done
             print("%d calls" % done, file=sys.stderr)
     print(", ".join("%s: %d" % item for item in sorted(numbers.items())), file=sys.stderr)
+    print("faults: " + "; ".join("%s %d" % (name, met[name]) for name in FAULTS), file=sys.stderr)
     print("images by where the check ends: " + ", ".join("%s: %d" % item for item in sorted(stages.items())), file=sys.stderr)
 
 

@@ -5,12 +5,14 @@
 First comes a small image with helpers in one another and side by side, from which each node is removed, and into which a node is put at every position,
 its records being more or less full. Then STORES images are grown, some of them thinned by removals; after each, calls that change nothing are asked,
 then inserts with right and wrong origins, then removals, accepted and refused; nodes of each kind get right and wrong origins, and DAMAGED variants of
-the image are made: all these are checked (and, now and then, asked). The same seed gives the same script.
+the image are made: all these are checked (and, now and then, asked). The image is walked, in one call and in steps, and diagnosed, as are the damaged
+ones and those that are broken in a known way (faults.py). The same seed gives the same script.
 """
 
 import random
 import sys
 
+import faults
 import reference as ref
 
 SHAPES = [(2, 6), (3, 12), (5, 60), (8, 160), (13, 400), (40, 900)]
@@ -61,19 +63,25 @@ def pieces(total):
     return ([first] if first else []) + sizes
 
 
-def put_image(image, out):
-    """The image as lines: its length, then each run of bytes that are not zero."""
-    out.append("I %d" % len(image))
+def put_runs(before, after, out):
+    """Each run of bytes that differ, as lines."""
+    differ = (int.from_bytes(before, "big") ^ int.from_bytes(after, "big")).to_bytes(len(after), "big")
     at = 0
-    while at < len(image):
-        if not image[at]:
+    while at < len(differ):
+        if not differ[at]:
             at += 1
             continue
         end = at
-        while end < len(image) and any(image[end:end + 8]) and end - at < 3000:
+        while end < len(differ) and any(differ[end:end + 8]) and end - at < 3000:
             end += 1
-        out.append("B %d %s" % (at, image[at:end].hex()))
+        out.append("B %d %s" % (at, after[at:end].hex()))
         at = end
+
+
+def put_image(image, out):
+    """The image as lines: its length, then each run of bytes that are not zero."""
+    out.append("I %d" % len(image))
+    put_runs(bytes(len(image)), image, out)
     out.append("C " + ref.checksum(image))
 
 
@@ -116,6 +124,53 @@ def ask_all(rng, image, count, out):
     if entries:
         ask("next %d %d" % entries[-1].place(), image, out)
     ask("records %d" % rng.choice((0, 1, 2, 7, 64)), image, out)
+
+
+def some_room(rng):
+    """Numbers for a walk: none, less than an entry, some whole entries, or more than these."""
+    return rng.choice((0, 1, 8, 9, 10, 17, 18, 27, 63, ref.WALK_ENTRY * rng.randrange(12), rng.randrange(100)))
+
+
+def ask_steps(rng, place, count, out, image):
+    """A walk from a place, which goes on from the place that it gives, so many times at most."""
+    for _ in range(count):
+        _, _, more, *place, _ = ask("walk %d %d %d" % (*place, some_room(rng)), image, out)
+        if not more:
+            break
+
+
+def ask_walks(rng, image, out):
+    """The whole tree in one call, if it is small, with a room that just takes it, takes one node less, and more; in steps; from any place."""
+    entries = ref.document_order(ref.read_store(image))
+    whole = ref.WALK_ENTRY * len(entries)
+    for room in (whole, whole - 1, whole + 5) if len(entries) <= 40 else (0, 8, ref.WALK_ENTRY * 40 + 4):
+        ask("walk 1 0 %d" % room, image, out)
+    ask_steps(rng, (1, 0), 6, out, image)
+    for _ in range(6):
+        ask_steps(rng, some_place(rng, entries), 2, out, image)
+    ask("walk %d %d 18" % entries[-1].place(), image, out)
+
+
+def ask_faults(rng, image, out):
+    """Diagnose and a walk of images that are broken in a known way, of those that take few bytes in a script."""
+    for hurt, fault in faults.variants(rng, image):
+        runs = []
+        put_runs(image, hurt, runs)
+        if sum(map(len, runs)) <= 500 and rng.random() < 0.4:
+            out += ["R"] + runs
+            assert ask("diagnose", hurt, out)[1:] == fault
+            ask("walk 1 0 10", hurt, out)
+
+
+def ask_blank(out):
+    """Images that were never formatted, and a byte short of that."""
+    for byte in 0, 255:
+        image = bytearray([byte]) * (2 * ref.PAGE)
+        put_image(image, out)
+        ask("diagnose", image, out)
+        ask("walk 1 0 9", image, out)
+        put_byte(ref.PAGE - 1, byte ^ 1, image, out)
+        ask("diagnose", image, out)
 
 
 def ask_inserts(rng, image, out):
@@ -291,9 +346,11 @@ def formats(rng, out):
 
 def main(seed, stores, damaged):
     rng = random.Random(seed)
+    late = random.Random(seed + 1)                    # for walks and faults: what was asked before there were any stays
     out = []
     ask_nested(out)
     ask_siblings(out)
+    ask_blank(out)
     for store in range(stores):
         print("store %d of %d" % (store + 1, stores), file=sys.stderr)
         formats(rng, out)
@@ -301,6 +358,8 @@ def main(seed, stores, damaged):
         put_image(image, out)
         out.append("S")
         ask_all(rng, image, 6, out)
+        ask("diagnose", image, out)
+        ask_walks(late, image, out)
         changed = bytearray(image)
         ask_inserts(rng, changed, out)
         ask_removals(rng, changed, out)
@@ -311,8 +370,11 @@ def main(seed, stores, damaged):
             damage(rng, hurt, out)
             if number % 40 == 0:
                 ask_all(rng, hurt, 1, out)
+                ask_steps(late, (1, 0), 2, out, hurt)
             else:
                 ask("check", hurt, out)
+            ask("diagnose", hurt, out)
+        ask_faults(late, image, out)
         out.append("R")
     longest = max(len(line) + 1 for line in out)
     print("V 1 %s %d" % (ref.RULES, max(longest, 100)))

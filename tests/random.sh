@@ -33,12 +33,14 @@ awk -v kind="$kind" '/ calls, / { calls += $2; differences += $4 }
     /^records freed: / { freed += $3 }
     /^helpers replaced: / { by_proxy += $3; by_other += $13 }
     /^stores full: / { full += $3; empty += $6; again += $11 }
-    /^step 1: / {
+    # cases of which each must be met: "step 1: .. 12; .. 3", of hostile calls "faults: .. 12; .. 3"
+    /^(step 1|faults): / {
+        head = substr($0, 1, 8)
         n = split(substr($0, 9), part, "; ")
         for (i = 1; i <= n; i++) {
             name = part[i]
             sub(/ [0-9]+$/, "", name)
-            if (!(name in met)) { names[++cases] = name; lead[cases] = i > 1 ? "; " : "\n" kind ": step 1: " }
+            if (!(name in met)) { names[++cases] = name; lead[cases] = i > 1 ? "; " : "\n" kind ": " head }
             met[name] += substr(part[i], length(name) + 2)
         }
     }
@@ -51,7 +53,7 @@ awk -v kind="$kind" '/ calls, / { calls += $2; differences += $4 }
         reached["hostile"] = "; images refused before the walk " before + 0 ", in the walk " walk + 0
         stores = "; stores full " full + 0 " times, empty " empty + 0 ", full again " again + 0
         text = kind ": " calls " calls compared, " differences " differences" reached[kind] (kind == "removals" ? stores : "")
-        missed = kind != "hostile" && !cases
+        missed = !cases
         for (i = 1; i <= cases; i++) {
             text = text lead[i] names[i] " " met[names[i]]
             missed = missed || !met[names[i]]

@@ -1,7 +1,7 @@
 """A second implementation of the rules, for the tests: small, made from their text alone (the base with changes E1 to E5).
 
-As a module it offers the calls over an image held in a bytearray: format_image, check, insert, remove, find, climb,
-read, next_node, records and listing. Each answer is a tuple that begins with the number. To make many inserts and
+As a module it offers the calls over an image held in a bytearray: format_image, check, diagnose, insert, remove, find,
+climb, read, next_node, walk, records and listing. Each answer is a tuple that begins with the number. To make many inserts and
 removals in one image, keep its store (read_store) and use insert_node, remove_node and write_changes. As a command it
 replays call scripts, compares every answer and the checksum of the image, and exits with 1 on any difference:
 
@@ -39,6 +39,13 @@ MAY_STAND = {
 (MISFIT, BAD_SETTINGS, BROKEN, LEVEL, BAD_KIND, LONG, ABSENT, CLOSED, GAP, STRAY, SHORT, FULL, BAD_ORIGIN,
  EMPTY_PATH) = range(1, 15)
 
+# Why an image is broken, for diagnose.
+(NEVER_FORMATTED, WRONG_SETTINGS, TRAILER, NOT_ZERO, PAST_LENGTH, WRONG_NODE, WRONG_LEVEL, LINK, NOT_REACHED) = range(1, 10)
+REASONS = ("never formatted", "settings", "trailer", "free page not zero", "bytes past the length", "node", "level",
+           "proxy or back link", "page not reached")
+
+WALK_ENTRY = 9                                        # numbers of an entry of a walk
+
 sys.setrecursionlimit(20000)
 
 
@@ -48,6 +55,14 @@ class Refused(Exception):
     def __init__(self, number):
         super().__init__(number)
         self.number = number
+
+
+class Fault(Exception):
+    """What diagnose finds first: the stage, the page and the reason."""
+
+    def __init__(self, stage, page, reason):
+        super().__init__(stage, page, reason)
+        self.answer = (stage, page, reason)
 
 
 class BadScript(Exception):
@@ -255,6 +270,103 @@ def read_store(image):
     for number in range(2, pages):
         require(number in records or image[number * PAGE + CAPACITY] == FREE, BROKEN)
     return Store(settings_on(page_of(image, 0)), records)
+
+
+# ---- What is wrong with an image: a second check, which says where and why it stops
+
+def find_fault(image):
+    """Raises the first fault of an image of a right length, if it has one."""
+    pages = len(image) // PAGE
+    find_settings_fault(page_of(image, 0), pages)
+    for number in range(1, pages):
+        find_page_fault(page_of(image, number), number, pages)
+    reached = {1}
+    enter_record(image, 1, 1, reached)
+    for number in range(2, pages):
+        if trailer_of(image, number)[0] == RECORD and number not in reached:
+            raise Fault(3, number, NOT_REACHED)
+
+
+def find_settings_fault(page, pages):
+    if not settings_kept(page, pages):
+        raise Fault(1, 0, NEVER_FORMATTED if page in (b"\x00" * PAGE, b"\xff" * PAGE) else WRONG_SETTINGS)
+
+
+def find_page_fault(page, number, pages):
+    """The trailer and, if it says so, the free page, taken by themselves."""
+    if not trailer_kept(page[CAPACITY:], number, pages):
+        raise Fault(2, number, TRAILER)
+    if page[CAPACITY] == FREE and not is_zero(page[:CAPACITY]):
+        raise Fault(2, number, NOT_ZERO)
+
+
+def trailer_of(image, number):
+    return image[number * PAGE + CAPACITY:(number + 1) * PAGE]
+
+
+def demand(true, page, reason):
+    """Ends the walk, in the record of this page."""
+    if not true:
+        raise Fault(3, page, reason)
+
+
+def is_whole(part):
+    """A part begins with a whole node."""
+    return len(part) >= HEADER and HEADER <= two(part, 4) <= len(part)
+
+
+def enter_record(image, number, level, reached):
+    """The record of a page that is marked as reached: its root and the bytes past it, then its nodes."""
+    page = page_of(image, number)
+    settled, used = page[CAPACITY + 1], two(page, CAPACITY + 2)
+    demand(page[0] == AGGREGATE if number == 1 else not (settled and page[0] == HELPER), number, WRONG_NODE)
+    demand(is_zero(page[used:CAPACITY]), number, PAST_LENGTH)
+    demand(is_whole(page[:used]) and two(page, 4) == used, number, WRONG_NODE)
+    walk_row(image, page[:used], number, 0, level, reached)
+
+
+def walk_row(image, row, page, holder, level, reached):
+    """A row of nodes that stands in a holder in the record of a page."""
+    while row:
+        demand(is_whole(row), page, WRONG_NODE)
+        node, row = row[:two(row, 4)], row[two(row, 4):]
+        walk_node(image, node, page, holder, level, reached)
+
+
+def walk_node(image, node, page, holder, level, reached):
+    kind, inside = node[0], node[HEADER:]
+    demand(node_kept(node, holder), page, WRONG_NODE)
+    if kind == PROXY:
+        follow_proxy(image, inside, page, level, reached)
+    elif kind == HELPER:
+        walk_row(image, inside, page, HELPER, level, reached)
+    else:
+        demand(level <= LEVELS, page, WRONG_LEVEL)
+        if kind == AGGREGATE:
+            walk_row(image, inside, page, AGGREGATE, level + 1, reached)
+
+
+def node_kept(node, holder):
+    """A node by its own header and, for a helper, by where its first child ends; its level and what it leads to apart."""
+    kind, origin, label, inside = node[0], node[1], two(node, 2), node[HEADER:]
+    if kind not in MAY_STAND[holder] or origin >= ORIGINS:
+        return False
+    if kind in (PROXY, HELPER) and (origin or label):
+        return False
+    if kind == LITERAL:
+        return len(inside) <= CONTENT
+    return kind != HELPER or (is_whole(inside) and two(inside, 4) < len(inside))
+
+
+def follow_proxy(image, inside, page, level, reached):
+    """What a proxy in the record of `page` names, and the record there."""
+    demand(len(inside) == 2, page, WRONG_NODE)
+    number = two(inside, 0)
+    demand(2 <= number < len(image) // PAGE, page, LINK)
+    trailer = trailer_of(image, number)
+    demand(trailer[0] == RECORD and two(trailer, 4) == page and number not in reached, page, LINK)
+    reached.add(number)
+    enter_record(image, number, level, reached)
 
 
 # ---- From the store to the image
@@ -648,6 +760,18 @@ def check(image):
 
 
 @answered
+def diagnose(image):
+    """Gives (number, stage, page, reason)."""
+    pages, rest = divmod(len(image), PAGE)
+    require(rest == 0 and 2 <= pages <= PAGES, MISFIT)
+    try:
+        find_fault(image)
+    except Fault as fault:
+        return (BROKEN,) + fault.answer
+    return (0, 0, 0, 0)
+
+
+@answered
 def insert(image, path, child, kind, origin, label, content):
     """Gives (number, page, offset, splits, lean)."""
     store = read_store(image)
@@ -702,6 +826,25 @@ def next_node(image, page, offset):
     if not following:
         return (0, 0, 0, 0, 0, 0)
     return (0, 1) + following[0].place() + (following[0].node.kind, following[0].node.origin)
+
+
+def walk_entry(entry):
+    """The nine numbers of an entry: those of climb, read and the place."""
+    node, (page, offset) = entry.node, entry.place()
+    start = page * PAGE + offset + HEADER if node.content else 0
+    return (len(entry.path) + 1, page, offset, node.kind, node.origin, node.label, entry.children, start, len(node.content))
+
+
+@answered
+def walk(image, page, offset, buffer):
+    """Gives (number, entries written, 1 if more follow or 0, page, offset of the next); the buffer is a list of numbers."""
+    entries = document_order(read_store(image))
+    first = number_of_place(entries, page, offset)
+    after = min(first + len(buffer) // WALK_ENTRY, len(entries))
+    written = [number for entry in entries[first:after] for number in walk_entry(entry)]
+    buffer[:len(written)] = written
+    more = (1,) + entries[after].place() if after < len(entries) else (0, 0, 0)
+    return (0, after - first) + more
 
 
 @answered
@@ -785,6 +928,16 @@ def run_next(image, a):
     return filled(next_node(image, int(a[0]), int(a[1])), 6)
 
 
+def run_walk(image, a):
+    buffer = [0xa7a7a7a7] * int(a[2])
+    answer = filled(walk(image, int(a[0]), int(a[1]), buffer), 5)
+    return answer + (to_hex(path_bytes(buffer)),)     # four bytes a number, as in a path
+
+
+def run_diagnose(image, a):
+    return filled(diagnose(image), 4)
+
+
 def run_records(image, a):
     return with_buffer(records, image, (), int(a[0]))
 
@@ -794,7 +947,8 @@ def run_listing(image, a):
 
 
 RUNS = {"format": run_format, "check": run_check, "insert": run_insert, "remove": run_remove, "find": run_find,
-        "climb": run_climb, "read": run_read, "next": run_next, "records": run_records, "listing": run_listing}
+        "climb": run_climb, "read": run_read, "next": run_next, "records": run_records, "listing": run_listing,
+        "walk": run_walk, "diagnose": run_diagnose}
 
 
 def checksum(image):

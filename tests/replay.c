@@ -1,4 +1,5 @@
-/* Replays call scripts on the library: every answer field, the lent buffer and the checksum of the image after every call are compared.
+/* Replays call scripts on the library: every answer field, the lent buffer and the checksum of the image after every call are compared; the numbers of
+ * a walk and of a diagnosis are lent between guards.
  * Usage: replay SCRIPT..   A script may be a pipe (/dev/stdin). The format of a script is described in tests/README.md. */
 #include <stdio.h>
 #include <stdlib.h>
@@ -6,7 +7,10 @@
 
 #include "../include/nichelarder.h"
 
-#define RULES 5u /* the rule set: the base with E1 to E5 */
+#define RULES 5u          /* the rule set: the base with E1 to E5 */
+#define LENT 0xa7a7a7a7u  /* each number of a buffer for a walk */
+#define GUARD 0x5b5b5b5bu
+#define GUARDS 16u        /* guards on each side: more than an entry */
 
 static uint8_t *image, *kept;
 static size_t image_len, kept_len;
@@ -68,6 +72,44 @@ static int by_number(const void *a, const void *b) {
 
 static unsigned long number(const char *s) { return strtoul(s, 0, 10); }
 
+/* n numbers, all the same, between guards that a call must leave as they are. */
+static uint32_t *lend(size_t n, uint32_t value) {
+    uint32_t *p = room((n + 2 * GUARDS) * sizeof *p);
+    for (size_t i = 0; i < n + 2 * GUARDS; i++) p[i] = i < GUARDS || i >= n + GUARDS ? GUARD : value;
+    return p + GUARDS;
+}
+
+/* Ends the loan; a guard that was written makes the answer differ. */
+static void give_back(uint32_t *p, size_t n, char *out) {
+    size_t kept = 0;
+    for (size_t i = 1; i <= GUARDS; i++) kept += (*(p - i) == GUARD) + (p[n + i - 1] == GUARD);
+    if (kept != 2 * GUARDS) strcat(out, " beyond the lent numbers");
+    free(p - GUARDS);
+}
+
+/* Four bytes a number, low byte first. */
+static void hex_numbers(char *at, const uint32_t *p, size_t n) {
+    for (size_t i = 0; i < n; i++, p++) at += sprintf(at, "%02x%02x%02x%02x", *p & 255, *p >> 8 & 255, *p >> 16 & 255, *p >> 24);
+    strcpy(at, n ? "" : "-");
+}
+
+static void walk(char **w, char *out) {
+    size_t n = number(w[3]);
+    uint32_t *p = lend(n, LENT), *v = lend(4, 77);
+    uint32_t r = nl_walk(image, image_len, (uint32_t)number(w[1]), (uint32_t)number(w[2]), p, n, v);
+    char *at = out + sprintf(out, "%u %u %u %u %u ", r, v[0], v[1], v[2], v[3]);
+    hex_numbers(at, p, n);
+    give_back(p, n, out);
+    give_back(v, 4, out);
+}
+
+static void diagnose(char *out) {
+    uint32_t *v = lend(3, 77);
+    uint32_t r = nl_diagnose(image, image_len, v);
+    sprintf(out, "%u %u %u %u", r, v[0], v[1], v[2]);
+    give_back(v, 3, out);
+}
+
 /* Makes the call of a line, of w words, and writes what it answers; 0 if the library has no such call. */
 static int call(char **w, int words, char *out) {
     size_t a, b;
@@ -122,6 +164,10 @@ static int call(char **w, int words, char *out) {
         uint32_t v[5] = {77, 77, 77, 77, 77};
         uint32_t r = nl_next(image, image_len, number(w[1]), number(w[2]), v);
         sprintf(out, "%u %u %u %u %u %u", r, v[0], v[1], v[2], v[3], v[4]);
+    } else if (!strcmp(w[0], "walk") && words == 4) {
+        walk(w, out);
+    } else if (!strcmp(w[0], "diagnose")) {
+        diagnose(out);
     } else
         return 0;
     return 1;

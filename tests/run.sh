@@ -3,7 +3,7 @@
 set -euo pipefail
 cd "$(dirname "$0")/.."
 cc=${CC:-cc}
-at() { echo "tests: $1 of 11: $2"; }
+at() { echo "tests: $1 of 13: $2"; }
 at 1 "the archive (minutes, where the crates are not proved yet)"
 rt staticlib nichelarder >/dev/null
 flags=(-std=c99 -O2 -Wall -Wextra -Werror)
@@ -11,10 +11,13 @@ flags=(-std=c99 -O2 -Wall -Wextra -Werror)
 "$cc" "${flags[@]}" tests/deep.c target/staticlib/libnichelarder.a -o target/deep
 "$cc" "${flags[@]}" tests/stack.c target/staticlib/libnichelarder.a -o target/stack -pthread
 "$cc" "${flags[@]}" tests/buffers.c target/staticlib/libnichelarder.a -o target/buffers
+"$cc" "${flags[@]}" tests/walk.c target/staticlib/libnichelarder.a -o target/walk
 at 2 "the header alone, in C and in C++, and the example, whose output is stored"
 strict=(-Wall -Wextra -Wpedantic -Wconversion -Wshadow -Werror)
-"$cc" -std=c99 "${strict[@]}" -Wstrict-prototypes -Wmissing-prototypes -c tests/header.c -o target/header.o
-"${CXX:-c++}" -x c++ -std=c++11 "${strict[@]}" -Wold-style-cast -c tests/header.c -o target/header.o
+"$cc" -std=c99 "${strict[@]}" -Wstrict-prototypes -Wmissing-prototypes tests/header.c target/staticlib/libnichelarder.a -o target/header
+target/header || { echo "header: a helper is wrong in C"; exit 1; }
+"${CXX:-c++}" -x c++ -std=c++11 "${strict[@]}" -Wold-style-cast tests/header.c -x none target/staticlib/libnichelarder.a -o target/header
+target/header || { echo "header: a helper is wrong in C++"; exit 1; }
 "$cc" -std=c99 "${strict[@]}" examples/panel.c target/staticlib/libnichelarder.a -o target/panel
 target/panel | diff examples/panel.txt -
 at 3 "the stored scripts${VECTORS:+, and those of $VECTORS}"
@@ -29,9 +32,13 @@ at 7 "hostile calls"
 REPLAY=target/replay bash tests/random.sh hostile 20000
 at 8 "the deepest image on a stack of 1 MB"
 (ulimit -s 1024 && target/deep)
-at 9 "the stack of an insert and of a removal"
+at 9 "the stack of each call"
 target/stack
 at 10 "buffers that lie in the image, and empty ones"
 target/buffers
-at 11 "the listing program"
+at 11 "walks against next, read and climb"
+target/walk
+at 12 "the listing program"
 bash tests/listing.sh
+at 13 "the tool"
+bash tests/tool.sh

@@ -1,7 +1,10 @@
-/* How much stack the calls take, measured on a thread whose stack is painted: an insert takes at most 24 KB beside the check of the same image, a
- * removal at most 8 KB.
- * The images: a small tree, one grown by inserts, one whose splits cascade, one whose split goes down through all levels, and the deepest nesting of
- * records, a chain of helper records through 1,022 pages, in the root's row and in one branch, which is removed whole. */
+/* How much stack the calls take, measured on a thread whose stack is painted, in bytes. Each keeps to the header's figures: NL_STACK_READ for a call that
+ * changes nothing, NL_STACK_CHANGE for one that does, and NL_STACK_NESTED more for each record that is nested in another. An insert takes at most 24 KB
+ * beside the check of the same image, a removal at most 8 KB.
+ * The images: a small tree; one grown by inserts; two whose splits cascade, the second through as many records as can be; one whose split goes down through
+ * all levels; aggregates on all levels with a node beside each, since the check goes into those with a call a level; the deepest nesting of records, a chain
+ * of helper records through 1,022 pages, in the root's row, in one branch, which is removed whole, and in the last of the aggregates. Then broken ones: a
+ * level too many, alone and with the chain, where the check goes deepest of all, and the chain broken at its end. */
 #define _POSIX_C_SOURCE 200809L
 #include "../bench/images.h"
 #include "../include/nichelarder.h"
@@ -10,7 +13,7 @@
 #include <stdlib.h>
 #include <string.h>
 
-#define STACK (8u << 20)
+#define STACK (1u << 20)
 #define PAINT 0xa5
 #define MOST_INSERT 24576
 #define MOST_REMOVAL 8192
@@ -18,13 +21,20 @@
 static uint8_t *image, *before;
 static size_t image_len;
 static uint8_t content[520], path[92];
-static uint32_t number, child, answer[3];
+static uint32_t number, child, answer[3], place[2], numbers[6], entries[NL_ENTRY * 2 * NL_PAGES];
+static uint8_t lent[2 * NL_PAGES];
 static size_t above; /* the parent's path is so many zeros of the content; that of the node to remove has an entry more */
 static int32_t lean;
 
 static void *check(void *unused) {
     (void)unused;
     number = nl_check(image, image_len);
+    return NULL;
+}
+
+static void *format_again(void *unused) {
+    (void)unused;
+    number = nl_format(image, image_len, (uint32_t)(image_len / NL_PAGE), 128, 409, NL_FORM, image + 16, NL_MATRIX, 7);
     return NULL;
 }
 
@@ -37,6 +47,48 @@ static void *insert(void *unused) {
 static void *removal(void *unused) {
     (void)unused;
     number = nl_remove(image, image_len, path, above + 4);
+    return NULL;
+}
+
+static void *diagnose(void *unused) {
+    (void)unused;
+    number = nl_diagnose(image, image_len, numbers);
+    return NULL;
+}
+
+static void *find(void *unused) {
+    (void)unused;
+    number = nl_find(image, image_len, path, above, numbers);
+    return NULL;
+}
+
+static void *climb(void *unused) {
+    (void)unused;
+    number = nl_climb(image, image_len, place[0], place[1], lent, NL_PATH, numbers);
+    return NULL;
+}
+
+static void *read_node(void *unused) {
+    (void)unused;
+    number = nl_read(image, image_len, place[0], place[1], numbers);
+    return NULL;
+}
+
+static void *next_node(void *unused) {
+    (void)unused;
+    number = nl_next(image, image_len, place[0], place[1], numbers);
+    return NULL;
+}
+
+static void *walk(void *unused) {
+    (void)unused;
+    number = nl_walk(image, image_len, place[0], place[1], entries, sizeof entries / sizeof *entries, numbers);
+    return NULL;
+}
+
+static void *records(void *unused) {
+    (void)unused;
+    number = nl_records(image, image_len, lent, sizeof lent, numbers);
     return NULL;
 }
 
@@ -61,37 +113,127 @@ static size_t used(void *(*run)(void *)) {
 
 static size_t base, worst_insert, worst_removal; /* the most that each took beside the check so far */
 
-/* Runs the call on the image, which stays. */
-static size_t beside(void *(*run)(void *), size_t c, size_t *worst) {
-    size_t n = used(run);
-    memcpy(image, before, image_len);
-    if (n > c && n - c > *worst)
-        *worst = n - c;
-    return n - base;
+static size_t two_at(const uint8_t *p) { return p[0] + 256u * p[1]; }
+
+/* How many records stand in one another below page 1, at most; the image passes the check. */
+static size_t nesting(void) {
+    size_t most = 0, page, at, n;
+    for (page = 2; page < image_len / NL_PAGE; page++) {
+        if (!image[NL_PAGE * page + 4080])
+            continue;
+        for (n = 0, at = page; at != 1; n++)
+            at = two_at(image + NL_PAGE * at + 4084);
+        if (n > most)
+            most = n;
+    }
+    return most;
 }
 
-/* Check, insert as the first and as the last child of the parent, and removal of its first and of its last child. */
+/* What each call takes, at most: where no records are nested, where those of all pages are, and beside NL_STACK_NESTED for each that is. */
+struct taken {
+    const char *name;
+    void *(*run)(void *);
+    size_t figure; /* the header's, which the last must not pass */
+    size_t flat, deepest, own;
+};
+
+static struct taken reads[] = {
+    {"check", check, NL_STACK_READ, 0, 0, 0},     {"diagnose", diagnose, NL_STACK_READ, 0, 0, 0}, {"walk", walk, NL_STACK_READ, 0, 0, 0},
+    {"find", find, NL_STACK_READ, 0, 0, 0},       {"climb", climb, NL_STACK_READ, 0, 0, 0},       {"read", read_node, NL_STACK_READ, 0, 0, 0},
+    {"next", next_node, NL_STACK_READ, 0, 0, 0}, {"records", records, NL_STACK_READ, 0, 0, 0}};
+static struct taken inserts = {"insert", insert, NL_STACK_CHANGE, 0, 0, 0}, removals = {"remove", removal, NL_STACK_CHANGE, 0, 0, 0};
+static struct taken formats = {"format", format_again, NL_STACK_CHANGE, 0, 0, 0};
+
+enum { READS = sizeof reads / sizeof *reads };
+
+static void raise_to(size_t *most, size_t n) {
+    if (n > *most)
+        *most = n;
+}
+
+/* Runs a call on an image in which so many records are nested. */
+static size_t take(struct taken *t, size_t nested) {
+    size_t n = used(t->run) - base, allowed = nested * NL_STACK_NESTED;
+    if (!nested)
+        raise_to(&t->flat, n);
+    if (nested == NL_PAGES - 2)
+        raise_to(&t->deepest, n);
+    raise_to(&t->own, n > allowed ? n - allowed : 0);
+    return n;
+}
+
+/* Runs a call that changes the image, which stays. */
+static size_t beside(struct taken *t, size_t c, size_t *worst, size_t nested) {
+    size_t n = take(t, nested);
+    memcpy(image, before, image_len);
+    raise_to(worst, n > c ? n - c : 0);
+    return n;
+}
+
+/* The calls that change nothing, at the place in `place`. */
+static void measure_reads(size_t nested) {
+    int i;
+    for (i = 0; i < READS; i++)
+        take(reads + i, nested);
+}
+
+/* Prints what a call takes; 1 if that is more than the header says. */
+static int report(const struct taken *t) {
+    printf("%-8s %5zu bytes of stack, %6zu with 1,022 records nested in one another: %.1f for each\n", t->name, t->flat, t->deepest,
+           ((double)t->deepest - (double)t->flat) / (NL_PAGES - 2));
+    if (t->own > t->figure || t->deepest > NL_STACK_MOST)
+        printf("stack: %s takes %zu beside %u for each record nested, and the header says %zu\n", t->name, t->own, NL_STACK_NESTED, t->figure);
+    return t->own > t->figure || t->deepest > NL_STACK_MOST;
+}
+
+/* All calls on a broken image, which they refuse. */
+static void measure_broken(size_t nested) {
+    if (nl_check(image, image_len) != NL_BROKEN)
+        exit(2);
+    measure_reads(nested);
+    take(&inserts, nested);
+    take(&removals, nested);
+}
+
+/* The path of a child of the parent. */
+static void put_child(uint32_t k) {
+    int i;
+    memset(path, 0, above);
+    for (i = 0; i < 4; i++)
+        path[above + (size_t)i] = (uint8_t)(k >> (8 * i));
+}
+
+/* The calls that change nothing, at the root, at the parent and at its first and its last child; format; insert as the first and as the last child of the
+ * parent, and removal of its first and of its last child. */
 static void measure(const char *name) {
-    uint32_t place[2], parent[6];
-    size_t c = used(check), n;
-    int last, i;
+    uint32_t parent[6];
+    size_t c = used(check) - base, n, nested = nesting();
+    int last;
+    memset(path, 0, sizeof path);
+    place[0] = 1, place[1] = 0;
+    measure_reads(nested);
     nl_find(image, image_len, content, above, place);
     nl_read(image, image_len, place[0], place[1], parent);
+    measure_reads(nested);
     memcpy(before, image, image_len);
+    for (last = 0; last < 2 && parent[2]; last++) {
+        put_child(last ? parent[2] - 1 : 0);
+        nl_find(image, image_len, path, above + 4, place);
+        measure_reads(nested);
+    }
+    take(&formats, nested);
+    memcpy(image, before, image_len);
     for (last = 0; last < 2; last++) {
         child = last ? parent[2] : 0;
-        n = beside(insert, c, &worst_insert);
+        n = beside(&inserts, c, &worst_insert, nested);
         if (name)
-            printf("%-8s check %7zu  insert %7zu bytes of stack, answer %u, %u splits\n", name, c - base, n, number, answer[2]);
+            printf("%-8s check %7zu  insert %7zu bytes of stack, answer %u, %u splits\n", name, c, n, number, answer[2]);
     }
     for (last = 0; last < 2 && parent[2]; last++) {
-        child = last ? parent[2] - 1 : 0;
-        memset(path, 0, above);
-        for (i = 0; i < 4; i++)
-            path[above + (size_t)i] = (uint8_t)(child >> (8 * i));
-        n = beside(removal, c, &worst_removal);
+        put_child(last ? parent[2] - 1 : 0);
+        n = beside(&removals, c, &worst_removal, nested);
         if (name)
-            printf("%-8s check %7zu  remove %7zu bytes of stack, answer %u\n", name, c - base, n, number);
+            printf("%-8s check %7zu  remove %7zu bytes of stack, answer %u\n", name, c, n, number);
     }
 }
 
@@ -115,6 +257,26 @@ static void link_page(unsigned page, unsigned last) {
     p[4080] = 1, p[4081] = page == 1, two(p + 4082, n), two(p + 4084, page - 1);
 }
 
+/* So many aggregates in one another, each with a literal after it. The last holds a literal, after a proxy to the records of all other pages, if there are
+ * any: each is a helper with the proxy of the next and a literal after it. */
+static void make_levels(unsigned levels, unsigned pages) {
+    unsigned page;
+    image_len = 4096u * pages;
+    memset(image, 0, image_len);
+    put_settings(image, pages);
+    for (page = 1; page < pages; page++) {
+        uint8_t *p = image + 4096u * page, *inner = page == 1 ? p + 6 * levels : p, *at = inner + 6;
+        at = page + 1 < pages ? put_proxy(at, page + 1) : put_node(at, 2, 9, 6);
+        at = put_node(at, 2, 9, 6);
+        for (; inner > p; inner -= 6) {
+            put_node(inner, 1, 9, (unsigned)(at - inner));
+            at = put_node(at, 2, 9, 6);
+        }
+        put_node(p, page == 1 ? 1 : 4, page == 1 ? 7 : 0, (unsigned)(at - p));
+        put_trailer(p, 1, page == 1, (unsigned)(at - p), page - 1);
+    }
+}
+
 static uint32_t format(unsigned pages, unsigned tolerance) {
     uint8_t matrix[256];
     memset(matrix, 2, sizeof matrix);
@@ -124,6 +286,7 @@ static uint32_t format(unsigned pages, unsigned tolerance) {
 
 int main(void) {
     unsigned k;
+    int over;
     base = used(nothing);
     image = malloc(4096u * 1024), before = malloc(4096u * 1024);
     if (!image || !before || format(64, 409))
@@ -149,7 +312,21 @@ int main(void) {
         if (nl_insert(image, image_len, content, above, 0, NL_LITERAL, NL_WIRE, 9, content, 520, answer, &lean))
             return 2;
     measure("nested");
+    /* aggregates down to level 23, alone and with the chain in the last of them; a level more breaks the image */
+    make_levels(22, 2);
+    measure("levels");
+    make_levels(22, 1024);
+    measure("all");
+    make_levels(23, 2);
+    measure_broken(0);
+    make_levels(23, 1024);
+    measure_broken(NL_PAGES - 2);
     above = 0;
+    /* the longest cascade: 511 full records */
+    make_chain(image, 512, fill_small);
+    memset(image + 4096u * 512, 0, 4096u * 512);
+    put16(image, 1024);
+    measure("longest");
     if (format(1024, 409))
         return 2;
     for (k = 1; k <= 1023; k++)
@@ -160,7 +337,16 @@ int main(void) {
     two(image + 4096 + 6, 1), two(image + 4096 + 8, 9), two(image + 4096 + 10, 14);
     two(image + 4096 + 4, 20), two(image + 4096 + 4082, 20);
     measure("branch");
+    /* the last record of the chain: its last node, then a byte past it */
+    image[4096u * 1023u + 12] = 5;
+    measure_broken(NL_PAGES - 2);
+    image[4096u * 1023u + 12] = 2;
+    image[4096u * 1023u + 4079] = 1;
+    measure_broken(NL_PAGES - 2);
+    over = report(&formats) + report(&inserts) + report(&removals);
+    for (k = 0; k < READS; k++)
+        over += report(reads + k);
     printf("insert beside the check: at most %zu bytes\n", worst_insert);
     printf("remove beside the check: at most %zu bytes\n", worst_removal);
-    return worst_insert > MOST_INSERT || worst_removal > MOST_REMOVAL;
+    return worst_insert > MOST_INSERT || worst_removal > MOST_REMOVAL || over;
 }

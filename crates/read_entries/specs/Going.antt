@@ -5,7 +5,7 @@ use mathlib.Core.List.{List, [], _∷_}
 use Prim.Native.Nat.{ℕ, suc, _+_, _*_, _-_, _≤_, _<_}
 use native.Mathlib.Omega.{arith}
 use lib.ListN.{length, getD, set, length-set}
-use lib.Seq.{getD-set-same, getD-set-other, length-sets}
+use lib.Seq.{getD-set-same, getD-set-other, sets}
 use lib.Dec.{eqb, ltb}
 use borrow.Author.Tests.{eqb-true, eqb-false, ltb-true, ltb-false, eq-eqb, ne-eqb}
 use Rattle.model.specs.Limits.{mostLevels, mostBytes, pageSize}
@@ -17,7 +17,7 @@ use Rattle.theory_row_bytes.specs.RowAt.{kindOf, headOf, sizeOf, kidsOf, restOf
 use Rattle.theory_layout.specs.Here.{parts-less, PageIn, view}
 use Rattle.theory_layout.specs.Widths.{Widths, width-first, plain-width}
 use Rattle.read_find.specs.Rowed.{Rowed, past-first, children-of, startOn, endOn, Entered, enter, width-steps}
-use Rattle.read_entries.specs.Way.{Way, met, way, begin, begin-case, told, told-case, told-sought, told-stopped, told-full, Keeps, Fair, kept-fair, visit-keeps, visits, patch}
+use Rattle.read_entries.specs.Way.{Way, met, way, begin, begin-case, begin-on, told, told-case, told-sought, told-stopped, told-written, told-full, Keeps, Fair, kept-fair, visit-keeps, visits, patch}
 use Rattle.read_entries.specs.Meets.{entryAt, meets, meets-none, first, visits-leaf, visits-past, visits-open}
 use Rattle.read_entries.specs.declared.Cursor.{Cursor}
 use Rattle.read_entries.specs.declared.Walked.{Walked}
@@ -149,6 +149,28 @@ pub record NodeHere (img : List ℕ) (i size level : ℕ) : Type 0 where
   pub small : size < 65536
   pub kind : (kindAt img i ≡ 1 → ⊥) → kindAt img i ≡ 2
 
+-- A node's entry is dealt with: begun where it begins, of the size that is read, told or not.
+pub record Dealt (img : List ℕ) (t : ℕ) (c : Cursor) (m here at next : ℕ) (out after : List ℕ) : Type 0 where
+  pub begins : here ≡ begin t (c .at) (c .i)
+  pub long : m ≡ sizeAt img (c .i)
+  pub tells : way at next after ≡ told here (c .i) (entryAt (c .level) (c .i) (kindAt img (c .i)) (headAt img (c .i)) m 0) (c .next) out
+
+-- An entry is to be written, and there is room for it.
+pub record Roomy (c : Cursor) (room : ℕ) : Type 0 where
+  pub begun : 1 ≤ c .at
+  pub calm : c .next ≡ 0
+  pub fits : c .at + 8 ≤ room
+
+pub written-dealt : {img : List ℕ} {t : ℕ} {c : Cursor} {out : List ℕ} (m at : ℕ) (after : List ℕ) → Roomy c (length out) → m ≡ sizeAt img (c .i) → at ≡ c .at + 9
+    → after ≡ sets out (c .at - 1) (entryAt (c .level) (c .i) (kindAt img (c .i)) (headAt img (c .i)) m 0) → Dealt img t c m (c .at) at 0 out after
+written-dealt {img} {t} {c} {out} m at after r e k q = record {
+  begins = sym (begin-on t (c .at) (c .i) (r .begun));
+  long = e;
+  tells =
+      (λ j. way (k j) (sym (r .calm) j) (q j))
+      ∙ sym (told-written (c .at) (c .i) (entryAt (c .level) (c .i) (kindAt img (c .i)) (headAt img (c .i)) m 0) (c .next) out (r .begun) (r .calm) (r .fits));
+}
+
 -- An aggregate with children is entered unless the walk has stopped.
 abbrev pub enters : (kind size next : ℕ) → Bool
 enters k m x = eqb k 1 && ltb 6 m && eqb x 0
@@ -207,13 +229,21 @@ module _ {img : List ℕ} {t : ℕ} {g : Goal} {c : Cursor} {stack out : List �
         kind = λ k. v .kind-is ∙ own-kind row some plain (λ z. k (v .kind-is ∙ z));
       }
 
+  pub node-few : c .n < mostBytes
+  node-few = omega (arith, parts-less row some, a .going .few)
+
   pub begin-low : (here : ℕ) → here ≡ begin t (c .at) (c .i) → here ≤ length out + 1
   begin-low here e = subst (λ (k : ℕ). k ≤ length out + 1) (sym e)
       (begin-case (λ (k : ℕ). k ≤ length out + 1) t (c .at) (c .i) (λ _. omega arith) (λ _. omega arith) (λ _. a .going .fair .low))
 
   -- What tell leaves.
-  module _ (here m at next : ℕ) (after : List ℕ) (begins : here ≡ begin t (c .at) (c .i)) (long : m ≡ sizeAt img (c .i))
-      (tells : way at next after ≡ told here (c .i) (entryAt (c .level) (c .i) (kindAt img (c .i)) (headAt img (c .i)) m 0) (c .next) out) where
+  module _ (here m at next : ℕ) (after : List ℕ) (d : Dealt img t c m here at next out after) where
+    begins : here ≡ begin t (c .at) (c .i)
+    begins = d .begins
+
+    long : m ≡ sizeAt img (c .i)
+    long = d .long
+
     abbrev entry : (n : ℕ) → List ℕ
     entry n = entryAt (c .level) (c .i) (kindOf row) (headOf row) (sizeOf row) n
 
@@ -223,7 +253,7 @@ module _ {img : List ℕ} {t : ℕ} {g : Goal} {c : Cursor} {stack out : List �
     same : way at next after ≡ told here (c .i) (entry 0) (c .next) out
     same =
         let v = view (a .going .rest .here) some in
-        tells ∙ (λ j. told here (c .i) (entryAt (c .level) (c .i) (v .kind-is j) (v .head-is j) (size-is j) 0) (c .next) out)
+        d .tells ∙ (λ j. told here (c .i) (entryAt (c .level) (c .i) (v .kind-is j) (v .head-is j) (size-is j) 0) (c .next) out)
 
     abbrev left : Way
     left = way at next after
@@ -390,7 +420,7 @@ module _ {img : List ℕ} {t : ℕ} {g : Goal} {c : Cursor} {stack out : List �
         let z : width (kidsOf row) ≡ 0 + width (kidsOf row) = omega arith in
         let ms = meets (c .level + 1) (c .i + 6) (kidsOf row) in
         visits-open t (reached c out) (c .level) (c .i) row some plain (omega (arith, begins, begin-low here begins)) (u .calm)
-            (λ h. omega (arith, begins, u .room (omega (arith, begins))))
+        (λ h. omega (arith, begins, u .room (omega (arith, begins))))
         ∙ (λ j. visits t (patch (sym begins j) (z j) (visits t (sym (same ∙ first-is 0) j) ms)) (meets (c .level) (c .i + sym size-is j) (restOf row)))
 
     pub node-entered : enters (kindAt img (c .i)) m next ≡ true

@@ -110,4 +110,4 @@ module _ (t : ℕ) (w : Way) (l i : ℕ) where
       ap (visits t w) (meets-first l i row h k)
       ∙ visits-++ t (first row (width (kidsOf row))) ms rest
       ∙ ap (λ (v : Way). visits t v rest)
-        (visits-patch t (begin t (w .at) i) i (width (kidsOf row)) (own 0) (w .next) (w .out) ms refl low calm room)
+      (visits-patch t (begin t (w .at) i) i (width (kidsOf row)) (own 0) (w .next) (w .out) ms refl low calm room)

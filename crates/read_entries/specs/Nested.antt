@@ -107,6 +107,9 @@ module _ {img : List ℕ} {t : ℕ} {g : Goal} {c : Cursor} {stack out : List �
       go false true p q e = ltb-true (g .base) (c .level) q
       go false false p q e = absurd (true≢false (sym e))
 
+  pub at-inner : c .i ≡ c .end → (c .level ≡ g .base → ⊥) → AtEnd img t g c stack out
+  at-inner z h = record { going = w; none = z; inner = omega (arith, within .2) }
+
   pub at-node : (c .i ≡ c .end → ⊥) → (kindAt img (c .i) ≡ 3 → ⊥) → AtNode img t g c stack out
   at-node z k = record { going = w; some = at-some z; plain = k }
 

@@ -12,7 +12,7 @@ use read_next::content_at;
 use read_next::node_at;
 ghost use mathlib.Core.Path.{_≡_};
 ghost use mathlib.Core.List.{List};
-ghost use mathlib.Core.Bool.{cond, _||_};
+ghost use mathlib.Core.Bool.{true, cond, _||_};
 ghost use Prim.Native.Nat.{ℕ, _+_, _-_, _≤_, _<_};
 ghost use lib.ListN.{length, set};
 ghost use lib.Dec.{eqb, ltb};
@@ -23,7 +23,7 @@ ghost use Rattle.model.specs.Calls.Walk.{walkOf};
 ghost use Rattle.theory_layout.specs.Widths.{Widths};
 ghost use Rattle.read_entries.specs.Way.{way, begin as beginOf, told, Fair};
 ghost use Rattle.read_entries.specs.Meets.{entryAt, entryBy};
-ghost use Rattle.read_entries.specs.Going.{cursor, NodeHere, enters as entersOf, Goal, Going, AtNode, AtEnd};
+ghost use Rattle.read_entries.specs.Going.{cursor, NodeHere, enters as entersOf, Goal, Going, AtNode, AtEnd, Dealt, Roomy};
 ghost use Rattle.read_entries.specs.Nested.{Recorded, Done};
 
 // What a walk remembers of each aggregate that it is in: where the row ends that the aggregate stands in, how many nodes of that row are passed, and where
@@ -91,7 +91,14 @@ fn put_entry(
 }
 
 // The entry of the node at i, of so many bytes; gives where the next one goes.
-fn put_node(image: &[u8], i: usize, size: usize, level: usize, out: &mut [u32], here: usize) -> usize
+fn put_node(
+    image: &[u8],
+    i: usize,
+    size: usize,
+    level: usize,
+    out: &mut [u32],
+    here: usize,
+) -> usize
     requires { ⌜ NodeHere (now image) i size level × (1 ≤ here) × (here + 8 ≤ length (now out)) ⌝ }
     ensures number { λ r. ⌜ r ≡ here + 9 ⌝ }
     ensures out { λ _. ⌜ now (out .exit)
@@ -137,10 +144,7 @@ fn tell(
         return Told { at: here, next: i };
     }
     let at = put_node(image, i, size, level, out, here);
-    Told {
-        at: at,
-        next: next,
-    }
+    Told { at: at, next: next }
 }
 
 // Whether a node is entered: an aggregate with children, unless the walk has stopped.
@@ -157,23 +161,22 @@ fn enters(image: &[u8], i: usize, size: usize, next: usize) -> bool
     next == 0
 }
 
-// Past the node at the cursor, or into it.
-fn node(
+// Past the node at the cursor, of so many bytes, or into it, once its entry is dealt with.
+fn over(
     image: &[u8],
     c: Cursor,
-    target: usize,
+    size: usize,
+    here: usize,
+    t: Told,
     stack: &mut [usize; STACK],
-    out: &mut [u32],
 ) -> Cursor
-    requires { ⌜ ((g : Goal) × AtNode (now image) target g c (now stack) (now out)) ⌝ }
-    ensures goes { λ r. ⌜ ((g : Goal) → AtNode (now (image .entry)) target g c (now (stack .entry)) (now (out .entry))
-        → Going (now (image .entry)) target g r (now (stack .exit)) (now (out .exit))) ⌝ }
+    requires { ⌜ NodeHere (now image) (c .i) size (c .level) × (c .n < 4194304) ⌝ }
+    ensures goes { λ r. ⌜ ((target : ℕ) (g : Goal) (out after : List ℕ) → AtNode (now (image .entry)) target g c (now (stack .entry)) out
+        → Dealt (now (image .entry)) target c size here (t .at) (t .next) out after
+        → Going (now (image .entry)) target g r (now (stack .exit)) after) ⌝ }
     ensures moves { λ r. ⌜ (c .i + 6 ≤ r .i) × (r .level ≤ c .level + 1) ⌝ }
 {
     let i = c.i;
-    let size = size_at(image, i);
-    let here = begin(c.at, i, target);
-    let t = tell(image, i, size, c.level, c.next, out, here);
     let n = c.n + 1;
     if enters(image, i, size, t.next) {
         let k = 3 * c.level;
@@ -197,6 +200,38 @@ fn node(
         at: t.at,
         next: t.next,
     }
+}
+
+// Past the node at the cursor, or into it.
+fn node(
+    image: &[u8],
+    c: Cursor,
+    target: usize,
+    stack: &mut [usize; STACK],
+    out: &mut [u32],
+) -> Cursor
+    requires { ⌜ ((g : Goal) × AtNode (now image) target g c (now stack) (now out)) ⌝ }
+    ensures goes { λ r. ⌜ ((g : Goal) → AtNode (now (image .entry)) target g c (now (stack .entry)) (now (out .entry))
+        → Going (now (image .entry)) target g r (now (stack .exit)) (now (out .exit))) ⌝ }
+    ensures moves { λ r. ⌜ (c .i + 6 ≤ r .i) × (r .level ≤ c .level + 1) ⌝ }
+{
+    let size = size_at(image, c.i);
+    let here = begin(c.at, c.i, target);
+    let t = tell(image, c.i, size, c.level, c.next, out, here);
+    over(image, c, size, here, t, stack)
+}
+
+// The same where there is room for its entry.
+fn write_node(image: &[u8], c: Cursor, stack: &mut [usize; STACK], out: &mut [u32]) -> Cursor
+    requires { ⌜ ((target : ℕ) × (g : Goal) × AtNode (now image) target g c (now stack) (now out)) × Roomy c (length (now out)) ⌝ }
+    ensures goes { λ r. ⌜ ((target : ℕ) (g : Goal) → AtNode (now (image .entry)) target g c (now (stack .entry)) (now (out .entry))
+        → Going (now (image .entry)) target g r (now (stack .exit)) (now (out .exit))) ⌝ }
+    ensures moves { λ r. ⌜ (c .i + 6 ≤ r .i) × (r .level ≤ c .level + 1) ⌝ }
+{
+    let size = size_at(image, c.i);
+    let here = c.at;
+    let at = put_node(image, c.i, size, c.level, out, here);
+    over(image, c, size, here, Told { at: at, next: 0 }, stack)
 }
 
 // The number of children, put into the entry of an aggregate; 0: it has none.
@@ -228,6 +263,52 @@ fn close(c: Cursor, stack: &[usize; STACK], out: &mut [u32]) -> Cursor
         at: c.at,
         next: c.next,
     }
+}
+
+// Whether there is room for an entry, and it is to be written.
+fn writes(c: Cursor, room: usize) -> bool
+    requires { ⌜ c .at ≤ room + 1 ⌝ }
+    ensures { λ r. ⌜ (r ≡ true → Roomy c room) ⌝ }
+{
+    if c.at == 0 {
+        return false;
+    }
+    if c.next != 0 {
+        return false;
+    }
+    9 <= room - (c.at - 1)
+}
+
+// On in a record as long as entries are written, to the next proxy or the record's end. A loop of its own with little to remember, since nearly all nodes
+// are passed here.
+fn run(
+    image: &[u8],
+    from: Cursor,
+    level: usize,
+    stack: &mut [usize; STACK],
+    out: &mut [u32],
+) -> Cursor
+    requires { ⌜ ((target : ℕ) × (g : Goal) × Going (now image) target g from (now stack) (now out) × (g .base ≡ level)) ⌝ }
+    ensures goes { λ r. ⌜ ((target : ℕ) (g : Goal) → Going (now (image .entry)) target g from (now (stack .entry)) (now (out .entry)) → g .base ≡ level
+        → Going (now (image .entry)) target g r (now (stack .exit)) (now (out .exit))) ⌝ }
+    ensures moves { λ r. ⌜ (from .i ≤ r .i) × (r .level + from .i ≤ from .level + r .i) ⌝ }
+{
+    let mut c = from;
+    while writes(c, out.len()) {
+        let i = c.i;
+        if i == c.end {
+            if c.level == level {
+                return c;
+            }
+            c = close(c, stack, out);
+        } else {
+            if image[i] == 3 {
+                return c;
+            }
+            c = write_node(image, c, stack, out);
+        }
+    }
+    c
 }
 
 // Behind a proxy, whose record shows n nodes.
@@ -284,9 +365,11 @@ fn walk_record(
     while goes_on(c, level) {
         let i = c.i;
         if i == c.end {
-            c = close(c, stack, out);
+            let d = close(c, stack, out);
+            c = run(image, d, level, stack, out);
         } else if image[i] != 3 {
-            c = node(image, c, target, stack, out);
+            let d = node(image, c, target, stack, out);
+            c = run(image, d, level, stack, out);
         } else {
             let p = name_at(image, i);
             if c.next != 0 {
@@ -304,7 +387,8 @@ fn walk_record(
                     c.at,
                     c.next,
                 );
-                c = behind(c, r.at, r.next, r.width);
+                let d = behind(c, r.at, r.next, r.width);
+                c = run(image, d, level, stack, out);
             }
         }
     }

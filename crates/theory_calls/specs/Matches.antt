@@ -35,7 +35,7 @@ module _ (img : List ℕ) (st : Config) (root : Row) (r : Reads img st root) whe
     short : length path ≤ longestPath
     short = omega (arith, s .long, path-levels 0 p (shown root) n m, height-shown root, reads-valid img st root r .levels)
 
-    finds : findOf img path ≡ record { number = 0; place = placeOr (placeOf root p) }
+    pub finds : findOf img path ≡ record { number = 0; place = placeOr (placeOf root p) }
     unfolding findOf findIn
     finds = rw (opens img st root r, e, m, le-ltb longestPath (length path) short)
 

@@ -73,8 +73,8 @@ walk-small (suc k) img s page holder level b h =
     cond-case SmallWalk (eqb (length s) 0) (λ _. tt)
     (λ _. cond-case SmallWalk (eqb n 0) (λ _. h)
     (λ _. onward-small (into (inside img (take n s) page holder level b) (rowWalk k img)) (rowWalk k img (drop n s) page holder level)
-      (into-small (inside img (take n s) page holder level b) (rowWalk k img) (inside-small img (take n s) page holder level b h) (walk-small k img))
-      (λ c. walk-small k img (drop n s) page holder level c h)))
+    (into-small (inside img (take n s) page holder level b) (rowWalk k img) (inside-small img (take n s) page holder level b h) (walk-small k img))
+    (λ c. walk-small k img (drop n s) page holder level c h)))
 
 unreached-small : (img reached : List ℕ) (k p : ℕ) → p + k ≤ mostPages → unreached img reached k p < mostPages
 unfolding unreached
@@ -104,7 +104,7 @@ module _ (img : List ℕ) (l : 1 ≤ pageCount img) (m : pageCount img ≤ mostP
       cond-case SmallFault (not (settingsOk (pageOf img 0) n)) (λ _. omega arith)
       (λ _. cond-case SmallFault (eqb (pagesFault img n (n - 1) 1 .stage) 0)
       (λ _. end-small img (into root walk) l m
-        (into-small root walk (record-small img (eqb (kindAt img pageSize) 1) 1 1 (been (recordCount img (n - 1) 1) []) (omega arith)) (walk-small (16384 * (1 + n)) img)))
+      (into-small root walk (record-small img (eqb (kindAt img pageSize) 1) 1 1 (been (recordCount img (n - 1) 1) []) (omega arith)) (walk-small (16384 * (1 + n)) img)))
       (λ _. pages-small img n (n - 1) 1 (omega arith)))
 
 -- an image of the right length has 2 to 1,024 pages

@@ -65,8 +65,8 @@ contentsOf k ns = map (λ (n : Node). n .content) (take k ns)
 abbrev pub walkCall : Place → (buffer : List ℕ) → Effect
 walkCall x buffer = asking (WalkAnswer × (List ℕ × List (List ℕ))) (λ a. a .0 .number)
     (λ img.
-      let a = walkOf img x buffer in
-      (a .0, (a .1, partsIn img (a .0 .written) (a .1))))
+    let a = walkOf img x buffer in
+    (a .0, (a .1, partsIn img (a .0 .written) (a .1))))
     (λ f h t.
-      let a = walkIn t (f .place) x buffer in
-      (a .0, (a .1, contentsOf (a .0 .written) (fromPlace (f .place) x (nodes t)))))
+    let a = walkIn t (f .place) x buffer in
+    (a .0, (a .1, contentsOf (a .0 .written) (fromPlace (f .place) x (nodes t)))))

@@ -69,7 +69,7 @@ returns-2 c =
       refl,
       c .before .before .put-entry2 .ensures
           ∙ ap (sets (a .out .now) (a .here - 1))
-            (entry-lit (a .level) (a .i) _ (headAt (a .image .now) (a .i)) (a .size) _ _ _ other (s .pre .0 .kind other) origin label (c .before .before .before .before .content-at .ensures)),
+          (entry-lit (a .level) (a .i) _ (headAt (a .image .now) (a .i)) (a .size) _ _ _ other (s .pre .0 .kind other) origin label (c .before .before .before .before .content-at .ensures)),
     )
 
 pub put-node-spec : {M : Type 1} → statement M
