@@ -1,16 +1,16 @@
 -- What a walk over the root's record leaves is what Walk answers.
-use mathlib.Core.Path.{_≡_, refl, sym, ap, ap₂, subst, _∙_}
+use mathlib.Core.Path.{_≡_, refl, sym, ap, subst, _∙_}
 use mathlib.Core.Bool.{Bool, true, false, cond}
-use mathlib.Core.List.{List, [], _∷_, _++_, map, append-assoc, append-nil}
+use mathlib.Core.List.{List, [], _∷_, _++_, map, append-assoc}
 use mathlib.Core.Option.{some}
-use Prim.Native.Nat.{ℕ, zero, suc, _+_, _*_, _-_, _/_, _%_, _≤_, _<_}
+use Prim.Native.Nat.{ℕ, zero, suc, _+_, _*_, _-_, _/_, _≤_}
 use native.Mathlib.Omega.{arith}
-use borrow.Author.Tests.{leb-true, leb-false, eqb-true, eqb-false, eq-eqb, ne-eqb}
+use borrow.Author.Tests.{ne-eqb}
 use lib.ListN.{length, take, drop, length-append, length-drop}
 use lib.Seq.{sets, sets-eq, take-at, drop-append-add, drop-drop, take-nil, drop-nil}
-use lib.Dec.{eqb, leb}
-use Rattle.model.specs.Limits.{pageSize, mostLevels, mostPages, mostBytes}
-use Rattle.model.specs.Row.{Row, size, base, height, Config}
+use lib.Dec.{eqb}
+use Rattle.model.specs.Limits.{pageSize, mostPages}
+use Rattle.model.specs.Row.{Row, size, base, Config}
 use Rattle.model.specs.Reading.{Reads}
 use Rattle.model.specs.Tree.{shown, Node, nodes, placeOf, fromPlace}
 use Rattle.model.specs.Answers.{noPlace, walkRefused}
@@ -27,11 +27,10 @@ use Rattle.theory_layout.specs.Here.{Here, root-page, root-nesting}
 use Rattle.read_find.specs.Rowed.{Rowed, startOn, endOn}
 use Rattle.read_next.specs.Scan.{NodeOf, Located, store-of}
 use Rattle.read_next.specs.Read.{some-from}
-use Rattle.read_entries.specs.Way.{Met, Way, way, begin, begin-on, told, told-written, told-full, visit, visits, visits-keeps, visits-stopped}
-use Rattle.read_entries.specs.Meets.{meets}
-use Rattle.read_entries.specs.Nested.{Recorded, Done}
+use Rattle.read_cursor.specs.Way.{Met, Way, way, begin, begin-on, told, told-written, told-full, visit, visits, visits-keeps, visits-stopped}
+use Rattle.read_cursor.specs.Meets.{meets}
+use Rattle.read_entries.specs.Nested.{Recorded}
 use Rattle.read_entries.specs.Told.{placed, Each, Tells, tells-all, fromPos, tells-from, each-take, each-drop, each-length, entries-of}
-use Rattle.read_entries.specs.declared.Walked.{Walked}
 
 abbrev entryList : List Met → List ℕ
 entryList ms = joined (map (λ (m : Met). m .entry) ms)

@@ -8,17 +8,17 @@ use lib.ListN.{length, getD}
 use lib.Dec.{ltb}
 use borrow.Author.Tests.{ltb-true, ltb-false}
 use Rattle.model.specs.Limits.{mostLevels, mostPages, mostBytes, pageSize}
-use Rattle.model.specs.Row.{Row, nil, agg, lit, rec, size, base, height}
+use Rattle.model.specs.Row.{rec, size, base, height}
 use Rattle.model.specs.Reading.{kindAt, nameAt}
 use Rattle.model.specs.Tree.{width}
 use Rattle.theory_decoding.specs.Steps.{steps}
 use Rattle.theory_layout.specs.Here.{PageIn}
 use Rattle.theory_layout.specs.Widths.{Widths}
 use Rattle.read_find.specs.Rowed.{Rowed, startOn, endOn, Entered, enter, width-steps}
-use Rattle.read_entries.specs.Way.{Way, way, Fair, kept-fair, visits, visits-++, visits-keeps, visits-stopped}
-use Rattle.read_entries.specs.Meets.{meets, meets-none}
-use Rattle.read_entries.specs.Going.{cursor, reached, Frame, resume, resume-same, Stacked, stacked-kept, stacked-room, stacked-within, Goal, Going, AtNode, AtEnd, row-none}
-use Rattle.read_entries.specs.declared.Cursor.{Cursor}
+use Rattle.read_cursor.specs.Way.{Way, way, Fair, kept-fair, visits, visits-++, visits-keeps, visits-stopped}
+use Rattle.read_cursor.specs.Meets.{meets, meets-none}
+use Rattle.read_cursor.specs.Going.{cursor, reached, Frame, resume, resume-same, Stacked, stacked-kept, stacked-room, stacked-within, Goal, Going, AtNode, AtEnd, row-none}
+use Rattle.read_cursor.specs.declared.Cursor.{Cursor}
 use Rattle.read_entries.specs.declared.Walked.{Walked}
 
 -- The record on a page, whose nodes have the level, with records nested at most `depth` deep below it.

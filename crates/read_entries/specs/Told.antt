@@ -2,17 +2,16 @@
 use mathlib.Core.Path.{_≡_, refl, sym, ap, ap₂, subst, _∙_}
 use mathlib.Core.Bool.{Bool, true, false, cond}
 use mathlib.Core.List.{List, [], _∷_, _++_, map, map-append}
-use mathlib.Core.Option.{Option, some}
+use mathlib.Core.Option.{some}
 use Prim.Native.Nat.{ℕ, zero, suc, _+_, _*_, _-_, _/_, _%_, _≤_, _<_}
 use native.Mathlib.Omega.{arith}
-use borrow.Author.Tests.{eqb-true, eqb-false, eq-eqb, ne-eqb}
+use borrow.Author.Tests.{eqb-true, eqb-false, eq-eqb}
 use lib.ListN.{length, take, drop}
 use lib.Dec.{eqb}
 use Rattle.model.specs.Limits.{pageSize}
 use Rattle.model.specs.Row.{Row, nil, agg, lit, rec, size, base, Config}
 use Rattle.model.specs.Reading.{Reads}
-use Rattle.model.specs.Tree.{shown, breadth, Node, branchNode, leafNode, below, further, nodes, samePlace, isPlace, placeOf, fromPlace}
-use Rattle.model.specs.Common.{placeOr}
+use Rattle.model.specs.Tree.{shown, breadth, Node, below, further, nodes, samePlace, isPlace, placeOf, fromPlace}
 use Rattle.model.specs.Calls.Read.{readFrom, asRead}
 use Rattle.model.specs.Calls.Walk.{entry, entryOf, joined, entriesOf}
 use Rattle.model.specs.declared.Place.{Place}
@@ -21,8 +20,8 @@ use Rattle.theory_decoding.specs.Reading.{reads-valid}
 use Rattle.theory_places.specs.Order.{lone-root, nodes-⊞}
 use Rattle.theory_layout.specs.Items.{spots}
 use Rattle.theory_layout.specs.Nodes.{All, Both, nodes-all, place-at}
-use Rattle.read_entries.specs.Way.{Met, met}
-use Rattle.read_entries.specs.Meets.{entryAt, meets}
+use Rattle.read_cursor.specs.Way.{Met, met}
+use Rattle.read_cursor.specs.Meets.{meets}
 
 -- The place of a position.
 abbrev pub placed : ℕ → Place

@@ -17,8 +17,8 @@ use Rattle.model.specs.Calls.Diagnose.{fault, noFault, freeNotZero, badTrailer,
 use Rattle.theory_check.specs.Facts.{no, both, not-else}
 use Rattle.theory_check.specs.Parts.{page-byte, page-long as length-page}
 use Rattle.theory_check.specs.Tests.{stateOf}
+use Rattle.read_fault_walk.specs.Rows.{part}
 use Rattle.read_faults.specs.Answer.{freeTrailer}
-use Rattle.read_faults.specs.Rows.{part}
 
 -- ── one page ──
 

@@ -22,11 +22,11 @@ use Rattle.theory_check.specs.Exact.{exact}
 use Rattle.theory_check.specs.Marks.{marks-none, none-marked}
 use Rattle.theory_faults.specs.Exact.{no-fault, some-fault}
 use Rattle.base_ranges.specs.Long.{length-says}
-use Rattle.read_faults.specs.declared.Inner.{Inner}
-use Rattle.read_faults.specs.declared.Walked.{Walked}
+use Rattle.read_fault_walk.specs.declared.Inner.{Inner}
+use Rattle.read_fault_walk.specs.declared.Walked.{Walked}
+use Rattle.read_fault_walk.specs.Rows.{Matches, Holds, innerOf, LeadsTo, recordOn, Ended, walkOf, Ends}
 use Rattle.read_faults.specs.Answer.{answer}
 use Rattle.read_faults.specs.Pages.{pages-none, pages-some}
-use Rattle.read_faults.specs.Rows.{Matches, Holds, innerOf, LeadsTo, recordOn, Ended, walkOf, Ends}
 
 -- ── before the walk ──
 

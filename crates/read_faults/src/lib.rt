@@ -1,16 +1,10 @@
 // Diagnose: why an image does not pass the check, that is, the stage that finds it, the page at fault, and a reason.
-use base_layout::name_at;
-use base_layout::used_at;
 use base_ranges::length_ok;
 use model::Diagnosis;
 use model::Settings;
+use read_fault_walk::record_row;
+use read_fault_walk::row_walk;
 use read_marks::is_marked;
-use read_marks::names;
-use read_marks::root_fits;
-use read_marks::set_mark;
-use read_marks::tail_zero;
-use read_nodes::head;
-use read_nodes::size_of;
 use read_pages::page_state;
 use read_pages::settings_ok;
 use read_pages::trailers;
@@ -18,19 +12,18 @@ use read_pages::zeros;
 ghost use mathlib.Core.Path.{_≡_};
 ghost use mathlib.Core.Bool.{true, cond};
 ghost use mathlib.Core.List.{List};
-ghost use Prim.Native.Nat.{ℕ, _+_, _-_, _*_, _≤_, _<_};
+ghost use Prim.Native.Nat.{ℕ, _-_, _*_, _≤_};
 ghost use lib.ListN.{length};
 ghost use lib.Dec.{eqb};
-ghost use Rattle.model.specs.Limits.{mostPages, pageSize, mostLevels};
+ghost use Rattle.model.specs.Limits.{mostPages, pageSize};
 ghost use Rattle.model.specs.Row.{every};
 ghost use Rattle.model.specs.Reading.{lengthOk};
 ghost use Rattle.model.specs.BeforeWalk.{trailerOf, pageCount, beforeWalk};
 ghost use Rattle.model.specs.Answers.{notPassed};
 ghost use Rattle.model.specs.Calls.Diagnose.{diagnosis, settingsReason, freeNotZero, badTrailer, pagesFault, recordCount, walkFault, faultOf, diagnoseOf};
 ghost use Rattle.model.specs.Calls.Diagnose as diagnose;
-ghost use Rattle.theory_check.specs.Check.{PassedBefore};
+ghost use Rattle.read_fault_walk.specs.Rows.{Matches};
 ghost use Rattle.read_faults.specs.Answer.{answer, freeTrailer};
-ghost use Rattle.read_faults.specs.Rows.{Matches, Within, Holds, rowAt, stopsAt, Leads, LeadsTo, recordOn, proxyTo, insideOf, stoppedAt, walkOf, Ends};
 
 const NEVER_FORMATTED: u32 = 1;
 
@@ -39,14 +32,6 @@ const BAD_SETTINGS: u32 = 2;
 const BAD_TRAILER: u32 = 3;
 
 const FREE_NOT_ZERO: u32 = 4;
-
-const PAST_LENGTH: u32 = 5;
-
-const BAD_NODE: u32 = 6;
-
-const TOO_DEEP: u32 = 7;
-
-const BAD_PROXY: u32 = 8;
 
 const NOT_REACHED: u32 = 9;
 
@@ -144,198 +129,7 @@ fn pages_fault(image: &[u8], pages: usize) -> Diagnosis
     no_fault()
 }
 
-// ── stage 3: what a node leads into ──
-
-// A row of nodes: its bytes, the kind of what holds them, their level, and what is left to be reached; or, if the reason is not 0, the page in which the
-// walk stops. A row's page is the one that it starts in.
-struct Inner {
-    start: usize,
-    stop: usize,
-    kind: usize,
-    level: usize,
-    left: usize,
-    page: usize,
-    reason: u32,
-}
-
-fn stops(page: usize, reason: u32) -> Inner
-    ensures { λ r. ⌜ r ≡ stopsAt page reason ⌝ }
-{
-    Inner {
-        start: 0,
-        stop: 0,
-        kind: 0,
-        level: 0,
-        left: 0,
-        page: page,
-        reason: reason,
-    }
-}
-
-fn row(start: usize, stop: usize, holder: usize, level: usize, left: usize) -> Inner
-    ensures { λ r. ⌜ r ≡ rowAt start stop holder level left ⌝ }
-{
-    Inner {
-        start: start,
-        stop: stop,
-        kind: holder,
-        level: level,
-        left: left,
-        page: 0,
-        reason: 0,
-    }
-}
-
-// The record of page p, if its root may be one: a row of one node, which takes all of the length used.
-fn record_row(image: &[u8], root_ok: bool, p: usize, level: usize, left: usize) -> Inner
-    requires { ⌜ Holds (now image) p × (level ≤ mostLevels + 1) ⌝ }
-    ensures { λ r. ⌜ LeadsTo (now (image .entry)) (recordOn (now (image .entry)) «root_ok» p level left) r ⌝ }
-{
-    if !root_ok {
-        return stops(p, BAD_NODE);
-    }
-    if !tail_zero(image, p) {
-        return stops(p, PAST_LENGTH);
-    }
-    let a = Settings::PAGE * p;
-    let n = used_at(image, a);
-    let e = a + n;
-    if size_of(&image[a..e]) != n {
-        return stops(p, BAD_NODE);
-    }
-    row(a, e, 0, level, left)
-}
-
-// Page p, which a proxy in the record of `page` names, is a record's, has its back link here, and is reached for the first time.
-fn proxy_row(
-    image: &[u8],
-    p: usize,
-    page: usize,
-    level: usize,
-    left: usize,
-    marks: &mut [u8; Settings::MARKS],
-) -> Inner
-    requires { ⌜ PassedBefore (now image) × (level ≤ mostLevels + 1) ⌝ }
-    ensures { λ r. ⌜ Leads (now (image .entry)) (proxyTo (now (image .entry)) p page level left) (now (marks .entry)) (now (marks .exit)) r ⌝ }
-{
-    if !names(image, p, page) {
-        return stops(page, BAD_PROXY);
-    }
-    if left < 2 {
-        return stops(page, BAD_PROXY);
-    }
-    if is_marked(marks, p) {
-        return stops(page, BAD_PROXY);
-    }
-    set_mark(marks, p);
-    record_row(image, root_fits(image, p), p, level, left - 1)
-}
-
-// What the node from i to next leads into, inside a node of the kind `holder`.
-fn inside(
-    image: &[u8],
-    i: usize,
-    next: usize,
-    holder: usize,
-    level: usize,
-    left: usize,
-    marks: &mut [u8; Settings::MARKS],
-) -> Inner
-    requires { ⌜ PassedBefore (now image) × Within (now image) i next holder level × (i + 6 ≤ next) ⌝ }
-    ensures { λ r. ⌜ Leads (now (image .entry)) (insideOf (now (image .entry)) i next holder level left) (now (marks .entry)) (now (marks .exit)) r ⌝ }
-{
-    let page = i / Settings::PAGE;
-    let part = &image[i..next];
-    let kind = head(part, holder);
-    if kind == 0 {
-        return stops(page, BAD_NODE);
-    }
-    if kind == 3 {
-        if part.len() != 8 {
-            return stops(page, BAD_NODE);
-        }
-        return proxy_row(image, name_at(part, 0), page, level, left, marks);
-    }
-    if kind == 4 {
-        return row(i + 6, next, 4, level, left);
-    }
-    if Settings::LEVELS < level {
-        return stops(page, TOO_DEEP);
-    }
-    if kind == 2 {
-        return row(next, next, 2, level, left);
-    }
-    row(i + 6, next, 1, level + 1, left)
-}
-
 // ── stage 3: the walk ──
-
-// What a walk leaves to be reached; or, if the reason is not 0, the page in which it has stopped.
-struct Walked {
-    left: usize,
-    page: usize,
-    reason: u32,
-}
-
-fn stopped(page: usize, reason: u32) -> Walked
-    ensures { λ r. ⌜ r ≡ stoppedAt page reason ⌝ }
-{
-    Walked {
-        left: 0,
-        page: page,
-        reason: reason,
-    }
-}
-
-// The nodes of a row, each followed by the row that it leads into. The row of its last node takes its place, so that a nested record costs one call at most.
-fn row_walk(
-    image: &[u8],
-    mut start: usize,
-    mut stop: usize,
-    mut holder: usize,
-    mut level: usize,
-    mut left: usize,
-    mut fuel: usize,
-    marks: &mut [u8; Settings::MARKS],
-) -> Walked
-    requires { ⌜ PassedBefore (now image) × Within (now image) start stop holder level ⌝ }
-    ensures { λ r. ⌜ Ends (walkOf fuel (now (image .entry)) start stop holder level left) (now (marks .entry)) (now (marks .exit)) r ⌝ }
-{
-    while start < stop {
-        if fuel == 0 {
-            return stopped(start / Settings::PAGE, BAD_NODE);
-        }
-        fuel = fuel - 1;
-        let n = size_of(&image[start..stop]);
-        if n == 0 {
-            return stopped(start / Settings::PAGE, BAD_NODE);
-        }
-        let next = start + n;
-        let x = inside(image, start, next, holder, level, left, marks);
-        if x.reason != 0 {
-            return stopped(x.page, x.reason);
-        }
-        if next == stop {
-            start = x.start;
-            stop = x.stop;
-            holder = x.kind;
-            level = x.level;
-            left = x.left;
-            continue;
-        }
-        let r = row_walk(image, x.start, x.stop, x.kind, x.level, x.left, fuel, marks);
-        if r.reason != 0 {
-            return r;
-        }
-        start = next;
-        left = r.left;
-    }
-    Walked {
-        left: left,
-        page: 0,
-        reason: 0,
-    }
-}
 
 // The first record page from 2 on that was not reached, 0 if there is none.
 fn unreached(image: &[u8], pages: usize, marks: &[u8; Settings::MARKS]) -> usize

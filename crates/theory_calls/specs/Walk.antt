@@ -1,7 +1,7 @@
 -- Walk in a list of calls.
-use mathlib.Core.Path.{_≡_, refl, sym, ap, _∙_}
+use mathlib.Core.Path.{_≡_, refl, ap}
 use mathlib.Core.List.{List, [], _∷_, _++_, map, List·Memᴰ·head, List·Memᴰ·tail, Memᴰ·append-right}
-use mathlib.Core.Option.{Option, some}
+use mathlib.Core.Option.{Option}
 use Prim.Native.Nat.{ℕ, zero, suc, _+_, _/_}
 use native.Mathlib.Omega.{arith}
 use lib.ListN.{length, take, drop}
@@ -9,8 +9,7 @@ use Rattle.model.specs.Row.{Row, Config}
 use Rattle.model.specs.Tree.{shown, Node, nodes, placeOf, fromPlace}
 use Rattle.model.specs.Reading.{Reads}
 use Rattle.model.specs.Claims.{CallHolds}
-use Rattle.model.specs.Common.{placeOr}
-use Rattle.model.specs.Calls.Walk.{entryOf, entriesOf, walkAnswer, walkFrom, walkIn, walkOf, partsIn, contentsOf, walkCall}
+use Rattle.model.specs.Calls.Walk.{entriesOf, walkAnswer, walkFrom, walkIn, walkOf, partsIn, contentsOf, walkCall}
 use Rattle.model.specs.declared.Place.{Place}
 use Rattle.model.specs.declared.WalkAnswer.{WalkAnswer}
 use Rattle.theory_decoding.specs.Reading.{reads-valid}

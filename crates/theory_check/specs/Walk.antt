@@ -6,7 +6,7 @@ use lib.ListN.{length, take, drop}
 use lib.Dec.{ltb, leb, eqb}
 use Rattle.model.specs.Limits.{pageSize, mostLevels}
 use Rattle.model.specs.Row.{Head, Row, nil, agg, lit, rec, _⊹_}
-use Rattle.model.specs.Reading.{headAt, nameAt, usedAt, settledAt}
+use Rattle.model.specs.Reading.{headAt, nameAt, settledAt}
 use Rattle.theory_check.specs.Rec.{run}
 use Rattle.model.specs.WalkTests.{wholeSize, passingKind, namesOf, rootFits, tailZero, recordOf}
 use Rattle.theory_check.specs.Tests.{isMarked, marked}

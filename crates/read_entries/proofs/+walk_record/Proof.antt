@@ -6,18 +6,18 @@ use borrow.Author.Needs.{needs}
 use borrow.Fn.Kinds.{In}
 use borrow.Fn.PlainCycle.{Measures, is, falls, and}
 use Rattle.read_find.specs.Rowed.{endOn}
-use Rattle.read_entries.specs.Going.{Going}
-use Rattle.read_entries.specs.Nested.{Recorded, Done, goal, going-start, going-end, within, at-some, at-end, at-node, at-last, inside, entered, named-inside}
+use Rattle.read_cursor.specs.Going.{Going}
+use Rattle.read_entries.specs.Nested.{Recorded, goal, going-start, going-end, within, at-some, at-end, at-node, at-last, inside, entered, named-inside}
 use Rattle.read_entries.specs.Nested.{named-few, nested, same-cursor, proxy-walked, proxy-stopped}
-use Rattle.read_entries.specs.declared.Cursor.{Cursor}
+use Rattle.read_cursor.specs.declared.Cursor.{Cursor}
 use Rattle.read_entries.proofs.walk_record.Reads as walk-record
 use Rattle.read_entries.proofs.walk_record.Kinds as walk-record-kinds
 use Rattle.read_entries.proofs.+walk_record.Lts-walk_record as walk-record-lts
 use Rattle.base_layout.proofs.name_at.Reads as name-at-reads
 use Rattle.read_entries.proofs.behind.Reads as behind-reads
-use Rattle.read_entries.proofs.close.Reads as close-reads
+use Rattle.read_cursor.proofs.close.Reads as close-reads
 use Rattle.read_entries.proofs.goes_on.Reads as goes-on-reads
-use Rattle.read_entries.proofs.node.Reads as node-reads
+use Rattle.read_cursor.proofs.node.Reads as node-reads
 use Rattle.read_entries.proofs.run.Reads as run-reads
 use Rattle.read_find.proofs.row_end.Reads as row-end-reads
 use Rattle.read_find.proofs.row_start.Reads as row-start-reads

@@ -1,10 +1,10 @@
 -- `read_entries::run`: the walk stays the same walk.
-use mathlib.Core.Path.{_≡_, sym, ap, _∙_}
+use mathlib.Core.Path.{_≡_, sym, _∙_}
 use Prim.Native.Nat.{ℕ, _+_, _*_, _-_, _≤_}
 use native.Mathlib.Omega.{arith}
 use lib.ListN.{length}
-use Rattle.read_entries.specs.Going.{Goal, Going}
-use Rattle.read_entries.specs.Nested.{within, at-some, at-inner, at-node, inside}
+use Rattle.read_cursor.specs.Going.{Goal, Going}
+use Rattle.read_entries.specs.Nested.{at-some, at-inner, at-node, inside}
 use Rattle.read_entries.proofs.run.Statement.{statement}
 use Rattle.read_entries.proofs.run.Tie as tie
 

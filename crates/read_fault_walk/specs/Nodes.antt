@@ -1,0 +1,220 @@
+-- What a node leads into, by its kind.
+use mathlib.Core.Path.{_≡_, refl, sym, ap, _∙_}
+use mathlib.Core.Bool.{Bool, true, false, cond, _&&_, _||_, and-false}
+use mathlib.Core.List.{List, [], _∷_}
+use Prim.Native.Nat.{ℕ, zero, suc, _+_, _-_, _*_, _/_, _≤_, _<_}
+use native.Mathlib.Omega.{arith}
+use native.Mathlib.Nat.{add-sub-cancel-left}
+use lib.ListN.{length, take, drop, length-drop}
+use lib.Seq.{take-nil, take-take, drop-drop, length-take-le}
+use lib.Dec.{leb, eqb}
+use borrow.Author.Tests.{eq-eqb, ne-eqb, lt-ltb, le-ltb, lt-leb, le-leb, eqb-true, eqb-false, ltb-true, leb-true}
+use Rattle.model.specs.Limits.{mostPages, pageSize, mostLevels}
+use Rattle.model.specs.Reading.{usedAt, nameAt}
+use Rattle.model.specs.WalkTests.{wholeSize, passingKind, namesOf, rootFits, tailZero}
+use Rattle.model.specs.Calls.Diagnose.{been, contains, Inside, row, stops, badNode, pastLength, tooDeep, badProxy, inside}
+use Rattle.theory_decoding.specs.Valid.{both as and-both}
+use Rattle.theory_check.specs.Tests.{isMarked, marked}
+use Rattle.theory_check.specs.Marks.{marks-kept, is-marked}
+use Rattle.read_fault_walk.specs.declared.Inner.{Inner}
+use Rattle.read_fault_walk.specs.Rows.{part, Matches, Within, Holds, rowAt, stopsAt, Leads, LeadsTo, recordOn, proxyTo, insideOf}
+
+-- ── parts ──
+
+drop-take : (n m : ℕ) (l : List ℕ) → drop n (take m l) ≡ take (m - n) (drop n l)
+drop-take zero m l = let e : m ≡ m - 0 = omega arith in ap (λ (k : ℕ). take k l) e
+drop-take (suc n) zero l = let e : 0 - suc n ≡ 0 = omega arith in rw e
+drop-take (suc n) (suc m) [] = sym (take-nil (suc m - suc n))
+drop-take (suc n) (suc m) (x ∷ l) = let e : m - n ≡ suc m - suc n = omega arith in drop-take n m l ∙ ap (λ (k : ℕ). take k (drop n l)) e
+
+module _ (img : List ℕ) (i e n : ℕ) where
+  pub drop-part : drop n (part img i e) ≡ part img (i + n) e
+  drop-part =
+      let k : e - i - n ≡ e - (i + n) = omega arith in
+      drop-take n (e - i) (drop i img) ∙ ap (take (e - i - n)) (drop-drop n i img) ∙ ap (λ (m : ℕ). take m (drop (i + n) img)) k
+
+  pub take-part : i + n ≤ e → take n (part img i e) ≡ part img i (i + n)
+  take-part h = take-take n (e - i) (drop i img) (omega arith) ∙ ap (λ (m : ℕ). take m (drop i img)) (sym (add-sub-cancel-left i n))
+
+pub length-part : (img : List ℕ) (i e : ℕ) → e ≤ length img → length (part img i e) ≡ e - i
+length-part img i e h = length-take-le (e - i) (drop i img) (omega (arith, length-drop i img))
+
+pub no-part : (img : List ℕ) (i e : ℕ) → e ≤ i → length (part img i e) ≡ 0
+no-part img i e h = let z : e - i ≡ 0 = omega arith in rw z
+
+-- A later byte of a row is on the same page, and the row from there on is one.
+module _ {img : List ℕ} {i e holder level : ℕ} (w : Within img i e holder level) {j : ℕ} (low : i ≤ j) (high : j ≤ e) where
+  pub same-page : j / pageSize ≡ i / pageSize
+  same-page = omega (arith, w .fits)
+
+  pub within-rest : (h l : ℕ) → h < 5 → l ≤ mostLevels + 1 → Within img j e h l
+  within-rest h l k m = record { fits = omega (arith, w .fits); on = omega (arith, w .fits, w .on); held = k; low = m }
+
+pub within-front : {img : List ℕ} {i e holder level : ℕ} → Within img i e holder level → {j : ℕ} → j ≤ e → Within img i j holder level
+within-front w h = record { fits = omega (arith, w .fits); on = w .on; held = w .held; low = w .low }
+
+pub within-long : {img : List ℕ} {i e holder level : ℕ} → Within img i e holder level → e ≤ length img
+within-long w = omega (arith, w .fits, w .on)
+
+-- ── stops and rows ──
+
+module _ {img : List ℕ} {x : Inner} where
+  pub to-stop : {w : List ℕ → Inside} (p c : ℕ) → 1 ≤ c → x ≡ stopsAt p c → ((reached : List ℕ) → w reached ≡ stops p c) → LeadsTo img w x
+  to-stop p c some e f = rw e ((λ z. absurd (omega (arith, z))), λ ps. rw (ne-eqb c 0 (λ z. omega arith)) (f ps))
+
+  pub leads-stop : {w : List ℕ → Inside} {m n : List ℕ} (p c : ℕ) → 1 ≤ c → x ≡ stopsAt p c
+      → ((reached : List ℕ) → Matches m reached → w reached ≡ stops p c) → Leads img w m n x
+  leads-stop p c some e f =
+      rw e (
+        (λ z. absurd (omega (arith, z))),
+        λ ps k. record { reached = ps; matches = λ z. absurd (omega (arith, z)); same = rw (ne-eqb c 0 (λ z. omega arith)) (f ps k) },
+      )
+
+  pub leads-row : {w : List ℕ → Inside} {m : List ℕ} (a e h l n : ℕ) → x ≡ rowAt a e h l n → Within img a e h l
+      → ((reached : List ℕ) → w reached ≡ row (part img a e) (a / pageSize) h l (been n reached)) → Leads img w m m x
+  leads-row a e h l n q k f = rw q ((λ _. k), λ ps b. record { reached = ps; matches = λ _. b; same = f ps })
+
+  pub leads-same : {w v : List ℕ → Inside} {m n : List ℕ} → ((reached : List ℕ) → v reached ≡ w reached) → Leads img w m n x → Leads img v m n x
+  leads-same e l = (
+    l .0,
+    λ ps k. let d = l .1 ps k in record { reached = d .reached; matches = d .matches; same = e ps ∙ d .same },
+  )
+
+-- ── a record ──
+
+module _ (img : List ℕ) (rootOk : Bool) (p level left : ℕ) where
+  pub record-root : rootOk ≡ false → (reached : List ℕ) → recordOn img rootOk p level left reached ≡ stops p badNode
+  unfolding recordOn
+  record-root e ps = rw e
+
+  pub record-tail : rootOk ≡ true → tailZero img p ≡ false → (reached : List ℕ) → recordOn img rootOk p level left reached ≡ stops p pastLength
+  unfolding recordOn
+  record-tail e t ps = rw (e, t)
+
+  module _ (h : Holds img p) (e : rootOk ≡ true) (t : tailZero img p ≡ true) (u n : ℕ) (used : u ≡ usedAt img (pageSize * p))
+      (size : n ≡ wholeSize (part img (pageSize * p) (pageSize * p + u))) where
+    same-record : part img (pageSize * p) (pageSize * p + u) ≡ take (usedAt img (pageSize * p)) (drop (pageSize * p) img)
+    same-record = ap (λ (k : ℕ). take k (drop (pageSize * p) img)) (add-sub-cancel-left (pageSize * p) u ∙ used)
+
+    long : length (part img (pageSize * p) (pageSize * p + u)) ≡ u
+    long = length-part img (pageSize * p) (pageSize * p + u) (omega (arith, h .on, h .used)) ∙ add-sub-cancel-left (pageSize * p) u
+
+    pub record-part : (n ≡ u → ⊥) → (reached : List ℕ) → recordOn img rootOk p level left reached ≡ stops p badNode
+    unfolding recordOn
+    record-part d ps = rw (e, t, ← same-record, long, ← size, ne-eqb n u d)
+
+    record-is : n ≡ u → (reached : List ℕ)
+        → recordOn img rootOk p level left reached
+        ≡ row (part img (pageSize * p) (pageSize * p + u)) (pageSize * p / pageSize) 0 level (been left reached)
+    unfolding recordOn
+    record-is d ps =
+        let on : p ≡ pageSize * p / pageSize = omega arith in
+        rw (e, t, ← same-record, long, ← size, eq-eqb n u d) (ap (λ (k : ℕ). row (part img (pageSize * p) (pageSize * p + u)) k 0 level (been left ps)) on)
+
+    pub record-leads : {x : Inner} → level ≤ mostLevels + 1 → x ≡ rowAt (pageSize * p) (pageSize * p + u) 0 level left → n ≡ u
+        → LeadsTo img (recordOn img rootOk p level left) x
+    unfolding recordOn
+    record-leads low q d =
+        let w : Within img (pageSize * p) (pageSize * p + u) 0 level =
+        record { fits = omega (arith, h .used); on = omega (arith, h .on); held = omega arith; low = low } in
+        rw q ((λ _. w), record-is d)
+
+-- ── a proxy ──
+
+-- What a page that is named shows of itself.
+pub named : (img : List ℕ) (p page : ℕ) → namesOf img p page ≡ true → Holds img p
+unfolding namesOf
+named img p page e =
+    let holder = and-both _ _ e in
+    let used = and-both _ _ (holder .0) in
+    let kind = and-both _ _ (used .0) in
+    let inside = and-both _ _ (kind .0) in
+    let low = and-both (leb 2 p) _ (inside .0) in
+    record { few = ltb-true _ _ (low .1); on = leb-true _ _ (inside .1); used = leb-true _ _ (used .1) }
+
+module _ (img : List ℕ) (p page level left : ℕ) where
+  pub proxy-names : namesOf img p page ≡ false → (reached : List ℕ) → proxyTo img p page level left reached ≡ stops page badProxy
+  unfolding proxyTo
+  proxy-names e ps = rw e
+
+  pub proxy-left : left < 2 → (reached : List ℕ) → proxyTo img p page level left reached ≡ stops page badProxy
+  unfolding proxyTo
+  proxy-left h ps = rw (lt-leb 2 left h, and-false (namesOf img p page))
+
+  module _ (m : List ℕ) where
+    pub proxy-again : namesOf img p page ≡ true → isMarked m p ≡ true → (reached : List ℕ) → Matches m reached
+        → proxyTo img p page level left reached ≡ stops page badProxy
+    unfolding proxyTo
+    proxy-again e t ps k =
+        rw (sym (k .same p (named img p page e .few)) ∙ t, and-false (namesOf img p page && leb 2 left))
+
+    pub proxy-leads : {n : List ℕ} {x : Inner} {root : Bool} → namesOf img p page ≡ true → 2 ≤ left → isMarked m p ≡ false → n ≡ marked m p
+        → root ≡ rootFits img p → LeadsTo img (recordOn img root p level (left - 1)) x → Leads img (proxyTo img p page level left) m n x
+    unfolding proxyTo recordOn
+    proxy-leads {n} {x} {root} e h t d q l = (
+      l .0,
+      λ ps k.
+          let few = named img p page e .few in
+          let new : contains ps p ≡ false = sym (k .same p few) ∙ t in
+          record {
+            reached = p ∷ ps;
+            matches = λ _. after ps k few;
+            same = rw (e, le-leb 2 left h, new, ← q) (l .1 (p ∷ ps));
+          },
+    )
+      where
+        after : (ps : List ℕ) → Matches m ps → p < mostPages → Matches n (p ∷ ps)
+        after ps k few = rw d (record {
+          are = marks-kept m p (k .are) few;
+          same = λ j low. is-marked m p j (k .are) few low ∙ ap (λ (b : Bool). cond (eqb j p) true b) (k .same j low) ∙ flip j (eqb j p) refl;
+        })
+          where
+            flip : (j : ℕ) (b : Bool) → eqb j p ≡ b → cond b true (contains ps j) ≡ (eqb p j || contains ps j)
+            flip j true f = rw (eq-eqb p j (sym (eqb-true j p f)))
+            flip j false f = rw (ne-eqb p j (λ z. eqb-false j p f (sym z)))
+
+-- ── a node ──
+
+module _ (img : List ℕ) (i next holder level left kind : ℕ) (is : kind ≡ passingKind (part img i next) holder) where
+  abbrev To : Inside → List ℕ → Type 0
+  To w ps = insideOf img i next holder level left ps ≡ w
+
+  pub inside-none : kind ≡ 0 → (reached : List ℕ) → To (stops (i / pageSize) badNode) reached
+  unfolding insideOf inside
+  inside-none z ps = rw (← is, z)
+
+  pub inside-size : kind ≡ 3 → (length (part img i next) ≡ 8 → ⊥) → (reached : List ℕ) → To (stops (i / pageSize) badNode) reached
+  unfolding insideOf inside
+  inside-size z d ps = rw (← is, z, ne-eqb (length (part img i next)) 8 d)
+
+  pub inside-proxy : kind ≡ 3 → length (part img i next) ≡ 8 → (p : ℕ) → p ≡ nameAt (part img i next) 0 → (reached : List ℕ)
+      → To (proxyTo img p (i / pageSize) level left reached) reached
+  unfolding insideOf inside proxyTo
+  inside-proxy z d p e ps = rw (← is, z, eq-eqb (length (part img i next)) 8 d, e)
+
+  module _ (w : Within img i next holder level) (long : i + 6 ≤ next) where
+    below : {h l : ℕ} (ps : List ℕ)
+        → row (drop 6 (part img i next)) (i / pageSize) h l (been left ps) ≡ row (part img (i + 6) next) ((i + 6) / pageSize) h l (been left ps)
+    below ps = rw (drop-part img i next 6, same-page w {j = i + 6} (omega arith) long)
+
+    pub inside-helper : kind ≡ 4 → (reached : List ℕ) → To (row (part img (i + 6) next) ((i + 6) / pageSize) 4 level (been left reached)) reached
+    unfolding insideOf inside
+    inside-helper z ps = rw (← is, z) (below ps)
+
+    module _ (none : kind ≡ 0 → ⊥) (proxy : kind ≡ 3 → ⊥) (helper : kind ≡ 4 → ⊥) where
+      pub inside-deep : mostLevels < level → (reached : List ℕ) → To (stops (i / pageSize) tooDeep) reached
+      unfolding insideOf inside
+      inside-deep d ps = rw (← is, ne-eqb kind 0 none, ne-eqb kind 3 proxy, ne-eqb kind 4 helper, lt-ltb mostLevels level d)
+
+      pub inside-literal : level ≤ mostLevels → kind ≡ 2 → (reached : List ℕ)
+          → To (row (part img next next) (next / pageSize) 2 level (been left reached)) reached
+      unfolding insideOf inside
+      inside-literal d z ps =
+          let none : next - next ≡ 0 = omega arith in
+          rw (← is, z, le-ltb mostLevels level d, none, same-page w {j = next} (omega arith) (omega arith))
+
+      pub inside-aggregate : level ≤ mostLevels → (kind ≡ 2 → ⊥) → (reached : List ℕ)
+          → To (row (part img (i + 6) next) ((i + 6) / pageSize) 1 (level + 1) (been left reached)) reached
+      unfolding insideOf inside
+      inside-aggregate d z ps =
+          rw (← is, ne-eqb kind 0 none, ne-eqb kind 3 proxy, ne-eqb kind 4 helper, le-ltb mostLevels level d, ne-eqb kind 2 z) (below ps)
