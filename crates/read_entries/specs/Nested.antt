@@ -6,7 +6,7 @@ use Prim.Native.Nat.{ℕ, _+_, _*_, _-_, _≤_, _<_}
 use native.Mathlib.Omega.{arith}
 use lib.ListN.{length, getD}
 use lib.Dec.{ltb}
-use borrow.Author.Tests.{ltb-true, ltb-false}
+use borrow.Author.Tests.{ltb-false}
 use Rattle.model.specs.Limits.{mostLevels, mostPages, mostBytes, pageSize}
 use Rattle.model.specs.Row.{rec, size, base, height}
 use Rattle.model.specs.Reading.{kindAt, nameAt}
@@ -85,6 +85,10 @@ module _ {img : List ℕ} {page level depth : ℕ} (w : Recorded img page level 
       }
       go (f ∷ fs) s q = absurd (omega (arith, s .0 .up, stacked-within after (length left) level (endOn img page) (f .level) (f .end) fs (s .1) .1))
 
+pub same-walked : {img : List ℕ} {page level depth : ℕ} {w : Recorded img page level depth} {t at next : ℕ} {stack out : List ℕ} {r s : Walked} {after left : List ℕ}
+    → r ≡ s → Done w t at next stack out s after left → Done w t at next stack out r after left
+same-walked {w = w} {t} {at} {next} {stack} {out} {after = after} {left} e d = subst (λ (x : Walked). Done w t at next stack out x after left) (sym e) d
+
 -- ── where a walk is ──
 
 pub same-cursor : {img : List ℕ} {t : ℕ} {g : Goal} {c d : Cursor} {stack out : List ℕ} → d ≡ c → Going img t g c stack out → Going img t g d stack out
@@ -98,14 +102,6 @@ module _ {img : List ℕ} {t : ℕ} {g : Goal} {c : Cursor} {stack out : List �
 
   pub at-some : (c .i ≡ c .end → ⊥) → c .i < c .end
   at-some z = omega (arith, within .0)
-
-  pub at-end : (ltb (c .i) (c .end) || ltb (g .base) (c .level)) ≡ true → c .i ≡ c .end → AtEnd img t g c stack out
-  at-end e z = record { going = w; none = z; inner = go (ltb (c .i) (c .end)) (ltb (g .base) (c .level)) refl refl e }
-    where
-      go : (a b : Bool) → ltb (c .i) (c .end) ≡ a → ltb (g .base) (c .level) ≡ b → (a || b) ≡ true → g .base < c .level
-      go true b p q e = absurd (omega (arith, ltb-true (c .i) (c .end) p))
-      go false true p q e = ltb-true (g .base) (c .level) q
-      go false false p q e = absurd (true≢false (sym e))
 
   pub at-inner : c .i ≡ c .end → (c .level ≡ g .base → ⊥) → AtEnd img t g c stack out
   at-inner z h = record { going = w; none = z; inner = omega (arith, within .2) }

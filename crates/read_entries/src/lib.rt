@@ -102,6 +102,17 @@ fn goes_on(c: Cursor, level: usize) -> bool
     level < c.level
 }
 
+// At the end of a record.
+fn finished(c: Cursor) -> Walked
+    ensures { λ r. ⌜ r ≡ record { at = c .at; next = c .next; width = c .n } ⌝ }
+{
+    Walked {
+        at: c.at,
+        next: c.next,
+        width: c.n,
+    }
+}
+
 // A walk over the record on a page. What its proxies stand for is walked where they stand; once the walk has stopped, `widths` has how many nodes each record
 // shows.
 fn walk_record(
@@ -129,40 +140,37 @@ fn walk_record(
         next: next,
     };
     while goes_on(c, level) {
-        let i = c.i;
-        if i == c.end {
-            let d = close(c, stack, out);
-            c = run(image, d, level, stack, out);
+        let d = run(image, c, level, stack, out);
+        let i = d.i;
+        if i == d.end {
+            if d.level == level {
+                return finished(d);
+            }
+            c = close(d, stack, out);
         } else if image[i] != 3 {
-            let d = node(image, c, target, stack, out);
-            c = run(image, d, level, stack, out);
+            c = node(image, d, target, stack, out);
         } else {
             let p = name_at(image, i);
-            if c.next != 0 {
-                c = behind(c, c.at, c.next, widths[p] as usize);
+            if d.next != 0 {
+                c = behind(d, d.at, d.next, widths[p] as usize);
             } else {
                 let r = walk_record(
                     image,
                     widths,
                     p,
-                    c.level,
+                    d.level,
                     depth - 1,
                     target,
                     stack,
                     out,
-                    c.at,
-                    c.next,
+                    d.at,
+                    d.next,
                 );
-                let d = behind(c, r.at, r.next, r.width);
-                c = run(image, d, level, stack, out);
+                c = behind(d, r.at, r.next, r.width);
             }
         }
     }
-    Walked {
-        at: c.at,
-        next: c.next,
-        width: c.n,
-    }
+    finished(c)
 }
 
 // ── the call ──
