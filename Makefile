@@ -1,5 +1,5 @@
 # For C programmers: the library's archive and the tool, under target/, and their installation. The archive is made by the Rattle toolchain (rt), which
-# proves it first: some minutes the first time. Nothing is written outside target/, except by install.
+# proves it first: some minutes the first time. Nothing is written outside target/, except by install, and a temporary file by test, which removes it.
 #     make                                the archive and the tool
 #     make test                           the gate
 #     make install PREFIX=/usr DESTDIR=.. header, archive, tool and nichelarder.pc

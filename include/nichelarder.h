@@ -7,9 +7,10 @@
  * offset at which a node starts; it lasts until the next accepted insert, removal or format.
  *
  * Each function returns 0, or the number of the first refusal that applies, in the order in which its comment names them. A refused call writes
- * zeros to its answer numbers and changes no byte of the image or of a byte buffer. Any bytes and any numbers may be handed over, but
+ * zeros to its answer numbers and changes nothing of the image and of a lent buffer, be it of bytes or of numbers. Any bytes and any numbers may be handed
+ * over, but
  *  - a pointer may be null only where it has a length, and that is 0: an empty path or content may be NULL, 0;
- *  - a length is the number of bytes that the pointer leads to;
+ *  - a length is how many bytes the pointer leads to; only nl_walk's entries_len counts numbers of type uint32_t;
  *  - a buffer that is lent for writing, as are all answer numbers, overlaps neither the image nor another buffer of the same call.
  * A buffer that is only read (matrix, path, parent, content) may lie in the image, also where the call changes the image: what counts are its bytes
  * when the call is made. So format keeps its own matrix by image + 16, 256, insert copies a content from where nl_read has found it, and the path of a
@@ -92,7 +93,8 @@ enum nl_refusal {
     NL_OK = 0,
     NL_LENGTH = 1,    /* the image's length is not 2 to 1,024 pages: lend the whole image and nothing more */
     NL_SETTINGS = 2,  /* format: a setting is out of range, or the page count is not the image's: correct the arguments */
-    NL_BROKEN = 3,    /* the image does not pass the check: it is damaged or was never formatted; load it again, or format it */
+    NL_BROKEN = 3,    /* the image does not pass the check: it is damaged or was never formatted; nl_diagnose says what is wrong; load it again, and format
+                         it only if nothing on it is wanted */
     NL_LEVEL = 4,     /* the path has over 23 entries (92 bytes), for an insert over 22 (88 bytes): a tree has 24 levels; insert higher up */
     NL_KIND = 5,      /* insert: the kind is not 1 or 2, or an aggregate has content: content goes into a literal */
     NL_LONG = 6,      /* insert: the content has over 520 bytes: divide it over several literals */
@@ -147,7 +149,8 @@ enum nl_stage {
  * names the next. */
 enum nl_reason {
     NL_SOUND = 0,        /* nothing */
-    NL_UNFORMATTED = 1,  /* page 0 is all zero, or all 255 as erased flash is: the image was never formatted: load it, or format it */
+    NL_UNFORMATTED = 1,  /* page 0 is all zero, or all 255 as erased flash is: the image was never formatted, or is erased, be it page 0 alone: load it;
+                            format it only if nothing on it is wanted */
     NL_BAD_SETTINGS = 2, /* page 0 has no settings for this many pages: it is damaged, or this is not the whole image: load page 0, or all, again */
     NL_BAD_TRAILER = 3,  /* the page's last 16 bytes are damaged: load the page again */
     NL_BAD_FREE = 4,     /* the trailer says free, and a byte of the page is not zero: load the page again */
@@ -155,7 +158,8 @@ enum nl_reason {
     NL_BAD_NODE = 6,     /* a node in the page's record is against the rules: load the page again */
     NL_BAD_LEVEL = 7,    /* a node in the page's record is deeper than level 24: load the page again, and those that hold it */
     NL_BAD_LINK = 8,     /* a proxy in the page's record and the page that it names do not belong together: load both again */
-    NL_UNREACHED = 9     /* no proxy leads to the page's record: load it and the page of its back link again */
+    NL_UNREACHED = 9     /* no way of proxies leads from page 1 to the page's record: the page, or one of those that its back links lead to, is damaged:
+                            load them again */
 };
 
 /* The names of the reasons 0 to 9 for messages; nl_reason_name takes any number. */

@@ -2,8 +2,8 @@
 
     make_damaged.py FOLDER
 
-Each is NAME.img and NAME.txt; together they have every reason that a diagnosis gives, and every field of page 0, of a trailer and of a
-node that can be wrong. Page and reason are held against the reference's.
+Each is NAME.img and NAME.txt, and NAME.sound is the image from before the damage; together they have every reason that a diagnosis gives, and
+every field of page 0, of a trailer and of a node that can be wrong. Page and reason are held against the reference's.
 """
 
 import os
@@ -14,6 +14,7 @@ import reference
 
 PAGE = reference.PAGE
 AGAIN = "load the page again"
+RING = "its back links lead into a ring, and not to the root; load %s again"
 
 
 def two(number):
@@ -45,6 +46,31 @@ def damaged(page, at, content):
     image = split()
     image[PAGE * page + at:PAGE * page + at + len(content)] = content
     return image
+
+
+def nested(*pages):
+    """Each page holds the next by a proxy at byte 6, page 1 the first; the last has a literal. There is a free page."""
+    image = make_images.formatted(max(pages) + 2, 7)
+    ways = list(zip((1,) + pages, pages))
+    for (holder, page), back in zip(ways, (0,) + tuple(holder for holder, _ in ways)):
+        record(image, holder, node(reference.AGGREGATE, node(reference.PROXY, two(page)), 7), back, int(holder == 1))
+    return record(image, pages[-1], node(reference.LITERAL, b"end", 9), ways[-1][0])
+
+
+def cut(image, *holders):
+    """Of these pages the proxy becomes a literal."""
+    for holder in holders:
+        image[PAGE * holder + 6] = reference.LITERAL
+    return image
+
+
+def ring(image, first, last):
+    """Each of these pages holds the next, and the last the first and page 3, which has a literal."""
+    for page in range(first, last + 1):
+        held = [page + 1] if page < last else [first, 3]
+        proxies = b"".join(node(reference.PROXY, two(other)) for other in held)
+        record(image, page, node(reference.AGGREGATE, proxies), page - 1 if page > first else last)
+    return record(image, 3, node(reference.LITERAL), last)
 
 
 def chain(levels, inside):
@@ -103,48 +129,95 @@ def pages():
 
 
 def links():
-    yield 8, "names_outside", damaged(1, 20, two(5)), 1, "its proxy at byte 14 names page 5, and records stand on pages 2 to 4; " + AGAIN
-    yield 8, "names_root", damaged(1, 12, two(1)), 1, "its proxy at byte 6 names page 1, and records stand on pages 2 to 4; " + AGAIN
-    yield 8, "names_free", damaged(1, 20, two(4)), 1, "its proxy at byte 14 names page 4, which is free; load pages 1 and 4 again"
-    yield (8, "names_other", damaged(3, 4084, two(2)), 1,
-           "its proxy at byte 14 names page 3, whose trailer names page 2 as its holder; load pages 1 and 3 again")
-    yield 8, "names_twice", damaged(1, 20, two(2)), 1, "its proxy at byte 14 names page 2, as one before it does; load pages 1 and 2 again"
+    """Reason, name, sound image, damaged image, page, sentence."""
+    def split_with(name, page, at, content, text):
+        return 8, name, split(), damaged(page, at, content), 1, text
+
+    yield split_with("names_outside", 1, 20, two(5), "its proxy at byte 14 names page 5, and records stand on pages 2 to 4; " + AGAIN)
+    yield split_with("names_root", 1, 12, two(1), "its proxy at byte 6 names page 1, and records stand on pages 2 to 4; " + AGAIN)
+    yield split_with("names_free", 1, 20, two(4), "its proxy at byte 14 names page 4, which is free; load pages 1 and 4 again")
+    yield split_with("names_other", 3, 4084, two(2),
+                     "its proxy at byte 14 names page 3, whose trailer names page 2 as its holder; load pages 1 and 3 again")
+    yield split_with("names_twice", 1, 20, two(2), "its proxy at byte 14 names page 2, as one before it does; load pages 1 and 2 again")
+    for pages, text in (2, "an image of 2 pages has no record but the root's"), (3, "it can name page 2 only"):
+        sound = make_images.formatted(pages, 7)
+        image = record(bytearray(sound), 1, node(reference.AGGREGATE, node(reference.PROXY, two(pages))), 0, 1)
+        yield 8, "names_outside_%d" % pages, sound, image, 1, "its proxy at byte 6 names page %d, and %s; %s" % (pages, text, AGAIN)
     literal = node(reference.LITERAL)
-    yield (9, "no_proxy", record(split(), 4, literal, 3), 4,
+    yield (9, "no_proxy", split(), record(split(), 4, literal, 3), 4,
            "its trailer names page 3 as its holder, which has no proxy to it; load pages 3 and 4 again")
-    yield 9, "holder_free", record(split(6), 4, literal, 5), 4, "its trailer names page 5 as its holder, which is free; load pages 4 and 5 again"
-    ring = record(split(6), 4, node(reference.AGGREGATE, node(reference.PROXY, two(5))), 5)
-    record(ring, 5, node(reference.AGGREGATE, node(reference.PROXY, two(4))), 4)
-    yield 9, "ring", ring, 4, "it hangs on page 5, and no way leads there from the root; load pages 4 and 5 again"
-    deep = record(make_images.formatted(3, 7), 1, chain(25, b""), 0, 1)
-    yield 7, "deep", deep, 1, "its aggregate at byte 144 stands at level 25, and a tree has 24; " + AGAIN
-    deep = record(make_images.formatted(3, 7), 1, chain(24, node(reference.PROXY, two(2))), 0, 1)
-    yield 7, "deep_record", record(deep, 2, literal, 1), 2, "its literal at byte 0 stands at level 25, and a tree has 24; " + AGAIN
+    yield (9, "holder_free", split(6), record(split(6), 4, literal, 5), 4,
+           "its trailer names page 5 as its holder, which is free; load pages 4 and 5 again")
+    way = 5, 3, 2
+    text = "its back links lead to page %d, whose trailer names page %d as its holder, which %s; load pages %d and %d again"
+    yield 9, "cut_top", nested(*way), cut(nested(*way), 1), 2, text % (5, 1, "has no proxy to it", 1, 5)
+    yield 9, "cut_middle", nested(*way), cut(nested(*way), 5), 2, text % (3, 5, "has no proxy to it", 3, 5)
+    yield 9, "cut_twice", nested(*way), cut(nested(*way), 1, 5), 2, text % (3, 5, "has no proxy to it", 3, 5)
+    image = cut(nested(*way), 1)
+    image[PAGE * 5:PAGE * 6] = bytes(PAGE)
+    yield 9, "cut_free", nested(*way), image, 2, text % (3, 5, "is free", 3, 5)
+    yield (9, "cut_bottom", nested(*way), cut(nested(*way), 3), 2,
+           "its trailer names page 3 as its holder, which has no proxy to it; load pages 2 and 3 again")
+    for length, advice in ((2, "pages 4 and 5"), (3, "pages 4, 5 and 6"), (12, "pages %s and 15" % ", ".join(map(str, range(4, 15)))),
+                           (13, "the whole image")):
+        sound = make_images.formatted(5 + length, 7)
+        yield 9, "ring_%d" % length, sound, ring(bytearray(sound), 4, 3 + length), 3, RING % advice
+    sound = split(6)
+    image = record(bytearray(sound), 4, node(reference.AGGREGATE, node(reference.PROXY, two(5))), 5)
+    record(image, 5, node(reference.AGGREGATE, node(reference.PROXY, two(4))), 4)
+    yield 9, "ring", sound, image, 4, RING % "pages 4 and 5"
+    fresh = make_images.formatted(3, 7)
+    deep = record(bytearray(fresh), 1, chain(25, b""), 0, 1)
+    yield 7, "deep", fresh, deep, 1, "its aggregate at byte 144 stands at level 25, and a tree has 24; " + AGAIN
+    deep = record(bytearray(fresh), 1, chain(24, node(reference.PROXY, two(2))), 0, 1)
+    yield (7, "deep_record", fresh, record(deep, 2, literal, 1), 2,
+           "its literal at byte 0 stands at level 25, and a tree has 24; load the page again, and page 1, which holds it")
+    text = "its literal at byte 0 stands at level 25, and a tree has 24; load "
+    for way, advice in (((5, 3, 2), "the page again, and pages 1, 3 and 5, which hold it"),
+                        (range(2, 14), "the page again, and pages %s and 12, which hold it" % ", ".join(map(str, range(1, 12)))),
+                        (range(2, 15), "the whole image again")):
+        deep = record(nested(*way), 1, chain(25 - len(way), node(reference.PROXY, two(way[0]))), 0, 1)
+        yield 7, "deep_%d" % len(way), nested(*way), deep, way[-1], text + advice
+
+
+def blank():
+    """Name, sound image, damaged image, sentence."""
+    none = "all its bytes are %d: the image %s; load the image, or format it"
+    one = "all its bytes are %d: it is erased, and other pages are not; load page 0 again: formatting would destroy the others"
+    fresh = make_images.formatted(3, 7)
+    yield "never_formatted", fresh, bytes(3 * PAGE), none % (0, "was never formatted")
+    yield "erased", fresh, b"\xff" * (3 * PAGE), none % (255, "is erased")
+    yield "erased_both", fresh, b"\xff" * (2 * PAGE) + bytes(PAGE), none % (255, "is erased")
+    yield "page0_zero", split(), bytes(PAGE) + split()[PAGE:], one % 0
+    yield "page0_erased", split(), b"\xff" * PAGE + split()[PAGE:], one % 255
+    yield "page0_last", fresh, bytes(3 * PAGE - 1) + b"\x01", one % 0
 
 
 def inputs():
-    """Name, image, page, reason, sentence."""
-    yield "never_formatted", bytes(3 * PAGE), 0, 1, "all its bytes are 0: the image was never formatted; load the image, or format it"
-    yield "erased", b"\xff" * (3 * PAGE), 0, 1, "all its bytes are 255: the image is erased; load the image, or format it"
-    yield ("settings_pages", damaged(0, 0, two(9)), 0, 2,
+    """Name, sound image, damaged image, page, reason, sentence."""
+    for name, sound, image, text in blank():
+        yield name, sound, image, 0, 1, text
+    yield ("settings_pages", split(), damaged(0, 0, two(9)), 0, 2,
            "its settings are for 9 pages, and the input has 5; load the whole image again")
     for reason, name, at, content, text in settings():
-        yield "settings_" + name, damaged(0, at, content), 0, reason, "%s; %s" % (text, AGAIN)
+        yield "settings_" + name, split(), damaged(0, at, content), 0, reason, "%s; %s" % (text, AGAIN)
     for page, reason, name, at, content, text in pages():
-        yield name, damaged(page, at, content), page, reason, "%s; %s" % (text, AGAIN)
-    for reason, name, image, page, text in links():
-        yield name, image, page, reason, text
+        yield name, split(), damaged(page, at, content), page, reason, "%s; %s" % (text, AGAIN)
+    for reason, name, sound, image, page, text in links():
+        yield name, sound, image, page, reason, text
 
 
 def main(folder):
     os.makedirs(folder, exist_ok=True)
     reasons = set()
-    for name, image, page, reason, text in inputs():
+    for name, sound, image, page, reason, text in inputs():
         answer = reference.diagnose(bytearray(image))
         assert answer[0] == 3 and answer[2:4] == (page, reason), (name, answer)
+        assert reference.check(sound) == (0,) and len(sound) == len(image), name
         reasons.add(reason)
-        with open(os.path.join(folder, name + ".img"), "wb") as out:
-            out.write(image)
+        for end, content in (".img", image), (".sound", sound):
+            with open(os.path.join(folder, name + end), "wb") as out:
+                out.write(content)
         with open(os.path.join(folder, name + ".txt"), "w", encoding="ascii") as out:
             out.write("page %d: %s\n" % (page, text))
     assert reasons == set(range(1, 10)), reasons

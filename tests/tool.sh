@@ -23,6 +23,14 @@ must() {
     2) [ -s "$work/err" ] || fail "nothing on standard error: $*" ;;
     esac
 }
+# A refusal: exit status 1, nothing on standard output, and on standard error the image and the refusal's number, which is the first word.
+refuses() {
+    local number=$1
+    shift
+    must 1 "$@"
+    [ ! -s "$work/out" ] || fail "standard output: $*"
+    grep -q "^nichelarder: .*($number): ." "$work/err" || fail "no refusal $number on standard error: $*"
+}
 printed() { cmp -s - "$work/out" || fail "$1 prints: $(head -c 300 "$work/out")"; }
 
 rm -rf "$work"
@@ -80,6 +88,8 @@ for image in "$work"/damaged/*.img; do
     printed "diagnose $image" <"${image%.img}.txt"
     damaged=$((damaged + 1))
 done
+# what it says is done, until the image passes
+python3 -B tests/follow_advice.py "$tool" "$work/damaged" "$work"/small/{grown5,grown15,apart15}.img "$work/forty.img"
 
 # records: the pages in use, each with its holder; the deepest nesting
 must 0 "$tool" records "$work/nested.img"
@@ -116,12 +126,15 @@ must 0 "$tool" find 1 examples/sample.img
 echo "page 1 offset 12: literal 9, origin wire, content: 4142" | printed "find 1"
 must 0 "$tool" find /0 examples/sample.img
 echo "page 1 offset 6: aggregate 300, origin wire, children: 0" | printed "find /0"
-must 1 "$tool" find 2 examples/sample.img
-must 1 "$tool" find 4294967295 examples/sample.img
-must 1 "$tool" find "$(printf '0/%.0s' {1..23})0" examples/sample.img
-grep -q '(4)' "$work/err" || fail "a path that is too long"
-must 1 "$tool" climb 1 7 examples/sample.img
-must 1 "$tool" climb 4294967295 4294967295 examples/sample.img
+refuses 7 "$tool" find 2 examples/sample.img
+refuses 7 "$tool" find 4294967295 examples/sample.img
+refuses 4 "$tool" find "$(printf '0/%.0s' {1..23})0" examples/sample.img
+refuses 10 "$tool" climb 1 7 examples/sample.img
+refuses 10 "$tool" climb 4294967295 4294967295 examples/sample.img
+for words in "find /" "climb 1 0" list records; do
+    refuses 3 "$tool" $words "$work/damaged/kind.img"
+    refuses 1 "$tool" $words /dev/null
+done
 
 # the command line and files
 must 0 "$tool" --help
@@ -144,7 +157,7 @@ if [ -w /dev/full ]; then
     "$tool" list "$work/forty.img" >/dev/full 2>"$work/err" && fail "a full disk" || [ $? = 2 ] || fail "a full disk: status"
 fi
 
-# pictures: well-formed, a cell for each page, also of damaged images
+# pictures, also of damaged images: well-formed, a cell for each page, an arrow to each record but the root's; of a sound one the chosen page's nodes
 pictures=0
 for image in "$work"/{three,forty,first,nested}.img; do
     must 0 "$tool" picture "${image%.img}.svg" "$image"
@@ -152,23 +165,53 @@ for image in "$work"/{three,forty,first,nested}.img; do
 done
 must 0 "$tool" picture - "$work/forty.img" 5
 cp "$work/out" "$work/page5.svg"
+cp "$work/forty.img" "$work/page5.img"
 for image in "$work"/damaged/*.img; do
     must 1 "$tool" picture "${image%.img}.svg" "$image"
     grep -qF "$(cat "${image%.img}.txt")" "$work/err" || fail "picture $image: no diagnosis"
     pictures=$((pictures + 1))
 done
-cp examples/sample.img "$work/a<b>&\"'.svg.img"
-must 0 "$tool" picture "$work/odd.svg" "$work/a<b>&\"'.svg.img"
+odd="$work/a]]><b>&\"'.svg.img"
+cp examples/sample.img "$odd"
+must 0 "$tool" picture "$work/odd.svg" "$odd"
+cp "$odd" "$work/odd.img"
 must 1 "$tool" picture "$work/none.svg" /dev/null
 [ ! -e "$work/none.svg" ] || fail "a picture of nothing"
 python3 -B - "$work"/*.svg "$work"/damaged/*.svg <<'PYTHON'
-import os
+import re
 import sys
 import xml.etree.ElementTree as tree
+sys.path.insert(0, "tests")
+import reference
+SVG, PAGE = "{http://www.w3.org/2000/svg}", reference.PAGE
+two = lambda image, at: image[at] + 256 * image[at + 1]
 for name in sys.argv[1:]:
-    cells = tree.parse(name).getroot().findall("{http://www.w3.org/2000/svg}g")
-    image = name[:-4] + ".img"
-    assert cells and (not os.path.exists(image) or len(cells) == os.path.getsize(image) // 4096), name
+    root = tree.parse(name).getroot()
+    with open(name[:-4] + ".img", "rb") as image_file:
+        image = image_file.read()
+    pages = len(image) // PAGE
+    assert len(root.findall(SVG + "g")) == pages, name
+    # arrows are curves; a back link that is damaged, to no page or to the page itself, has none
+    arrows = [path for path in root.findall(SVG + "path") if "C" in path.get("d")]
+    sound = "damaged/" not in name
+    records = [page for page in range(2, pages) if image[PAGE * page + 4080] == 1]
+    holders = [page for page in records if sound or two(image, PAGE * page + 4084) not in [0, page] + list(range(pages, 65536))]
+    assert len(arrows) == len(holders), (name, len(arrows), len(holders))
+    if not sound:
+        continue
+    # the nodes of the page: the offset of each, and what it is; and how many there was no room for
+    texts = [text for text in root.findall(SVG + "text")]
+    chosen = next(int(found[1]) for found in (re.match(r"Page (\d+): ", text.text) for text in texts) if found)
+    assert chosen == (5 if "page5" in name else 1), name
+    code = [text for text in texts if text.get("class") == "code"]
+    offsets = [int(text.text) for text in code if text.get("text-anchor")]
+    rows = [text.text for text in code if not text.get("text-anchor")]
+    starts = [start - PAGE * chosen for start in reference.headers(image, chosen)]
+    assert offsets == starts[:len(offsets)] and len(offsets) >= min(len(starts), 25), (name, offsets, starts)
+    kinds = [("aggregate", "literal", "proxy", "helper")[image[PAGE * chosen + start] - 1] for start in offsets]
+    rest = ["and"] if len(starts) > len(offsets) else []
+    assert [re.split("[ ,]", row)[0] for row in rows] == kinds + rest, (name, rows)
+    assert not rest or rows[-1] == "and %d more nodes" % (len(starts) - len(offsets)), (name, rows[-1])
 PYTHON
 
 # memory

@@ -1,5 +1,7 @@
 /* A tool for the desk: looks at an image in a file, by the calls of nichelarder.h. It changes no image.
- * From the repository's root: cc -std=c99 -O2 tools/nichelarder.c target/staticlib/libnichelarder.a -o nichelarder */
+ * Whether an image is damaged, on which page and for what reason, is the library's verdict alone. The rules of trailers and nodes are repeated here only to
+ * say which field is wrong, and to draw.
+ * From the repository's root: cc -std=c99 -O2 tools/nichelarder.c target/staticlib/libnichelarder.a -o target/nichelarder */
 #include "../include/nichelarder.h"
 #include <errno.h>
 #include <stdarg.h>
@@ -265,6 +267,35 @@ static unsigned count_nodes(const uint8_t *page) {
 
 /* ── what is wrong with a broken image ── */
 
+/* The pages that are to be loaded again, in order; where there are more than can be named, it is the whole image. */
+struct again {
+    unsigned n, pages[12];
+};
+enum { NAMED = sizeof((struct again *)0)->pages / sizeof(unsigned) };
+
+static void add(struct again *again, unsigned page) {
+    unsigned i = again->n++;
+    if (i >= NAMED)
+        return;
+    for (; i && again->pages[i - 1] > page; i--)
+        again->pages[i] = again->pages[i - 1];
+    again->pages[i] = page;
+}
+
+/* "page 4", "pages 4 and 5", "pages 4, 5 and 7". */
+static const char *named(const struct again *again, char *text, size_t room) {
+    unsigned i;
+    snprintf(text, room, "page%s", again->n > 1 ? "s" : "");
+    for (i = 0; i < again->n && i < NAMED; i++) {
+        size_t at = strlen(text);
+        snprintf(text + at, room - at, "%s %u", i == 0 ? "" : i + 1 < again->n ? "," : " and", again->pages[i]);
+    }
+    return text;
+}
+
+/* The page that a record's trailer names as its holder. */
+static unsigned back_of(const struct image *image, unsigned page) { return two(page_at(image, page) + BACK); }
+
 /* The first byte from `from` on that is not zero, or `to`. */
 static unsigned not_zero(const uint8_t *page, unsigned from, unsigned to) {
     while (from < to && page[from] == 0)
@@ -351,72 +382,118 @@ static unsigned level_of(const struct image *image, unsigned page) {
     unsigned level = 1, steps = pages_of(image);
     struct node node;
     for (; page > 1 && steps; steps--) {
-        unsigned holder = two(page_at(image, page) + BACK);
+        unsigned holder = back_of(image, page);
         level += proxy_to(image, holder, page, &node) ? node.aggregates : 0;
         page = holder;
     }
     return level;
 }
 
-static const char *level_fault(const struct image *image, unsigned number) {
-    unsigned level = level_of(image, number);
+/* The pages on the way up to page 1 are added: each has a part in the level, and may be the one that is wrong. */
+static const char *level_fault(const struct image *image, unsigned number, struct again *holders) {
+    unsigned level = level_of(image, number), page = number;
     struct scan scan;
     struct node node;
     const char *fault;
+    while (page > 1 && holders->n < pages_of(image)) {
+        page = back_of(image, page);
+        add(holders, page);
+    }
     for (begin(&scan, page_at(image, number)); next_node(&scan, &node, &fault) == 1;)
         if (node.kind <= NL_LITERAL && level + node.aggregates > NL_LEVELS)
             return say("its %s at byte %u stands at level %u, and a tree has 24", kinds[node.kind], node.at, level + node.aggregates);
     return "one of its nodes stands below level 24";
 }
 
-/* *other is the page that the proxy names, or 0 if the image has none such. */
-static const char *link_fault(const struct image *image, unsigned number, unsigned *other) {
-    uint8_t named[NL_PAGES] = {0};
+/* The pages among which a proxy may choose. */
+static const char *link_range(const struct image *image, char *text, size_t room) {
+    unsigned pages = pages_of(image);
+    if (pages == 2)
+        return "an image of 2 pages has no record but the root's";
+    if (pages == 3)
+        return "it can name page 2 only";
+    snprintf(text, room, "records stand on pages 2 to %u", pages - 1);
+    return text;
+}
+
+/* The page and the one that the proxy names are added, if the image has that one. */
+static const char *link_fault(const struct image *image, unsigned number, struct again *again) {
+    uint8_t seen[NL_PAGES] = {0};
+    char range[60];
     struct scan scan;
     struct node node;
     const char *fault;
     for (begin(&scan, page_at(image, number)); next_node(&scan, &node, &fault) == 1;) {
+        unsigned other = node.kind == PROXY ? two(scan.page + node.at + HEADER) : 0;
         const uint8_t *page;
-        *other = node.kind == PROXY ? two(scan.page + node.at + HEADER) : 0;
         if (node.kind != PROXY)
             continue;
-        if (*other < 2 || *other >= pages_of(image)) {
-            fault = say("its proxy at byte %u names page %u, and records stand on pages 2 to %u", node.at, *other, pages_of(image) - 1);
-            *other = 0;
-            return fault;
+        if (other < 2 || other >= pages_of(image))
+            return say("its proxy at byte %u names page %u, and %s", node.at, other, link_range(image, range, sizeof range));
+        page = page_at(image, other);
+        if (page[TYPE] == IS_RECORD && two(page + BACK) == number && !seen[other]) {
+            seen[other] = 1;
+            continue;
         }
-        page = page_at(image, *other);
+        add(again, number);
+        add(again, other);
         if (page[TYPE] != IS_RECORD)
-            return say("its proxy at byte %u names page %u, which is free", node.at, *other);
+            return say("its proxy at byte %u names page %u, which is free", node.at, other);
         if (two(page + BACK) != number)
-            return say("its proxy at byte %u names page %u, whose trailer names page %u as its holder", node.at, *other, two(page + BACK));
-        if (named[*other])
-            return say("its proxy at byte %u names page %u, as one before it does", node.at, *other);
-        named[*other] = 1;
+            return say("its proxy at byte %u names page %u, whose trailer names page %u as its holder", node.at, other, two(page + BACK));
+        return say("its proxy at byte %u names page %u, as one before it does", node.at, other);
     }
-    *other = 0;
     return "one of its proxies names a wrong page";
 }
 
-static const char *unreached_fault(const struct image *image, unsigned number, unsigned *other) {
+/* Goes up by back links as long as the holder has a proxy to the page below it. The two pages between which that ends are added: one of them is wrong.
+ * Where it never ends the links go round, and all pages of the ring are added. */
+static const char *unreached_fault(const struct image *image, unsigned number, struct again *again) {
+    unsigned page = number, holder = back_of(image, page), steps = pages_of(image), first;
+    const char *wrong;
     struct node node;
-    *other = two(page_at(image, number) + BACK);
-    if (page_at(image, *other)[TYPE] != IS_RECORD)
-        return say("its trailer names page %u as its holder, which is free", *other);
-    if (!proxy_to(image, *other, number, &node))
-        return say("its trailer names page %u as its holder, which has no proxy to it", *other);
-    return say("it hangs on page %u, and no way leads there from the root", *other);
+    for (; steps && page_at(image, holder)[TYPE] == IS_RECORD && proxy_to(image, holder, page, &node); steps--) {
+        page = holder;
+        holder = back_of(image, page);
+    }
+    if (steps == 0) {
+        first = page;
+        do {
+            add(again, page);
+            page = back_of(image, page);
+        } while (page != first);
+        return "its back links lead into a ring, and not to the root";
+    }
+    add(again, page);
+    add(again, holder);
+    wrong = page_at(image, holder)[TYPE] == IS_RECORD ? "has no proxy to it" : "is free";
+    if (page == number)
+        return say("its trailer names page %u as its holder, which %s", holder, wrong);
+    return say("its back links lead to page %u, whose trailer names page %u as its holder, which %s", page, holder, wrong);
+}
+
+/* Whether all bytes of a page are 0, or all are 255. */
+static int is_blank(const uint8_t *page) { return (page[0] == 0 || page[0] == 255) && memcmp(page, page + 1, NL_PAGE - 1) == 0; }
+
+/* Page 0 is blank: all of the image is, or what is on the other pages can be saved. */
+static const char *blank_fault(const struct image *image) {
+    unsigned value = image->bytes[0], page = 1;
+    while (page < pages_of(image) && is_blank(page_at(image, page)))
+        page++;
+    if (page < pages_of(image))
+        return say("page 0: all its bytes are %u: it is erased, and other pages are not; load page 0 again: formatting would destroy the others", value);
+    return say("page 0: all its bytes are %u: the image %s; load the image, or format it", value, value ? "is erased" : "was never formatted");
 }
 
 /* The diagnosis in one sentence, with what to do. */
 static const char *diagnosis(const struct image *image, const uint32_t fault[NL_FAULT]) {
-    unsigned page = fault[NL_FAULT_PAGE], other = 0, at;
+    unsigned page = fault[NL_FAULT_PAGE], at;
     const uint8_t *bytes = page_at(image, page);
     const char *what, *todo = "load the page again";
-    char text[300];
+    struct again again = {0}, holders = {0};
+    char text[200], list[100];
     switch (fault[NL_FAULT_REASON]) {
-    case NL_UNFORMATTED:
-        return say("page 0: all its bytes are %u: the image %s; load the image, or format it", bytes[0], bytes[0] ? "is erased" : "was never formatted");
+    case NL_UNFORMATTED: return blank_fault(image);
     case NL_BAD_SETTINGS:
         what = settings_fault(image);
         if (two(bytes) != pages_of(image))
@@ -432,14 +509,18 @@ static const char *diagnosis(const struct image *image, const uint32_t fault[NL_
         what = say("its record ends at byte %u, and byte %u after it is %u, not 0", two(bytes + USED), at, bytes[at]);
         break;
     case NL_BAD_NODE: what = record_fault(image, page); break;
-    case NL_BAD_LEVEL: what = level_fault(image, page); break;
-    case NL_BAD_LINK: what = link_fault(image, page, &other); break;
-    case NL_UNREACHED: what = unreached_fault(image, page, &other); break;
+    case NL_BAD_LEVEL: what = level_fault(image, page, &holders); break;
+    case NL_BAD_LINK: what = link_fault(image, page, &again); break;
+    case NL_UNREACHED: what = unreached_fault(image, page, &again); break;
     default: what = nl_reason_name(fault[NL_FAULT_REASON]); break;
     }
     snprintf(text, sizeof text, "%s", what);
-    if (other)
-        return say("page %u: %s; load pages %u and %u again", page, text, page < other ? page : other, page < other ? other : page);
+    if (again.n > NAMED || holders.n > NAMED)
+        return say("page %u: %s; load the whole image again", page, text);
+    if (holders.n)
+        return say("page %u: %s; load the page again, and %s, which hold%s it", page, text, named(&holders, list, sizeof list), holders.n == 1 ? "s" : "");
+    if (again.n)
+        return say("page %u: %s; load %s again", page, text, named(&again, list, sizeof list));
     return say("page %u: %s; %s", page, text, todo);
 }
 
@@ -604,6 +685,8 @@ static void put_text(FILE *out, const char *text, int room) {
     for (; *text && room > 2; text++, room--)
         if (*text == '<')
             fputs("&lt;", out);
+        else if (*text == '>')
+            fputs("&gt;", out);
         else if (*text == '&')
             fputs("&amp;", out);
         else
@@ -833,7 +916,8 @@ static void put_title(const struct drawing *d, const char *wrong) {
     fprintf(d->out, ": %u pages, %u free, %u record%s, nested up to %u deep</text>\n", d->pages, free_pages, records_here, records_here == 1 ? "" : "s",
             deepest);
     if (wrong) {
-        fprintf(d->out, "<text x='%d' y='%d' font-size='15' fill='#b3261e'>", MARGIN, d->top - d->gap - 6);
+        int fits = (d->width - 2 * MARGIN) * 5 / (3 * (int)strlen(wrong)); /* a letter is some three fifths as wide as the font is high */
+        fprintf(d->out, "<text x='%d' y='%d' font-size='%d' fill='#b3261e'>", MARGIN, d->top - d->gap - 6, fits > 15 ? 15 : fits < 9 ? 9 : fits);
         put_text(d->out, wrong, 400);
         fputs("</text>\n", d->out);
     }

@@ -15,7 +15,7 @@ use Rattle.model.specs.Spot.{fill, lastPage, lastHolder, Stand, standOf,
 use Rattle.model.specs.Removal.{removed}
 use Rattle.model.specs.Growth.{Work, splitPoint, leanOf, separator, risen, atRest}
 use Rattle.model.specs.Reading.{Reads, lengthOk, reading, pageOf}
-use Rattle.model.specs.BeforeWalk.{allZero, settingsOk, trailerOf, isFree, trailerFits, pageCount, beforeWalk}
+use Rattle.model.specs.BeforeWalk.{allZero, settingsOk, trailerOf, isFree, trailerFits, pageFits, pageCount, beforeWalk}
 use Rattle.model.specs.Answers.{notPassed, wrongLength, noFreePage, noPlace}
 use Rattle.model.specs.Common.{four, pathBytes, pathOf, namedBy, opened, onStore, treeOn}
 use Rattle.model.specs.Effect.{Effect, roomy, feedOf, handedOf}
@@ -27,7 +27,7 @@ use Rattle.model.specs.Calls.Climb.{climbOf}
 use Rattle.model.specs.Calls.Read.{readOf}
 use Rattle.model.specs.Calls.Records.{IsOrder}
 use Rattle.model.specs.Calls.Walk.{entry, joined, walkOf}
-use Rattle.model.specs.Calls.Diagnose.{noFault, diagnosis, diagnoseOf}
+use Rattle.model.specs.Calls.Diagnose.{noFault, faultOf, diagnosis, diagnoseOf}
 use Rattle.model.specs.Calls.{Call}
 use Rattle.model.specs.declared.Place.{Place}
 
@@ -62,12 +62,19 @@ pub record BeforeWalkExact (img : List ℕ) : Type 0 where
 
 -- ── diagnose ──
 
--- The number is the check's; of an image of the right length the stage is 0 exactly where that is 0; there are zeros where it is not 3; and the stage is the
--- walk's exactly where the part before the walk passes.
+-- Page p is the first that is against the rules by itself.
+pub record FirstAgainst (img : List ℕ) (p : ℕ) : Type 0 where
+  pub against : pageFits (pageCount img) p (pageOf img p) ≡ false
+  pub before : (q : ℕ) → 1 ≤ q → q < p → pageFits (pageCount img) q (pageOf img q) ≡ true
+
+-- Of an image of bytes: a fault is found exactly where the check does not pass. The number is the check's; the stage is 0 exactly where that is not 3, and then
+-- all is zero. Stage 2 names the first page against the rules; the stage is the walk's exactly where the part before the walk passes.
 pub record DiagnoseExact (img : List ℕ) : Type 0 where
+  pub found : lengthOk (length img) ≡ true → (faultOf img .stage ≡ 0) ↔ (checkOf img ≡ 0)
   pub number : diagnoseOf img .number ≡ checkOf img
-  pub stage : lengthOk (length img) ≡ true → (diagnoseOf img .stage ≡ 0) ↔ (checkOf img ≡ 0)
+  pub stage : (diagnoseOf img .stage ≡ 0) ↔ (checkOf img ≡ notPassed → ⊥)
   pub zeros : (checkOf img ≡ notPassed → ⊥) → diagnoseOf img ≡ diagnosis (checkOf img) noFault
+  pub pages : diagnoseOf img .stage ≡ 2 → FirstAgainst img (diagnoseOf img .page)
   pub walk : checkOf img ≡ notPassed → (diagnoseOf img .stage ≡ 3) ↔ (beforeWalk img ≡ true)
 
 -- ── walk ──

@@ -6,8 +6,8 @@ use Prim.Native.Nat.{ℕ, _+_, _*_, _-_, _≤_, _<_}
 use native.Mathlib.Omega.{arith}
 use lib.ListN.{length, getD, set, length-set}
 use lib.Seq.{getD-set-same, getD-set-other, sets}
-use lib.Dec.{eqb, ltb}
-use borrow.Author.Tests.{eqb-true, eqb-false, ltb-true, ltb-false}
+use lib.Dec.{eqb, ltb, leb}
+use borrow.Author.Tests.{eqb-true, eqb-false, ltb-true, ltb-false, leb-true}
 use Rattle.model.specs.Limits.{mostLevels, mostBytes}
 use Rattle.model.specs.Row.{Row, nil, agg, lit, rec, size, base, height}
 use Rattle.model.specs.Reading.{kindAt, headAt, sizeAt}
@@ -159,6 +159,21 @@ pub record Roomy (c : Cursor) (room : ℕ) : Type 0 where
   pub begun : 1 ≤ c .at
   pub calm : c .next ≡ 0
   pub fits : c .at + 8 ≤ room
+
+abbrev pub writes : Cursor → (room : ℕ) → Bool
+writes c room = not (eqb (c .at) 0) && eqb (c .next) 0 && leb 9 (room - (c .at - 1))
+
+pub writes-roomy : (c : Cursor) (room : ℕ) → c .at ≤ room + 1 → writes c room ≡ true → Roomy c room
+writes-roomy c room low e = go (eqb (c .at) 0) (eqb (c .next) 0) (leb 9 (room - (c .at - 1))) refl refl refl e
+  where
+    go : (a b d : Bool) → eqb (c .at) 0 ≡ a → eqb (c .next) 0 ≡ b → leb 9 (room - (c .at - 1)) ≡ d → not a && b && d ≡ true → Roomy c room
+    go true b d p q r e = absurd (true≢false (sym e))
+    go false false d p q r e = absurd (true≢false (sym e))
+    go false true false p q r e = absurd (true≢false (sym e))
+    go false true true p q r e =
+        let z = eqb-false (c .at) 0 p in
+        let f = leb-true 9 (room - (c .at - 1)) r in
+        record { begun = omega arith; calm = eqb-true (c .next) 0 q; fits = omega arith }
 
 pub written-dealt : {img : List ℕ} {t : ℕ} {c : Cursor} {out : List ℕ} (m at : ℕ) (after : List ℕ) → Roomy c (length out) → m ≡ sizeAt img (c .i) → at ≡ c .at + 9
     → after ≡ sets out (c .at - 1) (entryAt (c .level) (c .i) (kindAt img (c .i)) (headAt img (c .i)) m 0) → Dealt img t c m (c .at) at 0 out after

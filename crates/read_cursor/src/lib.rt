@@ -18,7 +18,7 @@ ghost use Rattle.read_cursor.specs.Going.{NodeHere, enters as entersOf, 
 
 // What a walk remembers of each aggregate that it is in: where the row ends that the aggregate stands in, how many nodes of that row are passed, and where
 // the aggregate's entry was written. Three numbers a level.
-pub const STACK: usize = 75;
+pub const STACK: usize = 3 * (Settings::LEVELS + 1);
 
 // Where a walk over a record is: at byte i of a row that ends at `end`, whose nodes have the level, and of which n are passed. `at` is 0 while the node is
 // sought with which the entries begin, else one more than the numbers written; `next` is where the first node stands for which there was no room, else 0.
@@ -31,7 +31,7 @@ pub struct Cursor {
     pub next: usize,
 }
 
-// What a node's entry leaves.
+// Where the next entry goes, and the first node for which there was no room.
 pub struct Told {
     pub at: usize,
     pub next: usize,
@@ -217,7 +217,7 @@ pub fn write_node(image: &[u8], c: Cursor, stack: &mut [usize; STACK], out: &mut
     over(image, c, size, here, Told { at: at, next: 0 }, stack)
 }
 
-// The number of children, put into the entry of an aggregate; 0: it has none.
+// The number of children, put into the entry of an aggregate; 0: none was written.
 fn put_count(out: &mut [u32], here: usize, n: usize)
     requires { ⌜ ((here ≡ 0 → ⊥) → here + 8 ≤ length (now out)) × (n < 4294967296) ⌝ }
     ensures { λ _. ⌜ now (out .exit) ≡ cond (eqb here 0) (now (out .entry)) (set (now (out .entry)) (here + 5) n) ⌝ }
@@ -246,11 +246,4 @@ pub fn close(c: Cursor, stack: &[usize; STACK], out: &mut [u32]) -> Cursor
         at: c.at,
         next: c.next,
     }
-}
-
-// 1 where a node follows.
-pub fn follows(next: usize) -> u32
-    ensures { λ r. ⌜ r ≡ cond (eqb next 0) 0 1 ⌝ }
-{
-    if next == 0 { 0 } else { 1 }
 }

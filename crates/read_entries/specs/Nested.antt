@@ -48,23 +48,20 @@ module _ {img : List ℕ} {page level depth : ℕ} (w : Recorded img page level 
     result = (visits t (way at next out) (meets level (startOn img page) (w .rowed .row)), 0 + width (w .rowed .row));
   }
 
-  pub going-start : Fair (way at next out) → length stack ≡ 75 → (i end : ℕ) → i ≡ startOn img page → end ≡ endOn img page
-      → Going img t goal (cursor i end level 0 at next) stack out
+  pub going-start : Fair (way at next out) → length stack ≡ 75 → Going img t goal (cursor (startOn img page) (endOn img page) level 0 at next) stack out
   unfolding Stacked resume
-  going-start fair sized i end e f =
-      let there : Going img t goal (cursor (startOn img page) (endOn img page) level 0 at next) stack out = record {
-        rest = w .rowed;
-        tall = w .tall;
-        fair = fair;
-        few = omega (arith, w .rowed .few);
-        sized = sized;
-        long = refl;
-        frames = [];
-        stacked = (refl, refl);
-        whole = refl;
-        kept = λ j h. refl;
-      } in
-      subst (λ (c : Cursor). Going img t goal c stack out) (λ j. cursor (sym e j) (sym f j) level 0 at next) there
+  going-start fair sized = record {
+    rest = w .rowed;
+    tall = w .tall;
+    fair = fair;
+    few = omega (arith, w .rowed .few);
+    sized = sized;
+    long = refl;
+    frames = [];
+    stacked = (refl, refl);
+    whole = refl;
+    kept = λ j h. refl;
+  }
 
   pub going-end : {c : Cursor} {after left : List ℕ} → Going img t goal c after left → c .end ≤ c .i → c .level ≤ level
       → Done w t at next stack out (record { at = c .at; next = c .next; width = c .n }) after left

@@ -6,22 +6,23 @@ use model::WalkAnswer;
 use read_cursor::Cursor;
 use read_cursor::STACK;
 use read_cursor::close;
-use read_cursor::follows;
 use read_cursor::node;
 use read_cursor::write_node;
 use read_find::row_end;
 use read_find::row_start;
 use read_next::node_at;
 ghost use mathlib.Core.Path.{_≡_};
-ghost use mathlib.Core.Bool.{true, _||_};
+ghost use mathlib.Core.Bool.{cond, _||_};
 ghost use Prim.Native.Nat.{ℕ, _+_, _≤_, _<_};
 ghost use lib.ListN.{length};
-ghost use lib.Dec.{ltb};
+ghost use lib.Dec.{eqb, ltb};
 ghost use Rattle.model.specs.Calls.Check.{checkOf};
 ghost use Rattle.model.specs.Calls.Walk.{walkOf};
+ghost use Rattle.theory_layout.specs.Here.{PageIn};
 ghost use Rattle.theory_layout.specs.Widths.{Widths};
+ghost use Rattle.read_find.specs.Rowed.{startOn, endOn};
 ghost use Rattle.read_cursor.specs.Way.{way, Fair};
-ghost use Rattle.read_cursor.specs.Going.{cursor, Goal, Going, Roomy};
+ghost use Rattle.read_cursor.specs.Going.{cursor, Goal, Going, writes as writesOf};
 ghost use Rattle.read_entries.specs.Nested.{Recorded, Done};
 
 // What a walk over a record leaves, with the number of nodes that the record shows.
@@ -34,7 +35,7 @@ pub struct Walked {
 // Whether there is room for an entry, and it is to be written.
 fn writes(c: Cursor, room: usize) -> bool
     requires { ⌜ c .at ≤ room + 1 ⌝ }
-    ensures { λ r. ⌜ (r ≡ true → Roomy c room) ⌝ }
+    ensures { λ r. ⌜ r ≡ writesOf c room ⌝ }
 {
     if c.at == 0 {
         return false;
@@ -102,6 +103,21 @@ fn goes_on(c: Cursor, level: usize) -> bool
     level < c.level
 }
 
+// At the first node of the record on a page.
+fn first(image: &[u8], page: usize, level: usize, at: usize, next: usize) -> Cursor
+    requires { ⌜ PageIn (now image) page ⌝ }
+    ensures { λ r. ⌜ r ≡ cursor (startOn (now (image .entry)) page) (endOn (now (image .entry)) page) level 0 at next ⌝ }
+{
+    Cursor {
+        i: row_start(image, page),
+        end: row_end(image, page),
+        level: level,
+        n: 0,
+        at: at,
+        next: next,
+    }
+}
+
 // At the end of a record.
 fn finished(c: Cursor) -> Walked
     ensures { λ r. ⌜ r ≡ record { at = c .at; next = c .next; width = c .n } ⌝ }
@@ -131,14 +147,7 @@ fn walk_record(
     ensures { λ r. ⌜ ((w : Recorded (now (image .entry)) page level depth)
         → Done w target at next (now (stack .entry)) (now (out .entry)) r (now (stack .exit)) (now (out .exit))) ⌝ }
 {
-    let mut c = Cursor {
-        i: row_start(image, page),
-        end: row_end(image, page),
-        level: level,
-        n: 0,
-        at: at,
-        next: next,
-    };
+    let mut c = first(image, page, level, at, next);
     while goes_on(c, level) {
         let d = run(image, c, level, stack, out);
         let i = d.i;
@@ -174,6 +183,13 @@ fn walk_record(
 }
 
 // ── the call ──
+
+// 1 where a node follows.
+fn follows(next: usize) -> u32
+    ensures { λ r. ⌜ r ≡ cond (eqb next 0) 0 1 ⌝ }
+{
+    if next == 0 { 0 } else { 1 }
+}
 
 // Walk: 0, or 10 where the place is no node's.
 pub fn walk_of(

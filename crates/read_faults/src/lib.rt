@@ -35,7 +35,7 @@ const FREE_NOT_ZERO: u32 = 4;
 
 const NOT_REACHED: u32 = 9;
 
-// For each page, and once more: more turns than any image can use.
+// Turns for each page, and for one page more: more than any image can use.
 const FUEL: usize = 16384;
 
 // ── answers ──
@@ -182,7 +182,7 @@ fn walk_fault(image: &[u8], left: usize) -> Diagnosis
 
 // ── the whole ──
 
-// The first stage that finds a fault. What the first two say is asked for only where they find one.
+// The first stage that finds a fault. Page 0 and the other pages are tested again only where one is at fault.
 fn fault_of(image: &[u8]) -> Diagnosis
     requires { ⌜ lengthOk (length (now image)) ≡ true ⌝ }
     ensures { λ r. ⌜ r ≡ answer (faultOf (now (image .entry))) ⌝ }

@@ -1,5 +1,5 @@
 -- A fault is found exactly where the check does not pass.
-use mathlib.Core.Path.{_≡_, refl, sym, ap, _∙_}
+use mathlib.Core.Path.{_≡_, refl, sym, ap, subst, _∙_}
 use mathlib.Core.Logic.{_↔_}
 use mathlib.Core.Bool.{Bool, true, false, cond, _&&_, false≢true}
 use mathlib.Core.List.{List}
@@ -14,11 +14,11 @@ use Rattle.model.specs.Answers.{notPassed}
 use Rattle.model.specs.Calls.Check.{checkOf}
 use Rattle.model.specs.Calls.Diagnose.{noFault, faultOf, diagnosis, diagnoseOf}
 use Rattle.model.specs.declared.Diagnosis.{Diagnosis}
-use Rattle.model.specs.Claims.{DiagnoseExact}
+use Rattle.model.specs.Claims.{FirstAgainst, DiagnoseExact}
 use Rattle.theory_calls.specs.Open.{check-exact}
 use Rattle.theory_check.specs.Check.{trailersOf, walkOk, checkBy}
 use Rattle.theory_check.specs.Exact.{exact}
-use Rattle.theory_faults.specs.Stages.{settingsPass, pagesPass, stageBy, fault-stage}
+use Rattle.theory_faults.specs.Stages.{settingsPass, pagesPass, stageBy, fault-stage, fault-first}
 
 -- ── numbers ──
 
@@ -67,17 +67,41 @@ module _ (img : List ℕ) where
   unfolding diagnoseOf
   told-none z = rw (ne-eqb (checkOf img) notPassed z)
 
+  told-page : checkOf img ≡ notPassed → diagnoseOf img .page ≡ faultOf img .page
+  unfolding diagnoseOf
+  told-page e = rw e
+
+  -- a stage is told where the number is 3 alone
+  stage-told : (diagnoseOf img .stage ≡ 0 → ⊥) → checkOf img ≡ notPassed
+  stage-told z = go (eqb (checkOf img) notPassed) refl
+    where
+      go : (b : Bool) → eqb (checkOf img) notPassed ≡ b → checkOf img ≡ notPassed
+      go true e = eqb-true _ notPassed e
+      go false e = absurd (z (ap (λ (d : Diagnosis). d .stage) (told-none (eqb-false _ notPassed e))))
+
+  first-told : diagnoseOf img .stage ≡ 2 → FirstAgainst img (diagnoseOf img .page)
+  first-told e =
+      let n = stage-told (λ z. omega arith) in
+      subst (FirstAgainst img) (sym (told-page n)) (fault-first img (sym (told-fault n) ∙ e))
+
   pub diagnose-exact : ((i : ℕ) → getD img i 0 < 256) → DiagnoseExact img
   unfolding diagnoseOf
   diagnose-exact all = record {
+    found = λ ok. (no-fault img all ok, λ e. passed ok e (eqb (faultOf img .stage) 0) refl);
     number = refl;
-    stage = λ ok. (λ e. go ok e (eqb (faultOf img .stage) 0) refl, λ e. ap (λ (d : Diagnosis). d .stage) (told-none (λ q. omega arith)));
+    stage = (
+      λ e n. let z = no-fault img all (right n) (sym (told-fault n) ∙ e) in omega arith,
+      λ z. ap (λ (d : Diagnosis). d .stage) (told-none z),
+    );
     zeros = told-none;
-    walk = λ e. rw (told-fault e) (tells img all (check-exact img .broken .0 e .0) .walk e);
+    pages = first-told;
+    walk = λ e. rw (told-fault e) (tells img all (right e) .walk e);
   }
     where
-      go : lengthOk (length img) ≡ true → diagnoseOf img .stage ≡ 0 → (c : Bool) → eqb (faultOf img .stage) 0 ≡ c → checkOf img ≡ 0
-      go ok e true f = no-fault img all ok (eqb-true _ 0 f)
-      go ok e false f =
-          let z = eqb-false _ 0 f in
-          absurd (z (sym (told-fault (some-fault img all ok z)) ∙ e))
+      -- what is refused by 3 has the right length
+      right : checkOf img ≡ notPassed → lengthOk (length img) ≡ true
+      right e = check-exact img .broken .0 e .0
+
+      passed : lengthOk (length img) ≡ true → checkOf img ≡ 0 → (c : Bool) → eqb (faultOf img .stage) 0 ≡ c → faultOf img .stage ≡ 0
+      passed ok e true f = eqb-true _ 0 f
+      passed ok e false f = absurd (omega (arith, some-fault img all ok (eqb-false _ 0 f)))

@@ -2,17 +2,18 @@
 use mathlib.Core.Path.{_≡_, refl, sym, ap, _∙_}
 use mathlib.Core.Bool.{Bool, true, false, cond, not, _&&_, true≢false}
 use mathlib.Core.List.{List, []}
-use Prim.Native.Nat.{ℕ, zero, suc, _+_, _-_, _*_, _%_, _≤_}
+use Prim.Native.Nat.{ℕ, zero, suc, _+_, _-_, _*_, _%_, _≤_, _<_}
 use native.Mathlib.Omega.{arith}
 use lib.ListN.{length, replicate}
 use lib.Dec.{eqb}
 use borrow.Author.Tests.{eqb-true, eqb-false, leb-true}
 use Rattle.model.specs.Limits.{pageSize, markBytes}
 use Rattle.model.specs.Reading.{lengthOk, pageOf, kindAt, usedAt}
-use Rattle.model.specs.BeforeWalk.{settingsOk, pageFits, pagesFit, pageCount, beforeWalk}
+use Rattle.model.specs.BeforeWalk.{settingsOk, trailerOf, trailerFits, pageFits, pagesFit, pageCount, beforeWalk}
 use Rattle.model.specs.WalkTests.{tailZero, recordOf}
-use Rattle.model.specs.Calls.Diagnose.{Fault, fault, noFault, notReached, settingsReason, pagesFault, been, Walk, on, stopped}
+use Rattle.model.specs.Calls.Diagnose.{Fault, fault, noFault, freeNotZero, badTrailer, notReached, settingsReason, pagesFault, been, Walk, on, stopped}
 use Rattle.model.specs.Calls.Diagnose.{recordRow, into, rowWalk, unreached, walkEnd, recordCount, walkFault, faultOf}
+use Rattle.model.specs.Claims.{FirstAgainst}
 use Rattle.theory_decoding.specs.Valid.{both as and-both}
 use Rattle.theory_check.specs.Sums.{sum}
 use Rattle.theory_check.specs.Parts.{in-use}
@@ -33,6 +34,45 @@ pages-stage img pages (suc k) p = go (pageFits pages p (pageOf img p)) _ _ _ (pa
     go : (c d : Bool) (x y : Fault) → x .stage ≡ cond {A = ℕ} d 0 2 → y .stage ≡ 2 → cond c x y .stage ≡ cond {A = ℕ} (c && d) 0 2
     go true d x y e f = e
     go false d x y e f = f
+
+-- It is found on the first page that is against the rules.
+pub pages-first : (img : List ℕ) (pages k p : ℕ) → pagesFault img pages k p .stage ≡ 2
+    → (pageFits pages (pagesFault img pages k p .page) (pageOf img (pagesFault img pages k p .page)) ≡ false)
+    × ((q : ℕ) → p ≤ q → q < pagesFault img pages k p .page → pageFits pages q (pageOf img q) ≡ true)
+unfolding pagesFault
+pages-first img pages zero p e = absurd (omega arith)
+pages-first img pages (suc k) p e = go (pageFits pages p (pageOf img p)) refl (pages-first img pages k (suc p)) e
+  where
+    later : Fault
+    later = pagesFault img pages k (suc p)
+
+    own : Fault
+    own = fault 2 p (cond (trailerFits pages p (trailerOf (pageOf img p))) freeNotZero badTrailer)
+
+    go : (b : Bool) → pageFits pages p (pageOf img p) ≡ b
+        → (later .stage ≡ 2 → (pageFits pages (later .page) (pageOf img (later .page)) ≡ false)
+        × ((q : ℕ) → suc p ≤ q → q < later .page → pageFits pages q (pageOf img q) ≡ true))
+        → cond b later own .stage ≡ 2
+        → (pageFits pages (cond b later own .page) (pageOf img (cond b later own .page)) ≡ false)
+        × ((q : ℕ) → p ≤ q → q < cond b later own .page → pageFits pages q (pageOf img q) ≡ true)
+    go false f ih s = (f, λ q a b. absurd (omega arith))
+    go true f ih s =
+        let r = ih s in
+        (r .0, λ q a b. by q a b (eqb q p) refl (r .1))
+      where
+        by : (q : ℕ) → p ≤ q → q < later .page → (c : Bool) → eqb q p ≡ c
+            → ((q : ℕ) → suc p ≤ q → q < later .page → pageFits pages q (pageOf img q) ≡ true) → pageFits pages q (pageOf img q) ≡ true
+        by q a b true z g = ap (λ (n : ℕ). pageFits pages n (pageOf img n)) (eqb-true q p z) ∙ f
+        by q a b false z g = let y = eqb-false q p z in g q (omega arith) b
+
+-- The walk's faults are stage 3's.
+end-stages : (img : List ℕ) (w : Walk) → walkEnd img w .stage ≡ 2 → ⊥
+end-stages img (stopped p r) e = omega arith
+end-stages img (on b) e = go (eqb (b .left) 1) e
+  where
+    go : (c : Bool) → cond c noFault (fault 3 (unreached img (b .reached) (pageCount img - 2) 2) notReached) .stage ≡ 2 → ⊥
+    go true e = omega arith
+    go false e = omega arith
 
 -- ── stage 3 ──
 
@@ -110,6 +150,27 @@ two-pages img e =
     let most = and-both _ _ e in
     let least = and-both (eqb (length img % pageSize) 0) _ (most .0) in
     leb-true 2 (pageCount img) (least .1)
+
+walk-stages : (img : List ℕ) → walkFault img .stage ≡ 2 → ⊥
+unfolding walkFault
+walk-stages img e = end-stages img (into (recordRow img (eqb (kindAt img pageSize) 1) 1 1 (been (recordCount img (pageCount img - 1) 1) [])) (rowWalk (16384 * (1 + pageCount img)) img)) e
+
+-- Stage 2 names the first page against the rules.
+pub fault-first : (img : List ℕ) → faultOf img .stage ≡ 2 → FirstAgainst img (faultOf img .page)
+unfolding faultOf
+fault-first img e = go (settingsOk (pageOf img 0) (pageCount img)) (eqb (pages .stage) 0) refl e
+  where
+    pages : Fault
+    pages = pagesFault img (pageCount img) (pageCount img - 1) 1
+
+    go : (a b : Bool) → eqb (pages .stage) 0 ≡ b
+        → cond (not a) (fault 1 0 (settingsReason (pageOf img 0))) (cond b (walkFault img) pages) .stage ≡ 2
+        → FirstAgainst img (cond (not a) (fault 1 0 (settingsReason (pageOf img 0))) (cond b (walkFault img) pages) .page)
+    go false b z e = absurd (omega arith)
+    go true true z e = absurd (walk-stages img e)
+    go true false z e =
+        let r = pages-first img (pageCount img) (pageCount img - 1) 1 e in
+        record { against = r .0; before = r .1 }
 
 -- the two tests before the walk: page 0, and the other pages
 abbrev pub settingsPass : (img : List ℕ) → Bool

@@ -106,7 +106,8 @@ recordRow img rootOk p level b =
     (cond (not (tailZero img p)) (stops p pastLength)
     (cond whole (row s p 0 level b) (stops p badNode)))
 
--- A proxy in the record of `page`: the page that it names is a record's, has its back link here, and is reached for the first time.
+-- A proxy in the record of `page`: the page that it names is a record's, has its back link here, and is reached for the first time (so one is left to be
+-- reached, which is asked for too, and makes plain that the walk ends).
 abbrev pub proxyRow : (img s : List ℕ) → (page level : ℕ) → Been → Inside
 proxyRow img s page level b =
     let p = nameAt s 0 in

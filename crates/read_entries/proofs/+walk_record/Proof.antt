@@ -11,6 +11,7 @@ use Rattle.read_cursor.specs.declared.Cursor.{Cursor}
 use Rattle.read_entries.specs.Nested.{Recorded, goal, going-start, going-end, same-walked, within, at-some, at-inner, at-node, at-last, inside, entered, named-inside}
 use Rattle.read_entries.specs.Nested.{named-few, nested, same-cursor, proxy-walked, proxy-stopped}
 use Rattle.read_entries.proofs.finished.Reads as finished-reads
+use Rattle.read_entries.proofs.first.Reads as first-reads
 use Rattle.read_entries.proofs.walk_record.Reads as walk-record
 use Rattle.read_entries.proofs.walk_record.Kinds as walk-record-kinds
 use Rattle.read_entries.proofs.+walk_record.Lts-walk_record as walk-record-lts
@@ -20,8 +21,6 @@ use Rattle.read_cursor.proofs.close.Reads as close-reads
 use Rattle.read_entries.proofs.goes_on.Reads as goes-on-reads
 use Rattle.read_cursor.proofs.node.Reads as node-reads
 use Rattle.read_entries.proofs.run.Reads as run-reads
-use Rattle.read_find.proofs.row_end.Reads as row-end-reads
-use Rattle.read_find.proofs.row_start.Reads as row-start-reads
 use Rattle.read_entries.proofs.+walk_record.{statement}
 use Rattle.read_entries.proofs.+walk_record.Tie.{close}
 
@@ -35,7 +34,7 @@ abbrev rec-below : ℕ → In 4 walk-record-kinds.ps
 rec-below t = and 4 walk-record-kinds.ps (falls 4 walk-record-kinds.ps _<_ μ-walk-record t) walk-record.Pre
 
 abbrev claims : ℕ → walk-record-lts.Claims
-claims t = (row-start-reads.Asked, row-start-reads.Learnt, row-end-reads.Asked, row-end-reads.Learnt, goes-on-reads.Asked, goes-on-reads.Learnt, run-reads.Asked, run-reads.Learnt, finished-reads.Asked, finished-reads.Learnt, close-reads.Asked, close-reads.Learnt, node-reads.Asked, node-reads.Learnt, name-at-reads.Asked, name-at-reads.Learnt, behind-reads.Asked, behind-reads.Learnt, rec-below t, walk-record.Post)
+claims t = (first-reads.Asked, first-reads.Learnt, goes-on-reads.Asked, goes-on-reads.Learnt, run-reads.Asked, run-reads.Learnt, finished-reads.Asked, finished-reads.Learnt, close-reads.Asked, close-reads.Learnt, node-reads.Asked, node-reads.Learnt, name-at-reads.Asked, name-at-reads.Learnt, behind-reads.Asked, behind-reads.Learnt, rec-below t, walk-record.Post)
 
 abbrev Inv-loop : walk-record-lts.InvT-loop
 Inv-loop image widths page level depth target stack₀ out₀ at next c₀ stack out c =
@@ -47,19 +46,16 @@ abbrev μ-loop : walk-record-lts.MeasureT-loop
 
 -- Where the walk is at the loop's head; d, below, is where the inner loop has left it.
 here : (t : ℕ) (c : walk-record-lts.At-loop (claims t) (rec-at t) walk-record.Post Inv-loop μ-loop)
-    → let a = c .before .before .before .before .before .args in
-    Going (a .image .now) (a .target) (goal (c .before .before .before .before .before .pre .1 .0) (a .target) (a .at) (a .next) (a .stack .now) (a .out .now)) (c .loop .c) (c .loop .stack)
+    → let a = c .before .before .before .before .args in
+    Going (a .image .now) (a .target) (goal (c .before .before .before .before .pre .1 .0) (a .target) (a .at) (a .next) (a .stack .now) (a .out .now)) (c .loop .c) (c .loop .stack)
     (c .loop .out)
-here t c = c .loop .inv (c .before .before .before .before .before .pre .1 .0)
+here t c = c .loop .inv (c .before .before .before .before .pre .1 .0)
 
-rec-row-start-requires : (t : ℕ) → walk-record-lts.Need-row-start-requires (claims t) (rec-at t) walk-record.Post Inv-loop μ-loop
-rec-row-start-requires t c κs = c .before .before .pre .1 .0 .on
-
-rec-row-end-requires : (t : ℕ) → walk-record-lts.Need-row-end-requires (claims t) (rec-at t) walk-record.Post Inv-loop μ-loop
-rec-row-end-requires t c κs = c .before .before .before .pre .1 .0 .on
+rec-first-requires : (t : ℕ) → walk-record-lts.Need-first-requires (claims t) (rec-at t) walk-record.Post Inv-loop μ-loop
+rec-first-requires t c κs = c .before .before .pre .1 .0 .on
 
 rec-loop-holds : (t : ℕ) → walk-record-lts.Need-loop-holds (claims t) (rec-at t) walk-record.Post Inv-loop μ-loop
-rec-loop-holds t c = λ w. going-start w _ _ _ _ _ (c .before .before .before .before .pre .1 .2) (c .before .before .before .before .pre .1 .3) _ _ (c .before .row-start .ensures) (c .row-end .ensures)
+rec-loop-holds t c = λ w. same-cursor (c .first .ensures) (going-start w _ _ _ _ _ (c .before .before .before .pre .1 .2) (c .before .before .before .pre .1 .3))
 
 rec-goes-on-requires : (t : ℕ) → walk-record-lts.Need-goes-on-requires (claims t) (rec-at t) walk-record.Post Inv-loop μ-loop
 rec-goes-on-requires t c κs = search needs
@@ -142,7 +138,7 @@ rec-cast-behind t c =
     let some = at-some d (c .before .before .before .before .before .before .if2 .left) in
     let kind = c .before .before .before .before .if4 .left in
     let name = c .before .before .before .name-at .ensures .0 in
-    omega (arith, named-few d some kind _ name, entered d some kind _ name .told _ (c .before .before .before .before .before .before .before .before .before .before .before .before .before .before .before .before .before .before .before .before .pre .1 .1))
+    omega (arith, named-few d some kind _ name, entered d some kind _ name .told _ (c .before .before .before .before .before .before .before .before .before .before .before .before .before .before .before .before .before .before .before .pre .1 .1))
 
 rec-behind-requires : (t : ℕ) → walk-record-lts.Need-behind-requires (claims t) (rec-at t) walk-record.Post Inv-loop μ-loop
 rec-behind-requires t c κs =
@@ -150,7 +146,7 @@ rec-behind-requires t c κs =
     let some = at-some d (c .before .before .before .before .before .before .if2 .left) in
     let kind = c .before .before .before .before .if4 .left in
     let name = c .before .before .before .name-at .ensures .0 in
-    (inside d some .1, omega (arith, named-few d some kind _ name, entered d some kind _ name .told _ (c .before .before .before .before .before .before .before .before .before .before .before .before .before .before .before .before .before .before .before .before .pre .1 .1)))
+    (inside d some .1, omega (arith, named-few d some kind _ name, entered d some kind _ name .told _ (c .before .before .before .before .before .before .before .before .before .before .before .before .before .before .before .before .before .before .before .pre .1 .1)))
 
 rec-loop-less-3 : (t : ℕ) → walk-record-lts.Need-loop-less-3 (claims t) (rec-at t) walk-record.Post Inv-loop μ-loop
 rec-loop-less-3 t c =
@@ -168,7 +164,7 @@ rec-loop-again-3 t c =
     let some = at-some d (c .before .before .before .before .before .before .before .if2 .left) in
     let kind = c .before .before .before .before .before .if4 .left in
     let name = c .before .before .before .before .name-at .ensures .0 in
-    same-cursor (c .behind .ensures) (proxy-stopped d some kind _ name _ (c .before .before .before .before .before .before .before .before .before .before .before .before .before .before .before .before .before .before .before .before .before .pre .1 .1) (c .before .before .if5 .taken))
+    same-cursor (c .behind .ensures) (proxy-stopped d some kind _ name _ (c .before .before .before .before .before .before .before .before .before .before .before .before .before .before .before .before .before .before .before .before .pre .1 .1) (c .before .before .if5 .taken))
 
 rec-sub-walk-record : (t : ℕ) → walk-record-lts.Need-sub-walk-record (claims t) (rec-at t) walk-record.Post Inv-loop μ-loop
 rec-sub-walk-record t c =
@@ -184,7 +180,7 @@ rec-walk-record-requires t c κs =
     let some = at-some d (c .before .before .before .before .before .before .before .if2 .left) in
     let kind = c .before .before .before .before .before .if4 .left in
     let name = c .before .before .before .before .name-at .ensures .0 in
-    let s = c .before .before .before .before .before .before .before .before .before .before .before .before .before .before .before .before .before .before .before .before .before in (
+    let s = c .before .before .before .before .before .before .before .before .before .before .before .before .before .before .before .before .before .before .before .before in (
       omega (arith, s .pre .0, entered d some kind _ name .below),
       (nested d some kind _ name, s .pre .1 .1, d .fair, d .sized),
     )
@@ -235,8 +231,7 @@ pub +walk-record-spec : {M : Type 1} → statement M
     walk-record.Post
     Inv-loop
     μ-loop
-    (rec-row-start-requires t)
-    (rec-row-end-requires t)
+    (rec-first-requires t)
     (rec-loop-holds t)
     (rec-goes-on-requires t)
     (rec-run-requires t)

@@ -3,7 +3,7 @@ use mathlib.Core.Path.{_≡_, sym, _∙_}
 use Prim.Native.Nat.{ℕ, _+_, _*_, _-_, _≤_}
 use native.Mathlib.Omega.{arith}
 use lib.ListN.{length}
-use Rattle.read_cursor.specs.Going.{Goal, Going}
+use Rattle.read_cursor.specs.Going.{Goal, Going, writes-roomy}
 use Rattle.read_entries.specs.Nested.{at-some, at-inner, at-node, inside}
 use Rattle.read_entries.proofs.run.Statement.{statement}
 use Rattle.read_entries.proofs.run.Tie as tie
@@ -67,7 +67,7 @@ returns-2 c = let i = c .before .before .before .before .before .before .loop .i
 write-node-requires : tie.Need-write-node-requires Inv-loop μ-loop
 write-node-requires c κs =
     let w = here (c .before .before .before .before .before .before .before .before) in
-    ((_, _, at-node w (c .before .before .before .before .if2 .left) (c .before .before .if4 .left)), c .before .before .before .before .before .before .before .writes .ensures (c .before .before .before .before .before .before .if1 .taken))
+    ((_, _, at-node w (c .before .before .before .before .if2 .left) (c .before .before .if4 .left)), writes-roomy _ _ (w .fair .low) (sym (c .before .before .before .before .before .before .before .writes .ensures) ∙ c .before .before .before .before .before .before .if1 .taken))
 
 loop-less-2 : tie.Need-loop-less-2 Inv-loop μ-loop
 loop-less-2 c =
