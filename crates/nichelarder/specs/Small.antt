@@ -9,8 +9,8 @@ use borrow.Author.Tests.{eqb-true, eqb-false}
 use lib.ListN.{length, take, drop, length-append, length-take, length-map}
 use lib.Dec.{ltb, eqb}
 use Rattle.model.specs.Limits.{mostPages, pageSize, mostBytes, longestPath}
-use Rattle.model.specs.Row.{Row, nil, agg, lit, rec, image, Config}
-use Rattle.model.specs.Tree.{shown, breadth, New, Node, below, further, nodes, placeOf, fromPlace}
+use Rattle.model.specs.Row.{Row, image, Config}
+use Rattle.model.specs.Tree.{Tree, end, branch, leaf, shown, New, Node, below, further, nodes, placeOf, fromPlace}
 use Rattle.model.specs.Reading.{Reads}
 use Rattle.model.specs.Answers.{firstRefusal, insertRefused}
 use Rattle.model.specs.Common.{isNone, namedBy, placeOr, pathOf, pathBytes, write, recordPages}
@@ -33,13 +33,14 @@ use Rattle.model.specs.declared.InsertAnswer.{InsertAnswer}
 use Rattle.model.specs.declared.WalkAnswer.{WalkAnswer}
 use Rattle.theory_rows.specs.Fits.{IsByte}
 use Rattle.theory_decoding.specs.Valid.{bytes-hold}
-use Rattle.theory_decoding.specs.Steps.{steps, few-steps}
+use Rattle.theory_rows.specs.Population.{treePopulation, population-shown}
+use Rattle.theory_decoding.specs.Steps.{few-nodes}
 use Rattle.theory_calls.specs.Growth.{growth}
 use Rattle.theory_rows.specs.Laws.{cond-case}
 use Rattle.theory_rows.specs.Keeps.{height-shown}
 use Rattle.theory_decoding.specs.Reading.{reads-valid, reads-length}
 use Rattle.theory_places.specs.Inside.{place-inside}
-use Rattle.theory_places.specs.Order.{one-root, nodes-⊞}
+use Rattle.theory_places.specs.Order.{one-root}
 use Rattle.theory_places.specs.Named.{in-tree}
 use Rattle.theory_places.specs.From.{from-stands}
 use Rattle.theory_places.specs.Pages.{pages-few}
@@ -169,24 +170,14 @@ read-small img x = by-store _ img (λ n z e. read-zero img n z e x) (λ st root 
 
 -- ── walk ──
 
--- A row shows fewer nodes than a walk over it takes steps.
-nodes-few : (row : Row) → length (nodes (shown row)) ≤ steps row
-nodes-few nil = omega arith
-nodes-few (agg h cs rest) =
-    let a = map below (nodes (shown cs)) in
-    let b = map (further 1) (nodes (shown rest)) in
-    omega (arith, length-append a b, length-map (nodes (shown cs)) below, length-map (nodes (shown rest)) (further 1), nodes-few cs, nodes-few rest)
-nodes-few (lit h c rest) = omega (arith, length-map (nodes (shown rest)) (further 1), nodes-few rest)
-nodes-few (rec p s r rest) =
-    let k = further (breadth (shown r)) in
-    omega (
-      arith,
-      ap length (nodes-⊞ (shown r) (shown rest)),
-      length-append (nodes (shown r)) (map k (nodes (shown rest))),
-      length-map (nodes (shown rest)) k,
-      nodes-few r,
-      nodes-few rest,
-    )
+-- The nodes of a tree in document order are as many as it has.
+nodes-count : (t : Tree) → length (nodes t) ≡ treePopulation t
+nodes-count end = refl
+nodes-count (branch h cs rest) =
+    let a = map below (nodes cs) in
+    let b = map (further 1) (nodes rest) in
+    omega (arith, length-append a b, length-map (nodes cs) below, length-map (nodes rest) (further 1), nodes-count cs, nodes-count rest)
+nodes-count (leaf h c rest) = omega (arith, length-map (nodes rest) (further 1), nodes-count rest)
 
 take-fewer : {A : Type 0} (k : ℕ) (l : List A) → length (take k l) ≤ length l
 take-fewer k l = omega (arith, length-take k l)
@@ -206,8 +197,9 @@ module _ (img : List ℕ) (x : Place) (buffer : List ℕ) where
         arith,
         ap length (s .1),
         length-append (s .0) (fromPlace (placeOf root) x (nodes (shown root))),
-        nodes-few root,
-        few-steps st root v,
+        nodes-count (shown root),
+        population-shown root,
+        few-nodes st root v,
         v .ranges .many,
       ) in
       rw (opens img st root r) (go (fromPlace (placeOf root) x (nodes (shown root))) few)

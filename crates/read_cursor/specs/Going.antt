@@ -15,7 +15,7 @@ use Rattle.model.specs.Tree.{width}
 use Rattle.theory_decoding.specs.Steps.{steps}
 use Rattle.theory_row_bytes.specs.RowAt.{kindOf, headOf, sizeOf, kidsOf, restOf}
 use Rattle.theory_layout.specs.Here.{parts-less, view}
-use Rattle.theory_layout.specs.Widths.{width-first, plain-width}
+use Rattle.theory_layout.specs.Widths.{width-first, plain-width, none-width}
 use Rattle.read_find.specs.Rowed.{Rowed, past-first, children-of}
 use Rattle.read_cursor.specs.Way.{Way, met, way, begin, begin-case, begin-on, told, told-case, told-sought, told-stopped, told-written, told-full, Keeps, Fair, kept-fair, visit-keeps, visits, patch}
 use Rattle.read_cursor.specs.Meets.{entryAt, meets, meets-none, first, visits-leaf, visits-past, visits-open}
@@ -466,11 +466,9 @@ module _ {img : List ℕ} {t : ℕ} {g : Goal} {c : Cursor} {stack out : List �
 
 -- ── the end of a row ──
 
+-- A row of no bytes shows no node.
 pub row-none : (row : Row) → size row ≡ 0 → width row ≡ 0
-row-none nil e = refl
-row-none (agg l cs rest) e = absurd (omega arith)
-row-none (lit l c rest) e = absurd (omega arith)
-row-none (rec p s r rest) e = absurd (omega arith)
+row-none row e = sym (none-width row (sym e))
 
 module _ {img : List ℕ} {t : ℕ} {g : Goal} {c : Cursor} {stack out : List ℕ} where
   -- The aggregate that ends.

@@ -1,5 +1,5 @@
 -- The nodes that a row shows, as a walk over it meets them.
-use mathlib.Core.Path.{_≡_, refl, ap, _∙_}
+use mathlib.Core.Path.{_≡_, refl, sym, ap, _∙_}
 use mathlib.Core.Bool.{Bool, true, false, cond}
 use mathlib.Core.List.{List, [], _∷_, _++_}
 use Prim.Native.Nat.{ℕ, _+_, _*_, _-_, _/_, _%_, _≤_, _<_}
@@ -10,6 +10,7 @@ use Rattle.model.specs.Limits.{pageSize}
 use Rattle.model.specs.Row.{Head, Row, nil, agg, lit, rec, size, base}
 use Rattle.model.specs.Tree.{width}
 use Rattle.theory_row_bytes.specs.RowAt.{kindOf, headOf, sizeOf, kidsOf, restOf}
+use Rattle.theory_layout.specs.Widths.{none-width}
 use Rattle.read_cursor.specs.Way.{Met, met, Way, begin, told, visits, visits-++, visits-stopped, patch, visits-patch}
 
 -- The length of a node's content, and the entry of a node at byte i by its header; `n` is the number of its children.
@@ -77,13 +78,7 @@ module _ (t : ℕ) (w : Way) (l i : ℕ) where
   pub visits-leaf : (row : Row) → 0 < size row → (kindOf row ≡ 3 → ⊥) → size (kidsOf row) ≡ 0
       → visits t w (meets l i row) ≡ visits t (first row 0) (meets l (i + sizeOf row) (restOf row))
   unfolding visits
-  visits-leaf row h k z = ap (visits t w) (meets-first l i row h k) ∙ rw (meets-none (l + 1) (i + 6) (kidsOf row) z, none-wide (kidsOf row) z)
-    where
-      none-wide : (r : Row) → size r ≡ 0 → width r ≡ 0
-      none-wide nil e = refl
-      none-wide (agg a cs rest) e = absurd (omega arith)
-      none-wide (lit a c rest) e = absurd (omega arith)
-      none-wide (rec p s r rest) e = absurd (omega arith)
+  visits-leaf row h k z = ap (visits t w) (meets-first l i row h k) ∙ rw (meets-none (l + 1) (i + 6) (kidsOf row) z, sym (none-width (kidsOf row) (sym z)))
 
   -- one at which the walk has stopped, with all in it,
   pub visits-past : (row : Row) → 0 < size row → (kindOf row ≡ 3 → ⊥) → (v : Way) → ((n : ℕ) → first row n ≡ v) → 1 ≤ v .at → (v .next ≡ 0 → ⊥)

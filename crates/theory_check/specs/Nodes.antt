@@ -136,8 +136,8 @@ not-lone (one e) h = absurd (false≢true (sym h ∙ e))
 not-lone (more r h) e = h
 
 module _ (img : List ℕ) (page level : ℕ) (w : State) (left : 1 ≤ w .left) where
-  -- a list of one node is the node
-  alone : (holder : ℕ) (s : List ℕ) → 1 ≤ length s → wholeSize s ≡ length s → listOf img s page holder level w ≡ nodeOf img s page holder level w
+  -- A list of one node is the node.
+  pub alone : (holder : ℕ) (s : List ℕ) → 1 ≤ length s → wholeSize s ≡ length s → listOf img s page holder level w ≡ nodeOf img s page holder level w
   alone holder s h e =
       let a = nodeOf img s page holder level w in
       list-more img s page holder level w (λ q. omega arith) (λ q. omega arith) (λ q. omega arith)

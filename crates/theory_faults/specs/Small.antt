@@ -2,9 +2,9 @@
 use mathlib.Core.Path.{_≡_, refl, sym, _∙_}
 use mathlib.Core.Bool.{Bool, true, false, cond, not, _&&_, _||_}
 use mathlib.Core.List.{List, [], _∷_}
-use Prim.Native.Nat.{ℕ, zero, suc, _+_, _-_, _*_, _%_, _≤_, _<_}
+use Prim.Native.Nat.{ℕ, zero, suc, _+_, _-_, _*_, _≤_, _<_}
 use native.Mathlib.Omega.{arith}
-use borrow.Author.Tests.{eqb-true, leb-true, not-false}
+use borrow.Author.Tests.{eqb-true, not-false}
 use lib.ListN.{length, take, drop}
 use lib.Dec.{ltb, leb, eqb}
 use Rattle.model.specs.Limits.{pageSize, mostPages, mostLevels}
@@ -19,6 +19,7 @@ use Rattle.theory_rows.specs.Laws.{cond-case}
 use Rattle.theory_decoding.specs.Valid.{both}
 use Rattle.theory_calls.specs.Open.{not-passing}
 use Rattle.theory_faults.specs.Tests.{named}
+use Rattle.theory_faults.specs.Stages.{page-range}
 
 -- A walk that has stopped has stopped in a page below it; a row that is entered stands in one.
 abbrev SmallWalk : Walk → Type 0
@@ -106,14 +107,6 @@ module _ (img : List ℕ) (l : 1 ≤ pageCount img) (m : pageCount img ≤ mostP
       (λ _. end-small img (into root walk) l m
       (into-small root walk (record-small img (eqb (kindAt img pageSize) 1) 1 1 (been (recordCount img (n - 1) 1) []) (omega arith)) (walk-small (16384 * (1 + n)) img)))
       (λ _. pages-small img n (n - 1) 1 (omega arith)))
-
--- an image of the right length has 2 to 1,024 pages
-page-range : (img : List ℕ) → lengthOk (length img) ≡ true → (2 ≤ pageCount img) × (pageCount img ≤ mostPages)
-unfolding lengthOk
-page-range img e =
-    let most = both _ _ e in
-    let least = both (eqb (length img % pageSize) 0) _ (most .0) in
-    (leb-true 2 (pageCount img) (least .1), leb-true (pageCount img) mostPages (most .1))
 
 pub diagnose-small : (img : List ℕ) → diagnoseOf img .page < mostPages
 unfolding diagnoseOf

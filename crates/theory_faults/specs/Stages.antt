@@ -7,7 +7,7 @@ use native.Mathlib.Omega.{arith}
 use lib.ListN.{length, replicate}
 use lib.Dec.{eqb}
 use borrow.Author.Tests.{eqb-true, eqb-false, leb-true}
-use Rattle.model.specs.Limits.{pageSize, markBytes}
+use Rattle.model.specs.Limits.{pageSize, mostPages, markBytes}
 use Rattle.model.specs.Reading.{lengthOk, pageOf, kindAt, usedAt}
 use Rattle.model.specs.BeforeWalk.{settingsOk, trailerOf, trailerFits, pageFits, pagesFit, pageCount, beforeWalk}
 use Rattle.model.specs.WalkTests.{tailZero, recordOf}
@@ -143,13 +143,13 @@ module _ (img : List ℕ) (few : 2 ≤ pageCount img) (passed : beforeWalk img �
 
 -- ── the whole ──
 
--- an image of the right length has two pages at least
-two-pages : (img : List ℕ) → lengthOk (length img) ≡ true → 2 ≤ pageCount img
+-- an image of the right length has 2 to 1,024 pages
+pub page-range : (img : List ℕ) → lengthOk (length img) ≡ true → (2 ≤ pageCount img) × (pageCount img ≤ mostPages)
 unfolding lengthOk
-two-pages img e =
+page-range img e =
     let most = and-both _ _ e in
     let least = and-both (eqb (length img % pageSize) 0) _ (most .0) in
-    leb-true 2 (pageCount img) (least .1)
+    (leb-true 2 (pageCount img) (least .1), leb-true (pageCount img) mostPages (most .1))
 
 walk-stages : (img : List ℕ) → walkFault img .stage ≡ 2 → ⊥
 unfolding walkFault
@@ -192,4 +192,4 @@ fault-stage img ok = go (settingsPass img) (pagesPass img) refl refl _ (pages-st
         ≡ stageBy a b (walkOk img (trailersOf img))
     go false b d e x s = refl
     go true false d e x s = rw s
-    go true true d e x s = rw s (walk-stage img (two-pages img ok) (rw (d, e)))
+    go true true d e x s = rw s (walk-stage img (page-range img ok .0) (rw (d, e)))

@@ -1,24 +1,23 @@
 -- What the single tests of the walk say: a node takes all of its bytes, a page has a record.
 use mathlib.Core.Path.{_≡_, refl, _∙_}
 use mathlib.Core.Bool.{Bool, true, false, _&&_}
-use mathlib.Core.List.{List, []}
+use mathlib.Core.List.{List}
 use Prim.Native.Nat.{ℕ, _+_, _*_, _≤_, _<_}
 use native.Mathlib.Omega.{arith}
 use lib.ListN.{length, getD, drop, length-drop}
-use lib.Seq.{take-length, drop-length, length-take-le}
+use lib.Seq.{length-take-le}
 use lib.Dec.{leb, eqb}
 use borrow.Author.Tests.{eqb-true, eqb-false, leb-true, ltb-true, le-leb}
 use Rattle.model.specs.Limits.{mostPages, pageSize, capacity}
 use Rattle.model.specs.Reading.{twoAt, pageOf, sizeAt, stateAt, usedAt}
 use Rattle.model.specs.BeforeWalk.{trailerOf, isFree, settledFits, recordTrailer, trailerFits, pageCount, beforeWalk}
 use Rattle.model.specs.WalkTests.{wholeSize, passingKind, namesOf, recordOf}
-use Rattle.theory_rows.specs.Laws.{⊹-nil}
 use Rattle.theory_decoding.specs.Valid.{both as and-both}
 use Rattle.theory_check.specs.Before.{before-says}
 use Rattle.theory_check.specs.Trailers.{trailer-two}
 use Rattle.theory_check.specs.Parts.{page-two}
-use Rattle.theory_check.specs.Walk.{State, stop, nodeStep, nodeOf, listOf}
-use Rattle.theory_check.specs.Steps.{passing, node-eq, list-none, list-more}
+use Rattle.theory_check.specs.Walk.{State, stop, nodeStep, nodeOf}
+use Rattle.theory_check.specs.Steps.{passing, node-eq}
 
 -- ── nodes ──
 
@@ -36,14 +35,6 @@ not-whole s holder z = go (eqb (passingKind s holder) 0) refl
 pub refused : (img s : List ℕ) (page holder level : ℕ) (w : State) → passingKind s holder ≡ 0 → nodeOf img s page holder level w ≡ stop w
 unfolding nodeStep
 refused img s page holder level w e = node-eq img s page holder level w ∙ rw e
-
--- A list of one node is the node.
-pub alone : (img s : List ℕ) (page holder level : ℕ) (w : State) → 1 ≤ w .left → 1 ≤ length s → wholeSize s ≡ length s
-    → listOf img s page holder level w ≡ nodeOf img s page holder level w
-alone img s page holder level w some long e =
-    let a = nodeOf img s page holder level w in
-    list-more img s page holder level w (λ q. omega arith) (λ q. omega arith) (λ q. omega arith)
-    ∙ rw (e, take-length s, drop-length s, list-none img [] page holder level (a .walk) refl, ⊹-nil (a .row))
 
 -- ── pages ──
 

@@ -17,9 +17,10 @@ use Rattle.theory_check.specs.Tests.{isMarked}
 use Rattle.theory_check.specs.Marks.{IsMarks, marks-kept, is-marked}
 use Rattle.theory_check.specs.Walk.{State, withMark, entersOf, Decoded, node, list, measure, stop, asRec, proxyStep, nodeStep, moreStep, listStep}
 use Rattle.theory_check.specs.Walk.{decode, nodeOf, listOf, proxyOf}
+use Rattle.theory_check.specs.Nodes.{alone}
 use Rattle.theory_check.specs.Steps.{less, node-eq, list-eq, list-none, head-long, size-long}
 use Rattle.theory_faults.specs.Facts.{pair, other, after}
-use Rattle.theory_faults.specs.Tests.{not-whole, refused, alone, named, record-long}
+use Rattle.theory_faults.specs.Tests.{not-whole, refused, named, record-long}
 
 -- ── states ──
 
@@ -116,7 +117,7 @@ module _ (F : List ℕ → (page holder level : ℕ) → Been → Walk) where
         s = recordOf img p
 
         go : (c : Bool) → eqb (wholeSize s) (length s) ≡ c → Rows (cond c (row s p 0 level b) (stops p badNode)) (nodeOf img s p 0 level w)
-        go true e = rw (← alone img s p 0 level w (a .some) long (eqb-true (wholeSize s) (length s) e)) (ih s p 0 level w b a small)
+        go true e = rw (← alone img p level w (a .some) 0 s long (eqb-true (wholeSize s) (length s) e)) (ih s p 0 level w b a small)
         go false e = ap (λ (d : Decoded). d .walk .left) (refused img s p 0 level w (not-whole s 0 (eqb-false (wholeSize s) (length s) e)))
 
     -- a proxy in the record of `page`
