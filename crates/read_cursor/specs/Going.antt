@@ -7,7 +7,7 @@ use native.Mathlib.Omega.{arith}
 use lib.ListN.{length, getD, set, length-set}
 use lib.Seq.{getD-set-same, getD-set-other, sets}
 use lib.Dec.{eqb, ltb, leb}
-use borrow.Author.Tests.{eqb-true, eqb-false, ltb-true, ltb-false, leb-true}
+use borrow.Author.Tests.{eqb-true, eqb-false, ltb-true, ltb-false, lt-ltb, leb-true}
 use Rattle.model.specs.Limits.{mostLevels, mostBytes}
 use Rattle.model.specs.Row.{Row, nil, agg, lit, rec, size, base, height}
 use Rattle.model.specs.Reading.{kindAt, headAt, sizeAt}
@@ -126,6 +126,11 @@ pub record Going (img : List ℕ) (t : ℕ) (g : Goal) (c : Cursor) (stack out :
   pub whole : resume t (reached c out) (c .level) (c .i) (rest .row) (c .n) frames ≡ g .result
   pub kept : (j : ℕ) → j < 3 * g .base → getD stack j 0 ≡ getD (g .stack) j 0
 
+-- The same of what is said by equations.
+pub going-as : {img : List ℕ} {t : ℕ} {g : Goal} {c d : Cursor} {stack held out : List ℕ} → d ≡ c → held ≡ stack → Going img t g c stack out → Going img t g d held out
+going-as {img} {t} {g} {c} {d} {stack} {held} {out} e q w =
+    subst (λ (s : List ℕ). Going img t g d s out) (sym q) (subst (λ (x : Cursor). Going img t g x stack out) (sym e) w)
+
 pub record AtNode (img : List ℕ) (t : ℕ) (g : Goal) (c : Cursor) (stack out : List ℕ) : Type 0 where
   pub going : Going img t g c stack out
   pub some : c .i < c .end
@@ -185,9 +190,28 @@ written-dealt {img} {t} {c} {out} m at after r e k q = record {
       ∙ sym (told-written (c .at) (c .i) (entryAt (c .level) (c .i) (kindAt img (c .i)) (headAt img (c .i)) m 0) (c .next) out (r .begun) (r .calm) (r .fits));
 }
 
+-- What the stack has once an aggregate is entered: what is behind it.
+abbrev pub saved : (stack : List ℕ) → Cursor → (here : ℕ) → List ℕ
+saved stack c here = set (set (set stack (3 * c .level) (c .end)) (3 * c .level + 1) (c .n + 1)) (3 * c .level + 2) here
+
 -- An aggregate with children is entered unless the walk has stopped.
 abbrev pub enters : (kind size next : ℕ) → Bool
 enters k m x = eqb k 1 && ltb 6 m && eqb x 0
+
+-- A literal is not, nor is an aggregate of a header alone.
+pub enters-literal : (kind size next : ℕ) → kind ≡ 2 → enters kind size next ≡ false
+enters-literal k m x e = ap (λ (j : ℕ). enters j m x) e
+
+pub enters-none : (kind size next : ℕ) → size ≤ 6 → enters kind size next ≡ false
+enters-none k m x h = go (eqb k 1) (ltb 6 m) refl
+  where
+    go : (a b : Bool) → ltb 6 m ≡ b → a && b && eqb x 0 ≡ false
+    go false b e = refl
+    go true false e = refl
+    go true true e = absurd (omega (arith, ltb-true 6 m e))
+
+pub enters-some : (kind size : ℕ) → kind ≡ 1 → 6 < size → enters kind size 0 ≡ true
+enters-some k m e h = λ j. eqb (e j) 1 && lt-ltb 6 m h j && true
 
 heights : (row : Row) → 0 < size row → (kindOf row ≡ 1 → 1 + height (kidsOf row) ≤ height row) × (height (restOf row) ≤ height row)
 heights nil h = absurd (omega arith)
@@ -382,16 +406,13 @@ module _ {img : List ℕ} {t : ℕ} {g : Goal} {c : Cursor} {stack out : List �
             let y = roomy (eqb-true next 0 r) in
             record { kind = kind p; more = ltb-true 6 m q; calm = y .0; room = y .1 }
 
-    abbrev saved : List ℕ
-    saved = set (set (set stack (3 * c .level) (c .end)) (3 * c .level + 1) (c .n + 1)) (3 * c .level + 2) here
-
-    saved-long : length saved ≡ 75
+    saved-long : length (saved stack c here) ≡ 75
     saved-long =
         let one = set stack (3 * c .level) (c .end) in
         let two = set one (3 * c .level + 1) (c .n + 1) in
         length-set two (3 * c .level + 2) here ∙ length-set one (3 * c .level + 1) (c .n + 1) ∙ length-set stack (3 * c .level) (c .end) ∙ a .going .sized
 
-    saved-below : (j : ℕ) → j < 3 * c .level → getD saved j 0 ≡ getD stack j 0
+    saved-below : (j : ℕ) → j < 3 * c .level → getD (saved stack c here) j 0 ≡ getD stack j 0
     saved-below j h =
         let one = set stack (3 * c .level) (c .end) in
         let two = set one (3 * c .level + 1) (c .n + 1) in
@@ -403,7 +424,7 @@ module _ {img : List ℕ} {t : ℕ} {g : Goal} {c : Cursor} {stack out : List �
     abbrev frame : Frame img (g .depth)
     frame = record { level = c .level; pos = c .i + m; end = c .end; rest = behind; n = c .n + 1; here = here }
 
-    framed : (1 ≤ here → here + 8 ≤ length out) → Framed saved (length after) (c .level + 1) (c .i + m) frame
+    framed : (1 ≤ here → here + 8 ≤ length out) → Framed (saved stack c here) (length after) (c .level + 1) (c .i + m) frame
     framed room =
         let l = a .going .sized in
         let one = set stack (3 * c .level) (c .end) in
@@ -438,7 +459,7 @@ module _ {img : List ℕ} {t : ℕ} {g : Goal} {c : Cursor} {stack out : List �
         ∙ (λ j. visits t (patch (sym begins j) (z j) (visits t (sym (same ∙ first-is 0) j) ms)) (meets (c .level) (c .i + sym size-is j) (restOf row)))
 
     pub node-entered : enters (kindAt img (c .i)) m next ≡ true
-        → Going img t g (cursor (c .i + 6) (c .i + m) (c .level + 1) 0 at next) saved after
+        → Going img t g (cursor (c .i + 6) (c .i + m) (c .level + 1) 0 at next) (saved stack c here) after
     unfolding Stacked resume
     node-entered e =
         let u = entering e in
@@ -455,7 +476,7 @@ module _ {img : List ℕ} {t : ℕ} {g : Goal} {c : Cursor} {stack out : List �
           frames = frame ∷ w .frames;
           stacked = (
             framed (u .room),
-            stacked-room saved _ _ _ _ _ _ (w .frames) (sym (keeps .long)) (stacked-kept stack saved _ _ _ _ _ (w .frames) saved-below (w .stacked)),
+            stacked-room (saved stack c here) _ _ _ _ _ _ (w .frames) (sym (keeps .long)) (stacked-kept stack (saved stack c here) _ _ _ _ _ (w .frames) saved-below (w .stacked)),
           );
           whole =
               sym (resume-same t (reached c out) _ (c .level) (c .level) (c .i) (c .i + m) row (restOf row) (c .n) (c .n + 1) (w .frames)

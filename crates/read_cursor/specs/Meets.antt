@@ -30,9 +30,9 @@ entryBy l i k o b s c = l ∷ i / pageSize ∷ i % pageSize ∷ k ∷ o ∷ b �
 pub entry-agg : (l i k : ℕ) (h : Head) (m o b : ℕ) → k ≡ 1 → o ≡ h .origin → b ≡ h .label → entryBy l i 1 o b 0 0 ≡ entryAt l i k h m 0
 entry-agg l i k h m o b e f g = rw (e, f, g)
 
-pub entry-lit : (l i k : ℕ) (h : Head) (m o b s : ℕ) → (k ≡ 1 → ⊥) → k ≡ 2 → o ≡ h .origin → b ≡ h .label → s ≡ cond (eqb (m - 6) 0) 0 (i + 6)
+pub entry-lit : (l i k : ℕ) (h : Head) (m o b s : ℕ) → k ≡ 2 → o ≡ h .origin → b ≡ h .label → s ≡ cond (eqb (m - 6) 0) 0 (i + 6)
     → entryBy l i 2 o b s (m - 6) ≡ entryAt l i k h m 0
-entry-lit l i k h m o b s z e f g q = rw (e, f, g, q)
+entry-lit l i k h m o b s e f g q = rw (e, f, g, q)
 
 -- A content starts at most six bytes on.
 pub start-low : (i n s : ℕ) → s ≡ cond (eqb n 0) 0 (i + 6) → s ≤ i + 6

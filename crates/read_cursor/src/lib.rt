@@ -14,7 +14,7 @@ ghost use lib.Dec.{eqb};
 ghost use Rattle.model.specs.Reading.{kindAt, headAt};
 ghost use Rattle.read_cursor.specs.Way.{way, begin as beginOf, told};
 ghost use Rattle.read_cursor.specs.Meets.{entryAt, entryBy};
-ghost use Rattle.read_cursor.specs.Going.{NodeHere, enters as entersOf, Goal, Going, AtNode, AtEnd, Dealt, Roomy};
+ghost use Rattle.read_cursor.specs.Going.{cursor, NodeHere, enters as entersOf, saved, Goal, Going, AtNode, AtEnd, Dealt, Roomy};
 
 // What a walk remembers of each aggregate that it is in: where the row ends that the aggregate stands in, how many nodes of that row are passed, and where
 // the aggregate's entry was written. Three numbers a level.
@@ -73,7 +73,44 @@ fn put_entry(
     out[a + 8] = len as u32;
 }
 
-// The entry of the node at i, of so many bytes; gives where the next one goes.
+// The entry of the aggregate at i; gives where the next one goes.
+fn put_aggregate(image: &[u8], i: usize, level: usize, out: &mut [u32], here: usize) -> usize
+    requires { ⌜ ((size : ℕ) × NodeHere (now image) i size level) × (1 ≤ here) × (here + 8 ≤ length (now out)) × (kindAt (now image) i ≡ 1) ⌝ }
+    ensures number { λ r. ⌜ r ≡ here + 9 ⌝ }
+    ensures out { λ _. ⌜ ((size : ℕ) → now (out .exit)
+        ≡ sets (now (out .entry)) (here - 1) (entryAt level i (kindAt (now (image .entry)) i) (headAt (now (image .entry)) i) size 0)) ⌝ }
+{
+    let a = here - 1;
+    let origin = origin_at(image, i);
+    let label = label_at(image, i);
+    put_entry(out, a, level, i, 1, origin, label, 0, 0);
+    here + 9
+}
+
+// The same of a literal of so many bytes.
+fn put_literal(
+    image: &[u8],
+    i: usize,
+    size: usize,
+    level: usize,
+    out: &mut [u32],
+    here: usize,
+) -> usize
+    requires { ⌜ NodeHere (now image) i size level × (1 ≤ here) × (here + 8 ≤ length (now out)) × (kindAt (now image) i ≡ 2) ⌝ }
+    ensures number { λ r. ⌜ r ≡ here + 9 ⌝ }
+    ensures out { λ _. ⌜ now (out .exit)
+        ≡ sets (now (out .entry)) (here - 1) (entryAt level i (kindAt (now (image .entry)) i) (headAt (now (image .entry)) i) size 0) ⌝ }
+{
+    let a = here - 1;
+    let origin = origin_at(image, i);
+    let label = label_at(image, i);
+    let len = size - 6;
+    let start = content_at(i, len);
+    put_entry(out, a, level, i, 2, origin, label, start, len);
+    here + 9
+}
+
+// The same of a node.
 fn put_node(
     image: &[u8],
     i: usize,
@@ -87,17 +124,10 @@ fn put_node(
     ensures out { λ _. ⌜ now (out .exit)
         ≡ sets (now (out .entry)) (here - 1) (entryAt level i (kindAt (now (image .entry)) i) (headAt (now (image .entry)) i) size 0) ⌝ }
 {
-    let a = here - 1;
-    let origin = origin_at(image, i);
-    let label = label_at(image, i);
     if image[i] == 1 {
-        put_entry(out, a, level, i, 1, origin, label, 0, 0);
-        return here + 9;
+        return put_aggregate(image, i, level, out, here);
     }
-    let len = size - 6;
-    let start = content_at(i, len);
-    put_entry(out, a, level, i, 2, origin, label, start, len);
-    here + 9
+    put_literal(image, i, size, level, out, here)
 }
 
 // The same, if it is to be written and there is room for it.
@@ -144,7 +174,42 @@ fn enters(image: &[u8], i: usize, size: usize, next: usize) -> bool
     next == 0
 }
 
-// Past the node at the cursor, of so many bytes, or into it, once its entry is dealt with.
+// Past the node at the cursor, of so many bytes, once its entry is dealt with.
+fn past(c: Cursor, size: usize, t: Told) -> Cursor
+    requires { ⌜ (c .i < 4194304) × (size < 65536) × (c .n < 4194304) ⌝ }
+    ensures { λ r. ⌜ r ≡ cursor (c .i + size) (c .end) (c .level) (c .n + 1) (t .at) (t .next) ⌝ }
+{
+    Cursor {
+        i: c.i + size,
+        end: c.end,
+        level: c.level,
+        n: c.n + 1,
+        at: t.at,
+        next: t.next,
+    }
+}
+
+// Into it; what is behind it goes on the stack.
+fn into(c: Cursor, size: usize, here: usize, t: Told, stack: &mut [usize; STACK]) -> Cursor
+    requires { ⌜ (c .i < 4194304) × (size < 65536) × (c .n < 4194304) × (c .level ≤ 24) ⌝ }
+    ensures cursor { λ r. ⌜ r ≡ cursor (c .i + 6) (c .i + size) (c .level + 1) 0 (t .at) (t .next) ⌝ }
+    ensures stack { λ _. ⌜ now (stack .exit) ≡ saved (now (stack .entry)) c here ⌝ }
+{
+    let k = 3 * c.level;
+    stack[k] = c.end;
+    stack[k + 1] = c.n + 1;
+    stack[k + 2] = here;
+    Cursor {
+        i: c.i + 6,
+        end: c.i + size,
+        level: c.level + 1,
+        n: 0,
+        at: t.at,
+        next: t.next,
+    }
+}
+
+// Past it or into it.
 fn over(
     image: &[u8],
     c: Cursor,
@@ -159,30 +224,10 @@ fn over(
         → Going (now (image .entry)) target g r (now (stack .exit)) after) ⌝ }
     ensures moves { λ r. ⌜ (c .i + 6 ≤ r .i) × (r .level ≤ c .level + 1) ⌝ }
 {
-    let i = c.i;
-    let n = c.n + 1;
-    if enters(image, i, size, t.next) {
-        let k = 3 * c.level;
-        stack[k] = c.end;
-        stack[k + 1] = n;
-        stack[k + 2] = here;
-        return Cursor {
-            i: i + 6,
-            end: i + size,
-            level: c.level + 1,
-            n: 0,
-            at: t.at,
-            next: t.next,
-        };
+    if enters(image, c.i, size, t.next) {
+        return into(c, size, here, t, stack);
     }
-    Cursor {
-        i: i + size,
-        end: c.end,
-        level: c.level,
-        n: n,
-        at: t.at,
-        next: t.next,
-    }
+    past(c, size, t)
 }
 
 // Past the node at the cursor, or into it.
@@ -204,17 +249,40 @@ pub fn node(
     over(image, c, size, here, t, stack)
 }
 
-// The same where there is room for its entry.
-pub fn write_node(image: &[u8], c: Cursor, stack: &mut [usize; STACK], out: &mut [u32]) -> Cursor
-    requires { ⌜ ((target : ℕ) × (g : Goal) × AtNode (now image) target g c (now stack) (now out)) × Roomy c (length (now out)) ⌝ }
+// The same of an aggregate where there is room for its entry.
+pub fn write_aggregate(
+    image: &[u8],
+    c: Cursor,
+    stack: &mut [usize; STACK],
+    out: &mut [u32],
+) -> Cursor
+    requires { ⌜ ((target : ℕ) × (g : Goal) × AtNode (now image) target g c (now stack) (now out)) × Roomy c (length (now out)) × (kindAt (now image) (c .i) ≡ 1) ⌝ }
     ensures goes { λ r. ⌜ ((target : ℕ) (g : Goal) → AtNode (now (image .entry)) target g c (now (stack .entry)) (now (out .entry))
         → Going (now (image .entry)) target g r (now (stack .exit)) (now (out .exit))) ⌝ }
     ensures moves { λ r. ⌜ (c .i + 6 ≤ r .i) × (r .level ≤ c .level + 1) ⌝ }
 {
     let size = size_at(image, c.i);
     let here = c.at;
-    let at = put_node(image, c.i, size, c.level, out, here);
-    over(image, c, size, here, Told { at: at, next: 0 }, stack)
+    let t = Told {
+        at: put_aggregate(image, c.i, c.level, out, here),
+        next: 0,
+    };
+    if size > 6 {
+        return into(c, size, here, t, stack);
+    }
+    past(c, size, t)
+}
+
+// The same of a literal.
+pub fn write_literal(image: &[u8], c: Cursor, out: &mut [u32]) -> Cursor
+    requires { ⌜ ((target : ℕ) × (g : Goal) × (stack : List ℕ) × AtNode (now image) target g c stack (now out)) × Roomy c (length (now out)) × (kindAt (now image) (c .i) ≡ 2) ⌝ }
+    ensures goes { λ r. ⌜ ((target : ℕ) (g : Goal) (stack : List ℕ) → AtNode (now (image .entry)) target g c stack (now (out .entry))
+        → Going (now (image .entry)) target g r stack (now (out .exit))) ⌝ }
+    ensures moves { λ r. ⌜ (c .i + 6 ≤ r .i) × (r .level ≡ c .level) × (r .at ≡ c .at + 9) × (r .next ≡ 0) ⌝ }
+{
+    let size = size_at(image, c.i);
+    let at = put_literal(image, c.i, size, c.level, out, c.at);
+    past(c, size, Told { at: at, next: 0 })
 }
 
 // The number of children, put into the entry of an aggregate; 0: none was written.

@@ -1,3 +1,4 @@
+pub mod Literals
 pub mod Nested
 pub mod Told
 pub mod Answer

@@ -20,7 +20,7 @@ use Rattle.theory_decoding.specs.Reading.{reads-valid}
 use Rattle.theory_places.specs.Order.{lone-root, nodes-⊞}
 use Rattle.theory_layout.specs.Items.{spots}
 use Rattle.theory_layout.specs.Nodes.{All, Both, nodes-all, place-at}
-use Rattle.read_cursor.specs.Way.{Met, met}
+use Rattle.read_cursor.specs.Way.{Met}
 use Rattle.read_cursor.specs.Meets.{meets}
 
 -- The place of a position.

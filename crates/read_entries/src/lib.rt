@@ -7,12 +7,14 @@ use read_cursor::Cursor;
 use read_cursor::STACK;
 use read_cursor::close;
 use read_cursor::node;
-use read_cursor::write_node;
+use read_cursor::write_aggregate;
+use read_cursor::write_literal;
 use read_find::row_end;
 use read_find::row_start;
 use read_next::node_at;
 ghost use mathlib.Core.Path.{_≡_};
-ghost use mathlib.Core.Bool.{cond, _||_};
+ghost use mathlib.Core.Bool.{true, cond, _||_};
+ghost use mathlib.Core.List.{List};
 ghost use Prim.Native.Nat.{ℕ, _+_, _≤_, _<_};
 ghost use lib.ListN.{length};
 ghost use lib.Dec.{eqb, ltb};
@@ -23,6 +25,7 @@ ghost use Rattle.theory_layout.specs.Widths.{Widths};
 ghost use Rattle.read_find.specs.Rowed.{startOn, endOn};
 ghost use Rattle.read_cursor.specs.Way.{way, Fair};
 ghost use Rattle.read_cursor.specs.Going.{cursor, Goal, Going, writes as writesOf};
+ghost use Rattle.read_entries.specs.Literals.{literalNext};
 ghost use Rattle.read_entries.specs.Nested.{Recorded, Done};
 
 // What a walk over a record leaves, with the number of nodes that the record shows.
@@ -46,8 +49,38 @@ fn writes(c: Cursor, room: usize) -> bool
     9 <= room - (c.at - 1)
 }
 
-// On in a record as long as entries are written, to the next proxy or the record's end. A loop of its own with little to remember, since nearly all nodes
-// are passed here.
+// Whether a literal is next, and there is room for its entry.
+fn at_literal(image: &[u8], c: Cursor, room: usize) -> bool
+    requires { ⌜ ((c .i ≡ c .end → ⊥) → c .i < length (now image)) × (1 ≤ c .at) × (c .at ≤ room + 1) ⌝ }
+    ensures { λ r. ⌜ r ≡ literalNext (now (image .entry)) c room ⌝ }
+{
+    let i = c.i;
+    if i == c.end {
+        return false;
+    }
+    if image[i] != 2 {
+        return false;
+    }
+    9 <= room - (c.at - 1)
+}
+
+// Past literals as long as there is room for their entries. Only three numbers of the cursor change here.
+fn literals(image: &[u8], from: Cursor, out: &mut [u32]) -> Cursor
+    requires { ⌜ ((target : ℕ) × (g : Goal) × (stack : List ℕ) × Going (now image) target g from stack (now out)) × (1 ≤ from .at) × (from .next ≡ 0) ⌝ }
+    ensures goes { λ r. ⌜ ((target : ℕ) (g : Goal) (stack : List ℕ) → Going (now (image .entry)) target g from stack (now (out .entry))
+        → Going (now (image .entry)) target g r stack (now (out .exit))) ⌝ }
+    ensures moves { λ r. ⌜ (from .i ≤ r .i) × (r .level ≡ from .level)
+        × (literalNext (now (image .entry)) from (length (now (out .entry))) ≡ true → from .i < r .i) ⌝ }
+{
+    let mut c = from;
+    while at_literal(image, c, out.len()) {
+        c = write_literal(image, c, out);
+    }
+    c
+}
+
+// On in a record as long as entries are written, to the next proxy or the record's end. Two loops with little to remember, this one and that over literals,
+// since nearly all nodes are passed here.
 fn run(
     image: &[u8],
     from: Cursor,
@@ -69,10 +102,15 @@ fn run(
             }
             c = close(c, stack, out);
         } else {
-            if image[i] == 3 {
+            let kind = image[i];
+            if kind == 3 {
                 return c;
             }
-            c = write_node(image, c, stack, out);
+            if kind == 2 {
+                c = literals(image, c, out);
+            } else {
+                c = write_aggregate(image, c, stack, out);
+            }
         }
     }
     c

@@ -1,91 +1,28 @@
-use mathlib.Core.Path.{ap, _∙_}
-use Prim.Native.Nat.{_-_}
-use native.Mathlib.Omega.{arith}
-use lib.Seq.{sets}
-use mathlib.Core.Path.{refl}
-use Rattle.model.specs.Reading.{headAt}
-use Rattle.read_cursor.specs.Meets.{entry-agg, entry-lit, start-low}
 use borrow.Author.Needs.{needs}
 use Rattle.read_cursor.proofs.put_node.Statement.{statement}
 use Rattle.read_cursor.proofs.put_node.Tie as tie
 
-sub-a : tie.Need-sub-a
-sub-a c = search needs
-
-origin-at-requires : tie.Need-origin-at-requires
-origin-at-requires c κs = search needs
-
-label-at-requires : tie.Need-label-at-requires
-label-at-requires c κs = search needs
-
 shared-slice-read-if1 : tie.Need-shared-slice-read-if1
 shared-slice-read-if1 c = search needs
 
-put-entry-requires : tie.Need-put-entry-requires
-put-entry-requires c κs = search needs
-
-add-result : tie.Need-add-result
-add-result c = search needs
+put-aggregate-requires : tie.Need-put-aggregate-requires
+put-aggregate-requires c κs = search needs
 
 same-length : tie.Need-same-length
 same-length c = search needs
 
 returns : tie.Need-returns
-returns c =
-    let s = c .before .before .before .before .before .before .before .before .before .before in
-    let a = s .args in
-    let origin = c .before .before .before .before .before .before .before .origin-at .ensures .0 in
-    let label = c .before .before .before .before .before .before .label-at .ensures .0 in (
-      refl,
-      c .before .before .put-entry .ensures
-          ∙ ap (sets (a .out .now) (a .here - 1)) (entry-agg (a .level) (a .i) _ (headAt (a .image .now) (a .i)) (a .size) _ _ (c .before .before .before .before .if1 .taken) origin label),
-    )
+returns c = (c .before .before .put-aggregate .ensures .0, c .before .before .put-aggregate .ensures .1 _)
 
-sub-len : tie.Need-sub-len
-sub-len c = search needs
-
-content-at-requires : tie.Need-content-at-requires
-content-at-requires c κs = search needs
-
-put-entry-requires-2 : tie.Need-put-entry-requires-2
-put-entry-requires-2 c κs =
-    let s = c .before .before .before .before .before .before .before .before in
-    omega (arith, s .pre .0 .low, s .pre .0 .high, s .pre .0 .small, s .pre .1, s .pre .2, start-low (s .args .i) (s .args .size - 6) (c .before .content-at .result) (c .before .content-at .ensures), c .before .before .before .before .label-at .ensures .1, c .before .before .before .before .before .origin-at .ensures .1)
-
-add-result-2 : tie.Need-add-result-2
-add-result-2 c = search needs
+put-literal-requires : tie.Need-put-literal-requires
+put-literal-requires c κs = let p = c .before .before .before .before .before .pre in (p .0, p .1, p .2, p .0 .kind (c .before .if1 .left))
 
 same-length-2 : tie.Need-same-length-2
 same-length-2 c = search needs
 
 returns-2 : tie.Need-returns-2
-returns-2 c =
-    let s = c .before .before .before .before .before .before .before .before .before .before .before in
-    let a = s .args in
-    let origin = c .before .before .before .before .before .before .before .before .origin-at .ensures .0 in
-    let label = c .before .before .before .before .before .before .before .label-at .ensures .0 in
-    let other = c .before .before .before .before .before .if1 .left in (
-      refl,
-      c .before .before .put-entry2 .ensures
-          ∙ ap (sets (a .out .now) (a .here - 1))
-          (entry-lit (a .level) (a .i) _ (headAt (a .image .now) (a .i)) (a .size) _ _ _ other (s .pre .0 .kind other) origin label (c .before .before .before .before .content-at .ensures)),
-    )
+returns-2 c = search needs
 
 pub put-node-spec : {M : Type 1} → statement M
 put-node-spec =
-    tie.close
-    (tie.spec
-    sub-a
-    origin-at-requires
-    label-at-requires
-    shared-slice-read-if1
-    put-entry-requires
-    add-result
-    same-length
-    returns
-    sub-len
-    content-at-requires
-    put-entry-requires-2
-    add-result-2
-    same-length-2
-    returns-2)
+    tie.close (tie.spec shared-slice-read-if1 put-aggregate-requires same-length returns put-literal-requires same-length-2 returns-2)
