@@ -5,6 +5,7 @@
 
 #include "../include/nichelarder.h"
 #include "calls.h"
+#include "random.h"
 
 enum { PAGES = 1024, LEN = PAGES * 4096, NODES = 20000, TREES = 5, MOST_PARENTS = 40 };
 
@@ -28,12 +29,7 @@ static const struct way {
 enum { WAYS = sizeof ways / sizeof *ways };
 
 static int by_library;
-static uint32_t seed, inserted;
-
-static uint32_t any(uint32_t n) {
-    seed = seed * 1664525u + 1013904223u;
-    return (seed >> 8) % n;
-}
+static uint32_t inserted;
 
 static void fail(const char *what) {
     printf("bench: %s\n", what);

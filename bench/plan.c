@@ -5,6 +5,7 @@
 
 #include "../include/nichelarder.h"
 #include "calls.h"
+#include "random.h"
 
 enum { PAGES = 1024, LEN = PAGES * 4096, TREES = 5, ISSUERS = 40, ISSUER = 8, CERTIFICATE = 10, FIELD = 11 };
 
@@ -12,12 +13,7 @@ enum order { APPENDED, NEWEST_FIRST, ANYWHERE, ORDERS };
 static const char *const orders[] = {"appended", "newest first", "at random"};
 
 static uint8_t *image;
-static uint32_t seed, inserted;
-
-static uint32_t any(uint32_t n) {
-    seed = seed * 1664525u + 1013904223u;
-    return (seed >> 8) % n;
-}
+static uint32_t inserted;
 
 /* Gives 0 where no page is free; without a check of the image in each call, which would be nearly all of the time. */
 static int insert(const uint8_t *path, size_t len, uint32_t child, unsigned kind, unsigned label, unsigned size) {

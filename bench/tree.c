@@ -6,6 +6,7 @@
 
 #include "../include/nichelarder.h"
 #include "calls.h"
+#include "random.h"
 #include "timing.h"
 
 enum { NODES = 10000, LOOKUPS = 1000, MOST = 1024 * 4096 };
@@ -13,12 +14,6 @@ enum { NODES = 10000, LOOKUPS = 1000, MOST = 1024 * 4096 };
 static void fail(const char *what) {
     printf("bench: %s\n", what);
     exit(1);
-}
-
-static uint32_t seed = 1;
-static uint32_t any(uint32_t n) {
-    seed = seed * 1664525u + 1013904223u;
-    return (seed >> 8) % n;
 }
 
 static volatile uint64_t sink;

@@ -1,5 +1,6 @@
 /* Buffers that are only read may lie in the image, and a byte buffer of length 0 may be null.
  * Each call with such buffers is made on a second image too, with copies of them in memory of their own: answers and images must agree. */
+#include "../bench/random.h"
 #include "../include/nichelarder.h"
 #include <stdio.h>
 #include <stdlib.h>
@@ -18,12 +19,6 @@ static void expect(int ok, const char *what) {
         printf("buffers: %s\n", what);
         exit(1);
     }
-}
-
-static uint32_t seed = 1;
-static uint32_t below(uint32_t n) {
-    seed = seed * 1664525u + 1013904223u;
-    return (seed >> 8) % n;
 }
 
 /* Format with the entries at a byte of the image, and with a copy of them. */
@@ -45,7 +40,7 @@ static uint32_t format_within(uint32_t pages, size_t at, size_t entries) {
 
 /* Insert with path and content in the image, and with copies of them; of any origin. */
 static uint32_t insert_within(size_t path, size_t path_len, uint32_t child, uint32_t kind, uint16_t label, size_t content, size_t content_len) {
-    uint32_t a, b, origin = below(4), here[3], there[3];
+    uint32_t a, b, origin = any(4), here[3], there[3];
     int32_t lean, other;
     memcpy(copy, image + path, path_len);
     memcpy(copy + 128, image + content, content_len);
@@ -84,7 +79,7 @@ static void matrices(void) {
     /* anywhere in an image of entries; one byte further, one short, a value that is none */
     for (at = 0; at + 256 <= 3 * NL_PAGE; at += 61) {
         for (i = 0; i < 3 * NL_PAGE; i++)
-            image[i] = (uint8_t)(2 * below(2));
+            image[i] = (uint8_t)(2 * any(2));
         expect(format_within(3, at, 256) == 0, "format with entries in the image refused");
     }
     expect(format_within(3, MATRIX, 255) == NL_SETTINGS && format_within(3, MATRIX, 257) == NL_SETTINGS, "a matrix of another length");
@@ -94,7 +89,7 @@ static void matrices(void) {
 /* Four zeros in the image, the path of the first child: on page 0, or behind the record of page 1, where the call itself may write. */
 static size_t zeros_at(void) {
     size_t used = image[NL_PAGE + 4082] + 256u * image[NL_PAGE + 4083];
-    return below(2) && used + 4 <= NL_CAPACITY ? NL_PAGE + used : 8;
+    return any(2) && used + 4 <= NL_CAPACITY ? NL_PAGE + used : 8;
 }
 
 /* Content is taken from where Read finds it, and paths from zeros of the image: appended, put in front and below the first child, to many splits. */
@@ -115,17 +110,17 @@ static void copies(int apart) {
         expect(nl_insert(to, len, NULL, 0, 1, NL_LITERAL, NL_WIRE, 4, before, NL_CONTENT, answer, &lean) == 0, "an empty path that is null");
     }
     for (;;) {
-        uint32_t below_first = below(3) == 0;
+        uint32_t below_first = any(3) == 0;
         uint8_t path[4];
         /* the root's children, then one of them; a literal's content, or what stands at its place if it has none */
         expect(nl_find(image, len, image + 8, 0, place) == 0 && nl_read(image, len, place[0], place[1], node) == 0, "no root");
         n = node[2];
-        i = 1 + below(n - 1);
+        i = 1 + any(n - 1);
         path[0] = (uint8_t)i, path[1] = (uint8_t)(i >> 8), path[2] = 0, path[3] = 0;
         expect(nl_find(image, len, path, 4, place) == 0 && nl_read(image, len, place[0], place[1], node) == 0, "no child");
-        i = insert_within(zeros_at(), below_first ? 4 : 0, below_first ? 0 : 1 + below(n), NL_LITERAL, (uint16_t)below(20), node[3], below(node[4] + 1));
+        i = insert_within(zeros_at(), below_first ? 4 : 0, below_first ? 0 : 1 + any(n), NL_LITERAL, (uint16_t)any(20), node[3], any(node[4] + 1));
         expect(i == 0 || i == NL_FULL, "insert refused");
-        if (i == 0 && below(4) == 0)
+        if (i == 0 && any(4) == 0)
             i = insert_within(zeros_at(), below_first ? 4 : 0, 0, NL_AGGREGATE, 5, 8, 0);
         if (i)
             return;
@@ -161,13 +156,13 @@ static void removals(void) {
     size_t at;
     expect(remove_within(8, 4) == 0, "remove refused"); /* a page for the literals */
     for (turn = 0; turn < 200 && (n = root_children()) > 1; turn++) {
-        child = below(n + 1);
-        entry = below(2) ? child : below(n + 1);
+        child = any(n + 1);
+        entry = any(2) ? child : any(n + 1);
         at = path_put(NULL, 0, child, entry);
-        if (at && below(4) == 0)
-            expect(remove_within(at, below(4)) != 0 && remove_within(at, 5) == NL_ABSENT, "a path that is not whole");
+        if (at && any(4) == 0)
+            expect(remove_within(at, any(4)) != 0 && remove_within(at, 5) == NL_ABSENT, "a path that is not whole");
         expect(remove_within(at ? at : zeros_at(), 4) == 0, "remove refused");
-        if (below(3) == 0)
+        if (any(3) == 0)
             expect(remove_within(zeros_at(), 4) == 0, "remove refused");
     }
     expect(insert_within(8, 0, 0, NL_AGGREGATE, 3, 8, 0) == 0, "no branch");

@@ -2,6 +2,7 @@
  *     grow_images FOLDER
  * three.img has a few nodes, forty.img certificates at random places, first.img (1,024 pages) certificates of which the newest comes first, and nested.img
  * (1,024 pages) large aggregates that are filled one after the other, which nests records deep. */
+#include "../bench/random.h"
 #include "../include/nichelarder.h"
 #include <stdio.h>
 #include <stdlib.h>
@@ -20,12 +21,7 @@ static const struct {
 
 static uint8_t *image;
 static size_t image_len;
-static uint32_t seed, inserted;
-
-static uint32_t any(uint32_t n) {
-    seed = seed * 1664525u + 1013904223u;
-    return (seed >> 8) % n;
-}
+static uint32_t inserted;
 
 /* Gives 0, or 1 if the image is full. */
 static int insert(const uint8_t *parent, size_t parent_len, uint32_t child, uint32_t kind, uint32_t label, size_t size) {

@@ -2,6 +2,7 @@
  * the deepest nesting of records. Then from every byte of an image, and on images that are refused.
  * All that is lent and not written must stay: the numbers behind those that are lent too. */
 #include "../bench/images.h"
+#include "../bench/random.h"
 #include "../include/nichelarder.h"
 #include <stdio.h>
 #include <stdlib.h>
@@ -22,12 +23,6 @@ static void expect(int ok, const char *what) {
         printf("walk: %s\n", what);
         exit(1);
     }
-}
-
-static uint32_t seed = 1;
-static uint32_t below(uint32_t n) {
-    seed = seed * 1664525u + 1013904223u;
-    return (seed >> 8) % n;
 }
 
 /* The entry of the node at a place, as read and climb give it. */
@@ -100,7 +95,7 @@ static void compare(const char *name) {
     for (i = 0; i < nodes; i++) {
         walk_from(i, NUMBERS - NL_ENTRY);
         walk_from(i, 0);
-        walk_from(i, below(2 * NL_ENTRY));
+        walk_from(i, any(2 * NL_ENTRY));
     }
     expect(!memcmp(before, image, len), "a walk changed the image");
     printf("walk: %s: %u nodes\n", name, (unsigned)nodes);
@@ -146,9 +141,9 @@ static size_t some_aggregate(uint8_t *path) {
     int i;
     for (;;) {
         expect(nl_find(image, len, path, path_len, place) == 0 && nl_read(image, len, place[0], place[1], node) == 0, "no aggregate");
-        if (!node[NL_READ_CHILDREN] || path_len == 88 || below(4) == 0)
+        if (!node[NL_READ_CHILDREN] || path_len == 88 || any(4) == 0)
             return path_len;
-        child = below(node[NL_READ_CHILDREN]);
+        child = any(node[NL_READ_CHILDREN]);
         for (i = 0; i < 4; i++)
             path[path_len + (size_t)i] = (uint8_t)(child >> (8 * i));
         expect(nl_find(image, len, path, path_len + 4, place) == 0 && nl_read(image, len, place[0], place[1], node) == 0, "no child");
@@ -173,9 +168,9 @@ static void grow(uint32_t pages, uint32_t apart) {
         expect(nl_insert(image, len, path, path_len, 0, NL_AGGREGATE, NL_WIRE, 9, NULL, 0, answer, &lean) == 0, "insert down to level 24");
     do {
         path_len = some_aggregate(path);
-        kind = 1 + below(2);
-        content_len = kind == NL_AGGREGATE ? 0 : below(4) ? below(40) : below(NL_CONTENT + 1);
-        number = nl_insert(image, len, path, path_len, 0, kind, below(4), (uint16_t)below(20), content, content_len, answer, &lean);
+        kind = 1 + any(2);
+        content_len = kind == NL_AGGREGATE ? 0 : any(4) ? any(40) : any(NL_CONTENT + 1);
+        number = nl_insert(image, len, path, path_len, 0, kind, any(4), (uint16_t)any(20), content, content_len, answer, &lean);
     } while (!number);
     expect(number == NL_FULL, "insert");
 }

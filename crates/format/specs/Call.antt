@@ -13,7 +13,7 @@ use Rattle.model.specs.Reading.{lengthOk}
 use Rattle.model.specs.Calls.Format.{config, formatNumber, formatOf}
 use Rattle.model.specs.declared.Settings.{Settings}
 use Rattle.theory_decoding.specs.Valid.{both}
-use Rattle.base_ranges.specs.Long.{length-says}
+use Rattle.theory_decoding.specs.Length.{length-says}
 use Rattle.format.specs.First.{firstRoot}
 
 module _ (img : List ℕ) (s : Settings) (m : List ℕ) (label : ℕ) where

@@ -62,18 +62,22 @@ pub record BeforeWalkExact (img : List ℕ) : Type 0 where
 
 -- ── diagnose ──
 
--- Page p is the first that is against the rules by itself.
+-- Page p is the first after page 0 that is against the rules by itself.
 pub record FirstAgainst (img : List ℕ) (p : ℕ) : Type 0 where
+  pub past : 1 ≤ p
+  pub inside : p < pageCount img
   pub against : pageFits (pageCount img) p (pageOf img p) ≡ false
   pub before : (q : ℕ) → 1 ≤ q → q < p → pageFits (pageCount img) q (pageOf img q) ≡ true
 
 -- Of an image of bytes: a fault is found exactly where the check does not pass. The number is the check's; the stage is 0 exactly where that is not 3, and then
--- all is zero. Stage 2 names the first page against the rules; the stage is the walk's exactly where the part before the walk passes.
+-- all is zero. The stage is page 0's exactly where that does not hold settings, and the walk's exactly where the part before the walk passes; stage 2 names the
+-- first page against the rules.
 pub record DiagnoseExact (img : List ℕ) : Type 0 where
   pub found : lengthOk (length img) ≡ true → (faultOf img .stage ≡ 0) ↔ (checkOf img ≡ 0)
   pub number : diagnoseOf img .number ≡ checkOf img
   pub stage : (diagnoseOf img .stage ≡ 0) ↔ (checkOf img ≡ notPassed → ⊥)
   pub zeros : (checkOf img ≡ notPassed → ⊥) → diagnoseOf img ≡ diagnosis (checkOf img) noFault
+  pub settings : checkOf img ≡ notPassed → (diagnoseOf img .stage ≡ 1) ↔ (settingsOk (pageOf img 0) (pageCount img) ≡ false)
   pub pages : diagnoseOf img .stage ≡ 2 → FirstAgainst img (diagnoseOf img .page)
   pub walk : checkOf img ≡ notPassed → (diagnoseOf img .stage ≡ 3) ↔ (beforeWalk img ≡ true)
 

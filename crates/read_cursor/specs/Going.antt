@@ -7,12 +7,13 @@ use native.Mathlib.Omega.{arith}
 use lib.ListN.{length, getD, set, length-set}
 use lib.Seq.{getD-set-same, getD-set-other, sets}
 use lib.Dec.{eqb, ltb, leb}
-use borrow.Author.Tests.{eqb-true, eqb-false, ltb-true, ltb-false, lt-ltb, leb-true}
+use borrow.Author.Tests.{eqb-true, eqb-false, ltb-true, ltb-false, lt-ltb, leb-true, not-true}
 use Rattle.model.specs.Limits.{mostLevels, mostBytes}
 use Rattle.model.specs.Row.{Row, nil, agg, lit, rec, size, base, height}
 use Rattle.model.specs.Reading.{kindAt, headAt, sizeAt}
 use Rattle.model.specs.Tree.{width}
 use Rattle.theory_decoding.specs.Steps.{steps}
+use Rattle.theory_decoding.specs.Valid.{both}
 use Rattle.theory_row_bytes.specs.RowAt.{kindOf, headOf, sizeOf, kidsOf, restOf}
 use Rattle.theory_layout.specs.Here.{parts-less, view}
 use Rattle.theory_layout.specs.Widths.{width-first, plain-width, none-width}
@@ -169,16 +170,11 @@ abbrev pub writes : Cursor → (room : ℕ) → Bool
 writes c room = not (eqb (c .at) 0) && eqb (c .next) 0 && leb 9 (room - (c .at - 1))
 
 pub writes-roomy : (c : Cursor) (room : ℕ) → c .at ≤ room + 1 → writes c room ≡ true → Roomy c room
-writes-roomy c room low e = go (eqb (c .at) 0) (eqb (c .next) 0) (leb 9 (room - (c .at - 1))) refl refl refl e
-  where
-    go : (a b d : Bool) → eqb (c .at) 0 ≡ a → eqb (c .next) 0 ≡ b → leb 9 (room - (c .at - 1)) ≡ d → not a && b && d ≡ true → Roomy c room
-    go true b d p q r e = absurd (true≢false (sym e))
-    go false false d p q r e = absurd (true≢false (sym e))
-    go false true false p q r e = absurd (true≢false (sym e))
-    go false true true p q r e =
-        let z = eqb-false (c .at) 0 p in
-        let f = leb-true 9 (room - (c .at - 1)) r in
-        record { begun = omega arith; calm = eqb-true (c .next) 0 q; fits = omega arith }
+writes-roomy c room low e =
+    let fits = both _ _ e in
+    let calm = both _ _ (fits .0) in
+    let z = eqb-false (c .at) 0 (not-true _ (calm .0)) in
+    record { begun = omega arith; calm = eqb-true (c .next) 0 (calm .1); fits = omega (arith, leb-true 9 (room - (c .at - 1)) (fits .1)) }
 
 pub written-dealt : {img : List ℕ} {t : ℕ} {c : Cursor} {out : List ℕ} (m at : ℕ) (after : List ℕ) → Roomy c (length out) → m ≡ sizeAt img (c .i) → at ≡ c .at + 9
     → after ≡ sets out (c .at - 1) (entryAt (c .level) (c .i) (kindAt img (c .i)) (headAt img (c .i)) m 0) → Dealt img t c m (c .at) at 0 out after
@@ -378,16 +374,16 @@ module _ {img : List ℕ} {t : ℕ} {g : Goal} {c : Cursor} {stack out : List �
     -- Into it.
     record Entering : Type 0 where
       kind : kindOf row ≡ 1
-      more : 6 < m
       calm : c .next ≡ 0
       room : 1 ≤ here → here + 8 ≤ length out
 
     entering : enters (kindAt img (c .i)) m next ≡ true → Entering
-    entering e = go (eqb (kindAt img (c .i)) 1) (ltb 6 m) (eqb next 0) refl refl refl e
+    entering e =
+        let calm = both _ _ e in
+        let kind = both (eqb (kindAt img (c .i)) 1) _ (calm .0) .0 in
+        let y = roomy (eqb-true next 0 (calm .1)) in
+        record { kind = sym (view (a .going .rest .here) some .kind-is) ∙ eqb-true (kindAt img (c .i)) 1 kind; calm = y .0; room = y .1 }
       where
-        kind : eqb (kindAt img (c .i)) 1 ≡ true → kindOf row ≡ 1
-        kind p = sym (view (a .going .rest .here) some .kind-is) ∙ eqb-true (kindAt img (c .i)) 1 p
-
         Roomy : Way → Type 0
         Roomy w = w .next ≡ 0 → (c .next ≡ 0) × (1 ≤ here → here + 8 ≤ length out)
 
@@ -397,14 +393,6 @@ module _ {img : List ℕ} {t : ℕ} {g : Goal} {c : Cursor} {stack out : List �
             subst Roomy (sym same)
             (told-case here (c .i) (entry 0) (c .next) out Roomy (λ y z. (z, λ l. absurd (omega arith))) (λ x y z. absurd (y z)) (λ x y r z. (y, λ l. r))
             (λ x y r z. absurd (omega arith)))
-
-        go : (b d z : Bool) → eqb (kindAt img (c .i)) 1 ≡ b → ltb 6 m ≡ d → eqb next 0 ≡ z → b && d && z ≡ true → Entering
-        go false d z p q r e = absurd (true≢false (sym e))
-        go true false z p q r e = absurd (true≢false (sym e))
-        go true true false p q r e = absurd (true≢false (sym e))
-        go true true true p q r e =
-            let y = roomy (eqb-true next 0 r) in
-            record { kind = kind p; more = ltb-true 6 m q; calm = y .0; room = y .1 }
 
     saved-long : length (saved stack c here) ≡ 75
     saved-long =
@@ -496,19 +484,18 @@ module _ {img : List ℕ} {t : ℕ} {g : Goal} {c : Cursor} {stack out : List �
   record Closing (w : Going img t g c stack out) : Type 0 where
     frame : Frame img (g .depth)
     frames : List (Frame img (g .depth))
-    is : w .frames ≡ frame ∷ frames
     framed : Framed stack (length out) (c .level) (c .end) frame
     stacked : Stacked stack (length out) (g .base) (g .stop) (frame .level) (frame .end) frames
     whole : resume t (reached c out) (c .level) (c .i) (w .rest .row) (c .n) (frame ∷ frames) ≡ g .result
 
   closing : (w : Going img t g c stack out) → g .base < c .level → Closing w
   unfolding Stacked
-  closing w h = go (w .frames) refl (w .stacked) (w .whole)
+  closing w h = go (w .frames) (w .stacked) (w .whole)
     where
-      go : (fs : List (Frame img (g .depth))) → w .frames ≡ fs → Stacked stack (length out) (g .base) (g .stop) (c .level) (c .end) fs
+      go : (fs : List (Frame img (g .depth))) → Stacked stack (length out) (g .base) (g .stop) (c .level) (c .end) fs
           → resume t (reached c out) (c .level) (c .i) (w .rest .row) (c .n) fs ≡ g .result → Closing w
-      go [] e s q = absurd (omega (arith, s .0))
-      go (f ∷ fs) e s q = record { frame = f; frames = fs; is = e; framed = s .0; stacked = s .1; whole = q }
+      go [] s q = absurd (omega (arith, s .0))
+      go (f ∷ fs) s q = record { frame = f; frames = fs; framed = s .0; stacked = s .1; whole = q }
 
 module _ {img : List ℕ} {t : ℕ} {g : Goal} {c : Cursor} {stack out : List ℕ} (a : AtEnd img t g c stack out) where
   abbrev last : Closing (a .going)

@@ -5,8 +5,9 @@ use mathlib.Core.List.{List}
 use Prim.Native.Nat.{ℕ, _-_, _≤_, _<_}
 use native.Mathlib.Omega.{arith}
 use lib.Dec.{eqb, leb, ltb}
-use borrow.Author.Tests.{eqb-true, eqb-false, leb-true, ltb-true, ltb-false, eq-eqb, ne-eqb, le-leb}
+use borrow.Author.Tests.{eqb-true, eqb-false, leb-true, ltb-true, ltb-false, eq-eqb, ne-eqb, le-leb, not-true}
 use Rattle.model.specs.Reading.{kindAt}
+use Rattle.theory_decoding.specs.Valid.{both}
 use Rattle.read_cursor.specs.Going.{Roomy}
 use Rattle.read_cursor.specs.declared.Cursor.{Cursor}
 
@@ -20,16 +21,13 @@ pub record LiteralNext (img : List ℕ) (c : Cursor) (room : ℕ) : Type 0 where
   pub roomy : Roomy c room
 
 pub literal-next : (img : List ℕ) (c : Cursor) (room : ℕ) → 1 ≤ c .at → c .next ≡ 0 → literalNext img c room ≡ true → LiteralNext img c room
-literal-next img c room begun calm e = go (eqb (c .i) (c .end)) (eqb (kindAt img (c .i)) 2) (leb 9 (room - (c .at - 1))) refl refl refl e
-  where
-    go : (a b d : Bool) → eqb (c .i) (c .end) ≡ a → eqb (kindAt img (c .i)) 2 ≡ b → leb 9 (room - (c .at - 1)) ≡ d → not a && b && d ≡ true → LiteralNext img c room
-    go true b d p q r e = absurd (true≢false (sym e))
-    go false false d p q r e = absurd (true≢false (sym e))
-    go false true false p q r e = absurd (true≢false (sym e))
-    go false true true p q r e = record {
-      some = eqb-false (c .i) (c .end) p;
-      kind = eqb-true (kindAt img (c .i)) 2 q;
-      roomy = record { begun = begun; calm = calm; fits = omega (arith, leb-true 9 (room - (c .at - 1)) r) };
+literal-next img c room begun calm e =
+    let fits = both _ _ e in
+    let kind = both _ _ (fits .0) in
+    record {
+      some = eqb-false (c .i) (c .end) (not-true _ (kind .0));
+      kind = eqb-true (kindAt img (c .i)) 2 (kind .1);
+      roomy = record { begun = begun; calm = calm; fits = omega (arith, leb-true 9 (room - (c .at - 1)) (fits .1)) };
     }
 
 pub next-literal : (img : List ℕ) (c : Cursor) (room : ℕ) → LiteralNext img c room → literalNext img c room ≡ true

@@ -88,9 +88,6 @@ same-walked {w = w} {t} {at} {next} {stack} {out} {after = after} {left} e d = s
 
 -- ── where a walk is ──
 
-pub same-cursor : {img : List ℕ} {t : ℕ} {g : Goal} {c d : Cursor} {stack out : List ℕ} → d ≡ c → Going img t g c stack out → Going img t g d stack out
-same-cursor {img} {t} {g} {c} {d} {stack} {out} e w = subst (λ (x : Cursor). Going img t g x stack out) (sym e) w
-
 module _ {img : List ℕ} {t : ℕ} {g : Goal} {c : Cursor} {stack out : List ℕ} (w : Going img t g c stack out) where
   pub within : (c .i ≤ c .end) × (c .end ≤ g .stop) × (g .base ≤ c .level)
   within =

@@ -59,12 +59,9 @@ one-down l n m e =
     let z : l + suc (length (n .path)) ≡ l + 1 + length (n .path) = omega arith in
     ap (λ (k : ℕ). entry k (placed (m .pos)) (asRead (placed (m .pos)) (readFrom (n ∷ [])))) z ∙ e
 
-own-lit : (l i m : ℕ) (c : List ℕ) → m ≡ 6 + length c
-    → cond (eqb (length c) 0) 0 (pageSize * (i / pageSize) + i % pageSize + 6) ≡ cond (eqb (m - 6) 0) 0 (i + 6)
-own-lit l i m c e =
-    let a : pageSize * (i / pageSize) + i % pageSize + 6 ≡ i + 6 = omega arith in
-    let b : m - 6 ≡ length c = omega arith in
-    rw (a, b)
+-- The byte that a place names.
+byte-of : (i : ℕ) → pageSize * (i / pageSize) + i % pageSize + 6 ≡ i + 6
+byte-of i = omega arith
 
 entries : (l i : ℕ) (row : Row) → Each (Entry l) (nodes (shown row)) (meets l i row)
 unfolding meets
@@ -79,7 +76,7 @@ entries l i (agg h cs rest) =
 entries l i (lit h c rest) =
     let z : l + 0 ≡ l = omega arith in
     let n : 6 + length c - 6 ≡ length c = omega arith in (
-      rw (z, own-lit l i (6 + length c) c refl, n),
+      rw (z, n, byte-of i),
       each-map (Entry l) (Entry l) (further 1) (λ n m e. e) (nodes (shown rest)) (meets l (i + (6 + length c)) rest) (entries l (i + (6 + length c)) rest),
     )
 entries l i (rec p s r rest) =

@@ -1,23 +1,23 @@
 -- What a node leads into, by its kind.
-use mathlib.Core.Path.{_≡_, refl, sym, ap, _∙_}
-use mathlib.Core.Bool.{Bool, true, false, cond, _&&_, _||_, and-false}
+use mathlib.Core.Path.{_≡_, sym, ap, _∙_}
+use mathlib.Core.Bool.{Bool, true, false, _&&_, and-false}
 use mathlib.Core.List.{List, [], _∷_}
 use Prim.Native.Nat.{ℕ, zero, suc, _+_, _-_, _*_, _/_, _≤_, _<_}
 use native.Mathlib.Omega.{arith}
 use native.Mathlib.Nat.{add-sub-cancel-left}
 use lib.ListN.{length, take, drop, length-drop}
 use lib.Seq.{take-nil, take-take, drop-drop, length-take-le}
-use lib.Dec.{leb, eqb}
-use borrow.Author.Tests.{eq-eqb, ne-eqb, lt-ltb, le-ltb, lt-leb, le-leb, eqb-true, eqb-false, ltb-true, leb-true}
-use Rattle.model.specs.Limits.{mostPages, pageSize, mostLevels}
+use lib.Dec.{leb}
+use borrow.Author.Tests.{eq-eqb, ne-eqb, lt-ltb, le-ltb, lt-leb, le-leb}
+use Rattle.model.specs.Limits.{pageSize, mostLevels}
 use Rattle.model.specs.Reading.{usedAt, nameAt}
 use Rattle.model.specs.WalkTests.{wholeSize, passingKind, namesOf, rootFits, tailZero}
 use Rattle.model.specs.Calls.Diagnose.{been, contains, Inside, row, stops, badNode, pastLength, tooDeep, badProxy, inside}
-use Rattle.theory_decoding.specs.Valid.{both as and-both}
 use Rattle.theory_check.specs.Tests.{isMarked, marked}
-use Rattle.theory_check.specs.Marks.{marks-kept, is-marked}
+use Rattle.theory_check.specs.Steps.{named}
+use Rattle.theory_faults.specs.Reached.{Matches, matches-more}
 use Rattle.read_fault_walk.specs.declared.Inner.{Inner}
-use Rattle.read_fault_walk.specs.Rows.{part, Matches, Within, Holds, rowAt, stopsAt, Leads, LeadsTo, recordOn, proxyTo, insideOf}
+use Rattle.read_fault_walk.specs.Rows.{part, Within, Holds, rowAt, stopsAt, Leads, LeadsTo, recordOn, proxyTo, insideOf}
 
 -- ── parts ──
 
@@ -121,16 +121,8 @@ module _ (img : List ℕ) (rootOk : Bool) (p level left : ℕ) where
 
 -- ── a proxy ──
 
--- What a page that is named shows of itself.
-pub named : (img : List ℕ) (p page : ℕ) → namesOf img p page ≡ true → Holds img p
-unfolding namesOf
-named img p page e =
-    let holder = and-both _ _ e in
-    let used = and-both _ _ (holder .0) in
-    let kind = and-both _ _ (used .0) in
-    let inside = and-both _ _ (kind .0) in
-    let low = and-both (leb 2 p) _ (inside .0) in
-    record { few = ltb-true _ _ (low .1); on = leb-true _ _ (inside .1); used = leb-true _ _ (used .1) }
+pub holds : (img : List ℕ) (p page : ℕ) → namesOf img p page ≡ true → Holds img p
+holds img p page e = let n = named img p page e in record { few = n .low; on = n .inside; used = n .used }
 
 module _ (img : List ℕ) (p page level left : ℕ) where
   pub proxy-names : namesOf img p page ≡ false → (reached : List ℕ) → proxyTo img p page level left reached ≡ stops page badProxy
@@ -146,7 +138,7 @@ module _ (img : List ℕ) (p page level left : ℕ) where
         → proxyTo img p page level left reached ≡ stops page badProxy
     unfolding proxyTo
     proxy-again e t ps k =
-        rw (sym (k .same p (named img p page e .few)) ∙ t, and-false (namesOf img p page && leb 2 left))
+        rw (sym (k .same p (named img p page e .low)) ∙ t, and-false (namesOf img p page && leb 2 left))
 
     pub proxy-leads : {n : List ℕ} {x : Inner} {root : Bool} → namesOf img p page ≡ true → 2 ≤ left → isMarked m p ≡ false → n ≡ marked m p
         → root ≡ rootFits img p → LeadsTo img (recordOn img root p level (left - 1)) x → Leads img (proxyTo img p page level left) m n x
@@ -154,24 +146,14 @@ module _ (img : List ℕ) (p page level left : ℕ) where
     proxy-leads {n} {x} {root} e h t d q l = (
       l .0,
       λ ps k.
-          let few = named img p page e .few in
+          let few = named img p page e .low in
           let new : contains ps p ≡ false = sym (k .same p few) ∙ t in
           record {
             reached = p ∷ ps;
-            matches = λ _. after ps k few;
+            matches = λ _. rw d (matches-more k p few);
             same = rw (e, le-leb 2 left h, new, ← q) (l .1 (p ∷ ps));
           },
     )
-      where
-        after : (ps : List ℕ) → Matches m ps → p < mostPages → Matches n (p ∷ ps)
-        after ps k few = rw d (record {
-          are = marks-kept m p (k .are) few;
-          same = λ j low. is-marked m p j (k .are) few low ∙ ap (λ (b : Bool). cond (eqb j p) true b) (k .same j low) ∙ flip j (eqb j p) refl;
-        })
-          where
-            flip : (j : ℕ) (b : Bool) → eqb j p ≡ b → cond b true (contains ps j) ≡ (eqb p j || contains ps j)
-            flip j true f = rw (eq-eqb p j (sym (eqb-true j p f)))
-            flip j false f = rw (ne-eqb p j (λ z. eqb-false j p f (sym z)))
 
 -- ── a node ──
 

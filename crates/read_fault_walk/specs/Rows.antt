@@ -10,18 +10,12 @@ use Rattle.model.specs.Reading.{usedAt}
 use Rattle.model.specs.BeforeWalk.{pageCount}
 use Rattle.model.specs.WalkTests.{namesOf, rootFits}
 use Rattle.model.specs.Calls.Diagnose.{been, Walk, on, stopped, contains, Inside, row, stops, badProxy, recordRow, inside, rowWalk}
-use Rattle.theory_check.specs.Tests.{isMarked}
-use Rattle.theory_check.specs.Marks.{IsMarks}
+use Rattle.theory_faults.specs.Reached.{Matches}
 use Rattle.read_fault_walk.specs.declared.Inner.{Inner}
 use Rattle.read_fault_walk.specs.declared.Walked.{Walked}
 
 abbrev pub part : (img : List ℕ) → (start stop : ℕ) → List ℕ
 part img a e = take (e - a) (drop a img)
-
--- The marks are those of the pages reached.
-pub record Matches (marks reached : List ℕ) : Type 0 where
-  pub are : IsMarks marks
-  pub same : (p : ℕ) → p < mostPages → isMarked marks p ≡ contains reached p
 
 -- A row that ends before the trailer of the page in which it starts.
 pub record Within (img : List ℕ) (start stop holder level : ℕ) : Type 0 where

@@ -9,9 +9,10 @@ use Rattle.model.specs.Limits.{pageSize}
 use Rattle.model.specs.WalkTests.{wholeSize}
 use Rattle.model.specs.Calls.Diagnose.{Been, been, Walk, on, stopped, badNode, inside, onward, into, rowWalk}
 use Rattle.theory_check.specs.Steps.{size-long}
+use Rattle.theory_faults.specs.Reached.{Matches}
 use Rattle.read_fault_walk.specs.declared.Inner.{Inner}
 use Rattle.read_fault_walk.specs.declared.Walked.{Walked}
-use Rattle.read_fault_walk.specs.Rows.{part, Matches, Within, innerOf, Led, Leads, insideOf, stoppedAt, Ended, walkOf, Ends}
+use Rattle.read_fault_walk.specs.Rows.{part, Within, innerOf, Led, Leads, insideOf, stoppedAt, Ended, walkOf, Ends}
 use Rattle.read_fault_walk.specs.Nodes.{drop-part, take-part, length-part, no-part, same-page, within-long}
 
 -- ── what rowWalk is ──

@@ -2,7 +2,7 @@
 use mathlib.Core.Path.{_≡_, refl, sym, ap, _∙_}
 use mathlib.Core.Bool.{Bool, true, false, cond, not, _&&_, and-true}
 use mathlib.Core.List.{List}
-use Prim.Native.Nat.{ℕ, zero, suc, _+_, _-_, _*_, _≤_, _<_}
+use Prim.Native.Nat.{ℕ, suc, _+_, _-_, _*_, _≤_, _<_}
 use native.Mathlib.Omega.{arith}
 use native.Mathlib.Nat.{add-sub-cancel-left}
 use native.Mathlib.Numerals.{add-one}
@@ -12,10 +12,10 @@ use lib.Dec.{eqb}
 use borrow.Author.Tests.{eq-eqb, ne-eqb}
 use Rattle.model.specs.Limits.{pageSize, capacity}
 use Rattle.model.specs.Reading.{pageOf, stateAt}
-use Rattle.model.specs.BeforeWalk.{allZero, trailerOf, isFree, recordTrailer, trailerFits, freeFits, pageFits, pagesFit}
+use Rattle.model.specs.BeforeWalk.{allZero, trailerOf, isFree, recordTrailer, trailerFits, freeFits, pageFits}
 use Rattle.model.specs.Calls.Diagnose.{fault, noFault, freeNotZero, badTrailer, pagesFault, contains, unreached}
-use Rattle.theory_check.specs.Facts.{no, both, not-else}
-use Rattle.theory_check.specs.Parts.{page-byte, page-long as length-page}
+use Rattle.theory_check.specs.Facts.{both, not-else}
+use Rattle.theory_check.specs.Parts.{page-free, page-long as length-page}
 use Rattle.theory_check.specs.Tests.{stateOf}
 use Rattle.read_fault_walk.specs.Rows.{part}
 use Rattle.read_faults.specs.Answer.{freeTrailer}
@@ -84,47 +84,20 @@ module _ (img : List ℕ) (pages p : ℕ) where
       unfolding pagesFault
       pages-here e = rw (left, ← page, e, wrong-trailer pages p s e)
 
-    free : isFree (trailerOf (pageOf img p)) ≡ eqb (stateAt img (pageSize * p)) 0
-    free = ap (λ (n : ℕ). eqb n 0) (getD-drop capacity (pageOf img p) 0 0 ∙ page-byte img p capacity (omega arith))
-
     module _ (reached : List ℕ) where
       abbrev Later : Type 0
       Later = unreached img reached (pages - p) p ≡ unreached img reached (pages - (p + 1)) (p + 1)
 
       pub reached-free : stateAt img (pageSize * p) ≡ 0 → Later
       unfolding unreached
-      reached-free e = rw (left, free, eq-eqb (stateAt img (pageSize * p)) 0 e) (ap (unreached img reached (pages - (p + 1))) (sym (add-one p)))
+      reached-free e = rw (left, page-free img p, eq-eqb (stateAt img (pageSize * p)) 0 e) (ap (unreached img reached (pages - (p + 1))) (sym (add-one p)))
 
       module _ (used : stateAt img (pageSize * p) ≡ 0 → ⊥) where
         pub reached-past : contains reached p ≡ true → Later
         unfolding unreached
         reached-past e =
-            rw (left, free, ne-eqb (stateAt img (pageSize * p)) 0 used, e) (ap (unreached img reached (pages - (p + 1))) (sym (add-one p)))
+            rw (left, page-free img p, ne-eqb (stateAt img (pageSize * p)) 0 used, e) (ap (unreached img reached (pages - (p + 1))) (sym (add-one p)))
 
         pub reached-here : contains reached p ≡ false → unreached img reached (pages - p) p ≡ p
         unfolding unreached
-        reached-here e = rw (left, free, ne-eqb (stateAt img (pageSize * p)) 0 used, e)
-
--- ── the first two stages as the check's part before the walk has them ──
-
-pub pages-none : (img : List ℕ) (pages k p : ℕ) → pagesFit img pages k p ≡ true → pagesFault img pages k p ≡ noFault
-unfolding pagesFit pagesFault
-pages-none img pages zero p e = refl
-pages-none img pages (suc k) p e = go (pageFits pages p (pageOf img p)) e (pages-none img pages k (suc p))
-  where
-    go : (b : Bool) → (b && pagesFit img pages k (suc p)) ≡ true
-        → (pagesFit img pages k (suc p) ≡ true → pagesFault img pages k (suc p) ≡ noFault) → cond b (pagesFault img pages k (suc p))
-        (fault 2 p (cond (trailerFits pages p (trailerOf (pageOf img p))) freeNotZero badTrailer)) ≡ noFault
-    go true e ih = ih e
-    go false e ih = no e
-
-pub pages-some : (img : List ℕ) (pages k p : ℕ) → pagesFit img pages k p ≡ false → pagesFault img pages k p .stage ≡ 2
-unfolding pagesFit pagesFault
-pages-some img pages zero p e = no (sym e)
-pages-some img pages (suc k) p e = go (pageFits pages p (pageOf img p)) e (pages-some img pages k (suc p))
-  where
-    go : (b : Bool) → (b && pagesFit img pages k (suc p)) ≡ false
-        → (pagesFit img pages k (suc p) ≡ false → pagesFault img pages k (suc p) .stage ≡ 2) → cond b (pagesFault img pages k (suc p))
-        (fault 2 p (cond (trailerFits pages p (trailerOf (pageOf img p))) freeNotZero badTrailer)) .stage ≡ 2
-    go true e ih = ih e
-    go false e ih = refl
+        reached-here e = rw (left, page-free img p, ne-eqb (stateAt img (pageSize * p)) 0 used, e)

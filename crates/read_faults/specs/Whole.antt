@@ -2,7 +2,7 @@
 use mathlib.Core.Path.{_≡_, refl, sym, ap, _∙_}
 use mathlib.Core.Bool.{Bool, true, false, cond}
 use mathlib.Core.List.{List, []}
-use Prim.Native.Nat.{ℕ, zero, suc, _+_, _-_, _*_, _<_}
+use Prim.Native.Nat.{ℕ, _+_, _-_, _*_, _<_}
 use native.Mathlib.Omega.{arith}
 use lib.ListN.{length, getD, replicate}
 use lib.Dec.{eqb}
@@ -15,18 +15,17 @@ use Rattle.model.specs.Calls.Diagnose.{faultOf, diagnosis, diagnoseOf}
 use Rattle.model.specs.Calls.Check.{checkOf}
 use Rattle.model.specs.Answers.{notPassed}
 use Rattle.theory_decoding.specs.Valid.{both as and-both}
-use Rattle.theory_check.specs.Sums.{sum}
-use Rattle.theory_check.specs.Check.{inUse, trailersOf, checkBy}
+use Rattle.theory_check.specs.Check.{trailersOf, checkBy}
 use Rattle.theory_check.specs.Before.{first-used, used-fits, trailers-are}
 use Rattle.theory_check.specs.Exact.{exact}
-use Rattle.theory_check.specs.Marks.{marks-none, none-marked}
+use Rattle.theory_faults.specs.Reached.{Matches, matches-none}
+use Rattle.theory_faults.specs.Stages.{count-is, pages-stage}
 use Rattle.theory_faults.specs.Exact.{no-fault, some-fault}
-use Rattle.base_ranges.specs.Long.{length-says}
+use Rattle.theory_decoding.specs.Length.{length-says}
 use Rattle.read_fault_walk.specs.declared.Inner.{Inner}
 use Rattle.read_fault_walk.specs.declared.Walked.{Walked}
-use Rattle.read_fault_walk.specs.Rows.{Matches, Holds, innerOf, LeadsTo, recordOn, Ended, walkOf, Ends}
+use Rattle.read_fault_walk.specs.Rows.{Holds, innerOf, LeadsTo, recordOn, Ended, walkOf, Ends}
 use Rattle.read_faults.specs.Answer.{answer}
-use Rattle.read_faults.specs.Pages.{pages-none, pages-some}
 
 -- ── before the walk ──
 
@@ -39,21 +38,13 @@ first-holds img l e =
       used = used-fits img 1 e (omega arith) (omega (arith, k .few)) (first-used img (k .few) e);
     }
 
-count-sum : (img : List ℕ) (k p : ℕ) → recordCount img k p ≡ sum (inUse img) k p
-unfolding recordCount
-count-sum img zero p = refl
-count-sum img (suc k) p = omega (arith, count-sum img k (suc p))
-
 pub count-trailers : (img : List ℕ) → beforeWalk img ≡ true → trailersOf img ≡ recordCount img (pageCount img - 1) 1
-count-trailers img e = trailers-are img e ∙ sym (count-sum img (pageCount img - 1) 1)
+count-trailers img e = trailers-are img e ∙ sym (count-is img (pageCount img - 1) 1)
 
 -- ── the walk ──
 
 abbrev fuelOf : List ℕ → ℕ
 fuelOf img = 16384 * (1 + pageCount img)
-
-none-matches : Matches (replicate markBytes 0) []
-none-matches = record { are = marks-none; same = λ p _. none-marked p }
 
 module _ (img : List ℕ) (n : ℕ) (is : n ≡ recordCount img (pageCount img - 1) 1) (x : Inner)
     (l : LeadsTo img (recordOn img (eqb (kindAt img pageSize) 1) 1 1 n) x) where
@@ -67,7 +58,7 @@ module _ (img : List ℕ) (n : ℕ) (is : n ≡ recordCount img (pageCount img -
   module _ (z : x .reason ≡ 0) {r : Walked} {m : List ℕ}
       (e : Ends (walkOf (fuelOf img) img (x .start) (x .stop) (x .kind) (x .level) (x .left)) (replicate markBytes 0) m r) where
     ended : Ended (walkOf (fuelOf img) img (x .start) (x .stop) (x .kind) (x .level) (x .left) []) r m
-    ended = e [] none-matches
+    ended = e [] matches-none
 
     walked : walkFault img ≡ walkEnd img (walkOf (fuelOf img) img (x .start) (x .stop) (x .kind) (x .level) (x .left) [])
     walked = begun ∙ rw (eq-eqb (x .reason) 0 z)
@@ -95,14 +86,13 @@ module _ (img : List ℕ) where
   unfolding faultOf beforeWalk
   fault-pages e b =
       let f : pagesFit img (pageCount img) (pageCount img - 1) 1 ≡ false = rw e at b in
-      let s = pages-some img (pageCount img) (pageCount img - 1) 1 f in
-      rw (e, s)
+      rw (e, pages-stage img (pageCount img) (pageCount img - 1) 1, f)
 
   pub fault-walk : beforeWalk img ≡ true → faultOf img ≡ walkFault img
   unfolding faultOf beforeWalk
   fault-walk b =
       let t = and-both (settingsOk (pageOf img 0) (pageCount img)) _ b in
-      rw (t .0, pages-none img (pageCount img) (pageCount img - 1) 1 (t .1))
+      rw (t .0, pages-stage img (pageCount img) (pageCount img - 1) 1, t .1)
 
 -- ── the number ──
 

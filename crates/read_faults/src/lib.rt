@@ -22,7 +22,7 @@ ghost use Rattle.model.specs.BeforeWalk.{trailerOf, pageCount, beforeWalk};
 ghost use Rattle.model.specs.Answers.{notPassed};
 ghost use Rattle.model.specs.Calls.Diagnose.{diagnosis, settingsReason, freeNotZero, badTrailer, pagesFault, recordCount, walkFault, faultOf, diagnoseOf};
 ghost use Rattle.model.specs.Calls.Diagnose as diagnose;
-ghost use Rattle.read_fault_walk.specs.Rows.{Matches};
+ghost use Rattle.theory_faults.specs.Reached.{Matches};
 ghost use Rattle.read_faults.specs.Answer.{answer, freeTrailer};
 
 const NEVER_FORMATTED: u32 = 1;

@@ -1,6 +1,6 @@
 -- How much a walk can find: each node that it shows takes bytes of a record, and it enters so many pages.
 use mathlib.Core.List.{List}
-use Prim.Native.Nat.{ℕ, _+_, _-_, _*_, _≤_}
+use Prim.Native.Nat.{ℕ, _+_, _*_, _≤_}
 use native.Mathlib.Omega.{arith}
 use lib.ListN.{length, take, drop, length-drop}
 use lib.Seq.{length-take-le}
@@ -44,7 +44,7 @@ module _ (img : List ℕ) (f : Job → Decoded) (h : Wide f) where
       cond-case (Within 0 w) (entersOf img p page w)
       (λ e.
       let g = entered img p page w e in
-      omega (arith, h (node (recordOf img p) p 0 level (withMark w p)), g .room, g .used, length-part img (pageSize * p) (usedAt img (pageSize * p))))
+      omega (arith, h (node (recordOf img p) p 0 level (withMark w p)), g .room, g .names .used, length-part img (pageSize * p) (usedAt img (pageSize * p))))
       (λ _. wide-stop 0 w)
 
   wide-node : (s : List ℕ) (page holder level : ℕ) (w : State) → Within (length s) w (nodeStep img f s page holder level w (passingKind s holder))

@@ -38,10 +38,12 @@ module _ (img : List ℕ) (p : ℕ) where
   unfolding twoAt
   page-two i h = rw (page-byte i (omega arith), page-byte (i + 1) (omega arith), add-assoc)
 
-  -- a page whose trailer says that it has a record is in use
+  -- whether a page is free, by the first byte of its trailer; one whose trailer says that it has a record is in use
+  pub page-free : isFree (trailerOf (pageOf img p)) ≡ eqb (stateAt img (pageSize * p)) 0
+  page-free = ap (λ (n : ℕ). eqb n 0) (getD-drop capacity (pageOf img p) 0 0 ∙ page-byte capacity (omega arith))
+
   pub in-use : stateAt img (pageSize * p) ≡ 1 → isFree (trailerOf (pageOf img p)) ≡ false
-  in-use k =
-      ne-eqb (getD (trailerOf (pageOf img p)) 0 0) 0 (λ z. omega (arith, z, getD-drop capacity (pageOf img p) 0 0, page-byte capacity (omega arith), k))
+  in-use k = page-free ∙ ne-eqb (stateAt img (pageSize * p)) 0 (λ z. omega arith)
 
   -- the bytes between the length used and the trailer
   pub tail-part : (u : ℕ) → u ≤ capacity → take (capacity - u) (drop (pageSize * p + u) img) ≡ take (capacity - u) (drop u (pageOf img p))

@@ -84,7 +84,7 @@ module _ (img : List ℕ) (whole : AllBytes img) where
           (λ f o.
           let g = entered img p page w f in
           let falls : measure (node (recordOf img p) p 0 level (withMark w p)) < measure here =
-          omega (arith, g .room, g .used, length-part img (pageSize * p) (usedAt img (pageSize * p))) in
+          omega (arith, g .room, g .names .used, length-part img (pageSize * p) (usedAt img (pageSize * p))) in
           proxy (head 3 e (λ z. omega arith)) n g (hyp (node (recordOf img p) p 0 level (withMark w p)) falls (record-bytes p) o))
           (λ _. refuse)
 

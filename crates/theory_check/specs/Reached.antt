@@ -46,7 +46,7 @@ module _ {img : List ℕ} where
   pub marks : {j : Job} {r : Row} {v : State} → Passes img j r v → IsMarks (from j .marks) → Marked (from j .marks) (v .marks) r
   marks (proxy {s = s} {w = w} h n g p) m =
       let new = nameAt s 0 in
-      let low = g .low in
+      let low = g .names .low in
       let k = marks p (marks-kept (w .marks) new m low) in
       record { kept = k .kept; once = λ q l. new-mark (w .marks) new q _ _ (g .fresh) (is-marked (w .marks) new q m low l) (k .once q l) }
   marks (helper h p) m = marks p m
@@ -82,9 +82,9 @@ pageIn (list s page holder level w) = page
 module _ (img : List ℕ) where
   has-entered : {p page : ℕ} {w : State} → Entered img p page w → hasRecord img p ≡ true
   has-entered {p} g =
-      let low : leb p 1 ≡ false = lt-leb p 1 (g .past) in
-      let high : leb (pageCount img) p ≡ false = lt-leb (pageCount img) p (omega (arith, g .inside)) in
-      rw (low, high, in-use img p (g .kind))
+      let low : leb p 1 ≡ false = lt-leb p 1 (g .names .past) in
+      let high : leb (pageCount img) p ≡ false = lt-leb (pageCount img) p (omega (arith, g .names .inside)) in
+      rw (low, high, in-use img p (g .names .kind))
 
   -- other pages are not named
   pub others : {j : Job} {r : Row} {v : State} → Passes img j r v → (q : ℕ) → hasRecord img q ≡ false → count q r ≡ 0
@@ -106,7 +106,7 @@ module _ (img : List ℕ) where
         left p,
         sum-add (λ q. only new q + count q r) (λ q. 0) (pageCount img - 1) 1,
         sum-add (only new) (λ q. count q r) (pageCount img - 1) 1,
-        sum-only new (pageCount img - 1) 1 (omega (arith, g .past)) (omega (arith, g .inside)),
+        sum-only new (pageCount img - 1) 1 (omega (arith, g .names .past)) (omega (arith, g .names .inside)),
       )
   left (helper h p) = left p
   left (literal h l) = omega arith
@@ -122,8 +122,8 @@ module _ (img : List ℕ) (whole : AllBytes img)
   unfolding mayStand standing
   stored (proxy {s = s} {page = page} {r = r} h n g p) =
       let q = nameAt s 0 in
-      let says = trailer-says (pageCount img) q (pageOf img q) (kept q (omega (arith, g .past)) (omega (arith, g .inside))) (in-use img q (g .kind)) in
-      (page-record img q whole (g .inside) (pageCount img) says (g .tail) page (g .holder) r (node-is p .root refl), stored p, tt)
+      let says = trailer-says (pageCount img) q (pageOf img q) (kept q (omega (arith, g .names .past)) (omega (arith, g .names .inside))) (in-use img q (g .names .kind)) in
+      (page-record img q whole (g .names .inside) (pageCount img) says (g .tail) page (g .names .holder) r (node-is p .root refl), stored p, tt)
   stored (helper h p) = stored p
   stored (literal h l) = tt
   stored (aggregate h l p) = (stored p, tt)

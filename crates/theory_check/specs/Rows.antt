@@ -186,7 +186,7 @@ module _ {img : List ℕ} where
   pub fits : {j : Job} {r : Row} {v : State} → Passes img j r v → Fits r
   unfolding shapeOf
   fits (proxy {s = s} {r = r} h n g p) =
-      let used : usedAt img (pageSize * nameAt s 0) ≤ capacity = g .used in
+      let used : usedAt img (pageSize * nameAt s 0) ≤ capacity = g .names .used in
       (record-fits img (nameAt s 0) r (is p) used _ (settled-root img (nameAt s 0) (g .root)), fits p, tt)
   fits (helper h p) = fits p
   fits (literal {s = s} h l) =

@@ -2,11 +2,11 @@
 use mathlib.Core.Path.{_≡_, refl, sym, ap, _∙_}
 use mathlib.Core.List.{List}
 use mathlib.Core.Bool.{Bool, true, false, cond, not, _||_, and-false, true≢false}
-use Prim.Native.Nat.{ℕ, _+_, _-_, _*_, _/_, _%_, _≤_, _<_}
+use Prim.Native.Nat.{ℕ, _+_, _-_, _*_, _%_, _≤_, _<_}
 use native.Mathlib.Omega.{arith}
 use lib.ListN.{length, getD, replicate}
 use lib.Dec.{eqb, leb}
-use borrow.Author.Tests.{eqb-true, ne-eqb, leb-true, leb-false}
+use borrow.Author.Tests.{eqb-true, ne-eqb, leb-false}
 use Rattle.model.specs.Limits.{mostPages, pageSize, capacity, markBytes}
 use Rattle.model.specs.Row.{Row, store, Config, count, outside, recordPage, standing, mayStand, recordOn}
 use Rattle.model.specs.Reading.{Reads, lengthOk, configOn, pageOf, backAt, settledAt}
@@ -16,6 +16,7 @@ use Rattle.theory_rows.specs.Fits.{Fits, Placed, Valid}
 use Rattle.theory_rows.specs.Image.{placed-once}
 use Rattle.theory_decoding.specs.Valid as valid
 use Rattle.theory_decoding.specs.Valid.{valid-holds}
+use Rattle.theory_decoding.specs.Length.{length-says}
 use Rattle.theory_check.specs.Facts.{bit-low, not-else}
 use Rattle.model.specs.WalkTests.{tailZero, recordOf}
 use Rattle.theory_check.specs.Tests.{isMarked}
@@ -44,7 +45,7 @@ record Checked (img : List ℕ) : Type 0 where
   ended : walkOf img (trailersOf img) .walk .left ≡ 1
 
 check-says : (img : List ℕ) → checkBy img ≡ 0 → Checked img
-unfolding checkBy lengthOk walkOk
+unfolding checkBy walkOk
 check-says img e =
     let n = length img in
     let k = trailersOf img in
@@ -52,12 +53,11 @@ check-says img e =
     let before-ok = not-else (beforeWalk img) (λ z. omega arith) (length-ok .1) in
     let walk-ok = valid.both _ _ (not-else (walkOk img k) (λ z. omega arith) (before-ok .1) .0) in
     let front = valid.both _ _ (walk-ok .0) in
-    let sizes = valid.both _ _ (length-ok .0) in
-    let least = valid.both _ _ (sizes .0) in
+    let long = length-says n (length-ok .0) in
     record {
-      whole = eqb-true (n % pageSize) 0 (least .0);
-      few = leb-true 2 (n / pageSize) (least .1);
-      many = leb-true (n / pageSize) mostPages (sizes .1);
+      whole = long .whole;
+      few = long .few;
+      many = long .many;
       passed = before-ok .0;
       tail = front .1;
       top = eqb-true (getD img pageSize 0) 1 (front .0);

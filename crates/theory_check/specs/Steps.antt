@@ -20,27 +20,19 @@ use Rattle.theory_check.specs.Walk.{State, withMark, entersOf, Decoded, 
 use Rattle.theory_check.specs.Walk.{nodeStep, moreStep, listStep, decode, nodeOf, listOf, proxyOf, before}
 use Rattle.theory_check.specs.Facts.{both, arms, not-else}
 
--- What entering page p from the record of `page` shows.
-pub record Entered (img : List ℕ) (p page : ℕ) (w : State) : Type 0 where
+-- What page p shows of itself where a proxy in the record of `page` may name it.
+pub record Named (img : List ℕ) (p page : ℕ) : Type 0 where
   pub past : 2 ≤ p
   pub low : p < mostPages
   pub inside : pageSize * p + pageSize ≤ length img
   pub kind : stateAt img (pageSize * p) ≡ 1
   pub used : usedAt img (pageSize * p) ≤ capacity
   pub holder : backAt img (pageSize * p) ≡ page
-  pub root : rootFits img p ≡ true
-  pub room : 2 ≤ w .left
-  pub fresh : isMarked (w .marks) p ≡ false
-  pub tail : tailZero img p ≡ true
 
-pub entered : (img : List ℕ) (p page : ℕ) (w : State) → entersOf img p page w ≡ true → Entered img p page w
-unfolding entersOf namesOf
-entered img p page w e =
-    let tail = and-both _ _ e in
-    let fresh = and-both _ _ (tail .0) in
-    let room = and-both _ _ (fresh .0) in
-    let root = and-both _ _ (room .0) in
-    let holder = and-both _ _ (root .0) in
+pub named : (img : List ℕ) (p page : ℕ) → namesOf img p page ≡ true → Named img p page
+unfolding namesOf
+named img p page e =
+    let holder = and-both _ _ e in
     let used = and-both _ _ (holder .0) in
     let kind = and-both _ _ (used .0) in
     let inside = and-both _ _ (kind .0) in
@@ -52,6 +44,25 @@ entered img p page w e =
       kind = eqb-true _ _ (kind .1);
       used = leb-true _ _ (used .1);
       holder = eqb-true _ _ (holder .1);
+    }
+
+-- What entering it shows.
+pub record Entered (img : List ℕ) (p page : ℕ) (w : State) : Type 0 where
+  pub names : Named img p page
+  pub root : rootFits img p ≡ true
+  pub room : 2 ≤ w .left
+  pub fresh : isMarked (w .marks) p ≡ false
+  pub tail : tailZero img p ≡ true
+
+pub entered : (img : List ℕ) (p page : ℕ) (w : State) → entersOf img p page w ≡ true → Entered img p page w
+unfolding entersOf
+entered img p page w e =
+    let tail = and-both _ _ e in
+    let fresh = and-both _ _ (tail .0) in
+    let room = and-both _ _ (fresh .0) in
+    let root = and-both _ _ (room .0) in
+    record {
+      names = named img p page (root .0);
       root = root .1;
       room = leb-true _ _ (room .1);
       fresh = not-true _ (fresh .1);
@@ -177,7 +188,7 @@ module _ (img : List ℕ) where
       → measure (node (recordOf img p) p 0 level (withMark w p)) < m
   proxy-falls m p page level w h e =
       let f = entered img p page w e in
-      omega (arith, f .room, f .used, length-part (pageSize * p) (usedAt img (pageSize * p)))
+      omega (arith, f .room, f .names .used, length-part (pageSize * p) (usedAt img (pageSize * p)))
 
   proxy-eq : (m p page level : ℕ) (w : State) → 16384 * w .left ≤ m → proxyStep img (U m) p page level w ≡ proxyOf img p page level w
   unfolding proxyStep

@@ -1,16 +1,29 @@
--- The image of a valid store has the length of its pages.
+-- What an image's length is that passes; the image of a valid store has the length of its pages.
 use mathlib.Core.Path.{_≡_, refl}
 use mathlib.Core.Bool.{true}
 use mathlib.Core.List.{List}
 use Prim.Native.Nat.{ℕ, zero, suc, _*_, _-_, _/_, _%_, _≤_}
 use native.Mathlib.Omega.{arith}
-use borrow.Author.Tests.{le-leb, eq-eqb}
+use borrow.Author.Tests.{le-leb, eq-eqb, leb-true, eqb-true}
 use lib.ListN.{length, length-append}
 use Rattle.model.specs.Limits.{mostPages, pageSize}
 use Rattle.model.specs.Row.{Row, store, Held, records, settingsPage, pageAt, pagesFrom, image, Config}
 use Rattle.model.specs.Reading.{lengthOk}
 use Rattle.theory_rows.specs.Fits.{Valid}
 use Rattle.theory_rows.specs.Image.{length-pageAt, length-settings, all-fit}
+use Rattle.theory_decoding.specs.Valid.{both}
+
+pub record Long (n : ℕ) : Type 0 where
+  pub whole : n % pageSize ≡ 0
+  pub few : 2 ≤ n / pageSize
+  pub many : n / pageSize ≤ mostPages
+
+pub length-says : (n : ℕ) → lengthOk n ≡ true → Long n
+unfolding lengthOk
+length-says n e =
+    let h = both _ _ e in
+    let k = both _ _ (h .0) in
+    record { whole = eqb-true _ _ (k .0); few = leb-true _ _ (k .1); many = leb-true _ _ (h .1) }
 
 length-pages : (hs : List Held) → ((q : ℕ) → length (pageAt hs q) ≡ pageSize) → (n q : ℕ) → length (pagesFrom hs n q) ≡ pageSize * n
 length-pages hs f zero q = refl

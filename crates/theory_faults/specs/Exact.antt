@@ -1,7 +1,7 @@
 -- A fault is found exactly where the check does not pass.
 use mathlib.Core.Path.{_≡_, refl, sym, ap, subst, _∙_}
 use mathlib.Core.Logic.{_↔_}
-use mathlib.Core.Bool.{Bool, true, false, cond, _&&_, false≢true}
+use mathlib.Core.Bool.{Bool, true, false, cond, _&&_, false≢true, true≢false}
 use mathlib.Core.List.{List}
 use Prim.Native.Nat.{ℕ, _<_}
 use native.Mathlib.Omega.{arith}
@@ -27,16 +27,20 @@ abbrev numberBy : (settings pages walk : Bool) → ℕ
 numberBy a b c = cond {A = ℕ} (a && b) (cond {A = ℕ} c 0 3) 3
 
 -- What the stage and the number say of each other.
-record Told (before : Bool) (stage number : ℕ) : Type 0 where
+record Told (settings before : Bool) (stage number : ℕ) : Type 0 where
   passes : stage ≡ 0 → number ≡ 0
   fails : (stage ≡ 0 → ⊥) → number ≡ 3
+  first : number ≡ 3 → (stage ≡ 1) ↔ (settings ≡ false)
   walk : number ≡ 3 → (stage ≡ 3) ↔ (before ≡ true)
 
-told : (a b c : Bool) → Told (a && b) (stageBy a b c) (numberBy a b c)
-told true true true = record { passes = λ _. refl; fails = λ z. absurd (z refl); walk = λ e. absurd (omega arith) }
-told true true false = record { passes = λ e. absurd (omega arith); fails = λ _. refl; walk = λ _. (λ _. refl, λ _. refl) }
-told true false c = record { passes = λ e. absurd (omega arith); fails = λ _. refl; walk = λ _. (λ e. absurd (omega arith), λ e. absurd (false≢true e)) }
-told false b c = record { passes = λ e. absurd (omega arith); fails = λ _. refl; walk = λ _. (λ e. absurd (omega arith), λ e. absurd (false≢true e)) }
+neither : {P Q : Type 0} → (P → ⊥) → (Q → ⊥) → P ↔ Q
+neither f g = (λ p. absurd (f p), λ q. absurd (g q))
+
+told : (a b c : Bool) → Told a (a && b) (stageBy a b c) (numberBy a b c)
+told true true true = record { passes = λ _. refl; fails = λ z. absurd (z refl); first = λ e. absurd (omega arith); walk = λ e. absurd (omega arith) }
+told true true false = record { passes = λ e. absurd (omega arith); fails = λ _. refl; first = λ _. neither (λ e. omega arith) true≢false; walk = λ _. (λ _. refl, λ _. refl) }
+told true false c = record { passes = λ e. absurd (omega arith); fails = λ _. refl; first = λ _. neither (λ e. omega arith) true≢false; walk = λ _. neither (λ e. omega arith) false≢true }
+told false b c = record { passes = λ e. absurd (omega arith); fails = λ _. refl; first = λ _. (λ _. refl, λ _. refl); walk = λ _. neither (λ e. omega arith) false≢true }
 
 -- ── faults ──
 
@@ -45,7 +49,7 @@ module _ (img : List ℕ) (all : (i : ℕ) → getD img i 0 < 256) (ok : lengthO
   unfolding checkBy beforeWalk
   number-is = sym (exact img all) ∙ rw ok
 
-  tells : Told (beforeWalk img) (faultOf img .stage) (checkOf img)
+  tells : Told (settingsPass img) (beforeWalk img) (faultOf img .stage) (checkOf img)
   unfolding beforeWalk
   tells = rw (fault-stage img ok, number-is) (told (settingsPass img) (pagesPass img) (walkOk img (trailersOf img)))
 
@@ -94,6 +98,7 @@ module _ (img : List ℕ) where
       λ z. ap (λ (d : Diagnosis). d .stage) (told-none z),
     );
     zeros = told-none;
+    settings = λ e. rw (told-fault e) (tells img all (right e) .first e);
     pages = first-told;
     walk = λ e. rw (told-fault e) (tells img all (right e) .walk e);
   }

@@ -1,13 +1,9 @@
--- Relations between the outcomes of two tests by one Bool.
+-- Relations between the outcomes of two tests by one Bool, beside `both` of theory_growth.
 use mathlib.Core.Path.{_≡_, refl}
 use mathlib.Core.Bool.{Bool, true, false, cond, not, _&&_}
 
 module _ {A B : Type 0} (R : A → B → Type 0) where
-  pub pair : (c : Bool) {x y : A} {d e : B} → (c ≡ true → R x d) → (c ≡ false → R y e) → R (cond c x y) (cond c d e)
-  pair true f g = f refl
-  pair false f g = g refl
-
-  -- made the other way round
+  -- of which one is made the other way round
   pub other : (c : Bool) {x y : A} {d e : B} → (c ≡ true → R x d) → (c ≡ false → R y e) → R (cond (not c) y x) (cond c d e)
   other true f g = f refl
   other false f g = g refl

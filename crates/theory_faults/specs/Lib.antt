@@ -1,5 +1,6 @@
 pub mod Facts
 pub mod Tests
+pub mod Reached
 pub mod Walk
 pub mod Stages
 pub mod Small

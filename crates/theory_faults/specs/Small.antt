@@ -1,5 +1,5 @@
 -- The page that a diagnosis names is below 1,024.
-use mathlib.Core.Path.{_≡_, refl, sym, _∙_}
+use mathlib.Core.Path.{_≡_, refl}
 use mathlib.Core.Bool.{Bool, true, false, cond, not, _&&_, _||_}
 use mathlib.Core.List.{List, [], _∷_}
 use Prim.Native.Nat.{ℕ, zero, suc, _+_, _-_, _*_, _≤_, _<_}
@@ -8,7 +8,7 @@ use borrow.Author.Tests.{eqb-true, not-false}
 use lib.ListN.{length, take, drop}
 use lib.Dec.{ltb, leb, eqb}
 use Rattle.model.specs.Limits.{pageSize, mostPages, mostLevels}
-use Rattle.model.specs.Reading.{lengthOk, pageOf, nameAt, kindAt}
+use Rattle.model.specs.Reading.{pageOf, nameAt, kindAt}
 use Rattle.model.specs.BeforeWalk.{settingsOk, trailerOf, isFree, pageFits, pageCount}
 use Rattle.model.specs.WalkTests.{wholeSize, passingKind, namesOf, rootFits, tailZero, recordOf}
 use Rattle.model.specs.Answers.{notPassed}
@@ -17,9 +17,9 @@ use Rattle.model.specs.Calls.Diagnose.{Fault, noFault, Been, been, Walk, on, st
 use Rattle.model.specs.Calls.Diagnose.{rowWalk, unreached, walkEnd, walkFault, pagesFault, faultOf, diagnoseOf, recordCount}
 use Rattle.theory_rows.specs.Laws.{cond-case}
 use Rattle.theory_decoding.specs.Valid.{both}
-use Rattle.theory_calls.specs.Open.{not-passing}
-use Rattle.theory_faults.specs.Tests.{named}
-use Rattle.theory_faults.specs.Stages.{page-range}
+use Rattle.theory_decoding.specs.Length.{length-says}
+use Rattle.theory_calls.specs.Open.{check-exact}
+use Rattle.theory_check.specs.Steps.{named}
 
 -- A walk that has stopped has stopped in a page below it; a row that is entered stands in one.
 abbrev SmallWalk : Walk → Type 0
@@ -112,15 +112,8 @@ pub diagnose-small : (img : List ℕ) → diagnoseOf img .page < mostPages
 unfolding diagnoseOf
 diagnose-small img = go (eqb (checkOf img) notPassed) refl
   where
-    broken : checkOf img ≡ notPassed → lengthOk (length img) ≡ true
-    broken e = by (lengthOk (length img)) (sym (not-passing img (λ z. omega arith)) ∙ e)
-      where
-        by : (b : Bool) → cond {A = ℕ} b 3 1 ≡ 3 → b ≡ true
-        by true q = refl
-        by false q = absurd (omega arith)
-
     go : (b : Bool) → eqb (checkOf img) notPassed ≡ b → cond b (faultOf img) noFault .page < mostPages
     go true e =
-        let r = page-range img (broken (eqb-true (checkOf img) notPassed e)) in
-        fault-small img (omega arith) (r .1)
+        let r = length-says (length img) (check-exact img .broken .0 (eqb-true (checkOf img) notPassed e) .0) in
+        fault-small img (omega (arith, r .few)) (r .many)
     go false e = omega arith

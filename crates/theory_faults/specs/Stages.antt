@@ -2,26 +2,27 @@
 use mathlib.Core.Path.{_≡_, refl, sym, ap, _∙_}
 use mathlib.Core.Bool.{Bool, true, false, cond, not, _&&_, true≢false}
 use mathlib.Core.List.{List, []}
-use Prim.Native.Nat.{ℕ, zero, suc, _+_, _-_, _*_, _%_, _≤_, _<_}
+use Prim.Native.Nat.{ℕ, zero, suc, _+_, _-_, _*_, _≤_, _<_}
 use native.Mathlib.Omega.{arith}
 use lib.ListN.{length, replicate}
 use lib.Dec.{eqb}
-use borrow.Author.Tests.{eqb-true, eqb-false, leb-true}
-use Rattle.model.specs.Limits.{pageSize, mostPages, markBytes}
+use borrow.Author.Tests.{eqb-true, eqb-false}
+use Rattle.model.specs.Limits.{pageSize, markBytes}
 use Rattle.model.specs.Reading.{lengthOk, pageOf, kindAt, usedAt}
 use Rattle.model.specs.BeforeWalk.{settingsOk, trailerOf, trailerFits, pageFits, pagesFit, pageCount, beforeWalk}
 use Rattle.model.specs.WalkTests.{tailZero, recordOf}
 use Rattle.model.specs.Calls.Diagnose.{Fault, fault, noFault, freeNotZero, badTrailer, notReached, settingsReason, pagesFault, been, Walk, on, stopped}
 use Rattle.model.specs.Calls.Diagnose.{recordRow, into, rowWalk, unreached, walkEnd, recordCount, walkFault, faultOf}
 use Rattle.model.specs.Claims.{FirstAgainst}
-use Rattle.theory_decoding.specs.Valid.{both as and-both}
+use Rattle.theory_decoding.specs.Length.{length-says}
 use Rattle.theory_check.specs.Sums.{sum}
 use Rattle.theory_check.specs.Parts.{in-use}
-use Rattle.theory_check.specs.Marks.{marks-none, none-marked}
+use Rattle.theory_check.specs.Steps.{named}
 use Rattle.theory_check.specs.Walk.{State, state, Decoded, stop}
 use Rattle.theory_check.specs.Check.{inUse, trailersOf, walkOf, walkOk}
 use Rattle.theory_check.specs.Before.{first-used, used-fits, trailers-are, trailers-none, trailers-most}
-use Rattle.theory_faults.specs.Tests.{named, record-long, record-some}
+use Rattle.theory_faults.specs.Tests.{record-long, record-some}
+use Rattle.theory_faults.specs.Reached.{matches-none}
 use Rattle.theory_faults.specs.Walk.{Alike, Agree, SomeBytes, record-agrees}
 
 -- ── stage 2 ──
@@ -35,9 +36,10 @@ pages-stage img pages (suc k) p = go (pageFits pages p (pageOf img p)) _ _ _ (pa
     go true d x y e f = e
     go false d x y e f = f
 
--- It is found on the first page that is against the rules.
+-- It is found on the first of these pages that is against the rules.
 pub pages-first : (img : List ℕ) (pages k p : ℕ) → pagesFault img pages k p .stage ≡ 2
-    → (pageFits pages (pagesFault img pages k p .page) (pageOf img (pagesFault img pages k p .page)) ≡ false)
+    → (p ≤ pagesFault img pages k p .page) × (pagesFault img pages k p .page < p + k)
+    × (pageFits pages (pagesFault img pages k p .page) (pageOf img (pagesFault img pages k p .page)) ≡ false)
     × ((q : ℕ) → p ≤ q → q < pagesFault img pages k p .page → pageFits pages q (pageOf img q) ≡ true)
 unfolding pagesFault
 pages-first img pages zero p e = absurd (omega arith)
@@ -50,15 +52,16 @@ pages-first img pages (suc k) p e = go (pageFits pages p (pageOf img p)) refl (p
     own = fault 2 p (cond (trailerFits pages p (trailerOf (pageOf img p))) freeNotZero badTrailer)
 
     go : (b : Bool) → pageFits pages p (pageOf img p) ≡ b
-        → (later .stage ≡ 2 → (pageFits pages (later .page) (pageOf img (later .page)) ≡ false)
+        → (later .stage ≡ 2 → (suc p ≤ later .page) × (later .page < suc p + k) × (pageFits pages (later .page) (pageOf img (later .page)) ≡ false)
         × ((q : ℕ) → suc p ≤ q → q < later .page → pageFits pages q (pageOf img q) ≡ true))
         → cond b later own .stage ≡ 2
-        → (pageFits pages (cond b later own .page) (pageOf img (cond b later own .page)) ≡ false)
+        → (p ≤ cond b later own .page) × (cond b later own .page < p + suc k)
+        × (pageFits pages (cond b later own .page) (pageOf img (cond b later own .page)) ≡ false)
         × ((q : ℕ) → p ≤ q → q < cond b later own .page → pageFits pages q (pageOf img q) ≡ true)
-    go false f ih s = (f, λ q a b. absurd (omega arith))
+    go false f ih s = (omega arith, omega arith, f, λ q a b. absurd (omega arith))
     go true f ih s =
         let r = ih s in
-        (r .0, λ q a b. by q a b (eqb q p) refl (r .1))
+        (omega (arith, r .0), omega (arith, r .1), r .2, λ q a b. by q a b (eqb q p) refl (r .3))
       where
         by : (q : ℕ) → p ≤ q → q < later .page → (c : Bool) → eqb q p ≡ c
             → ((q : ℕ) → suc p ≤ q → q < later .page → pageFits pages q (pageOf img q) ≡ true) → pageFits pages q (pageOf img q) ≡ true
@@ -76,7 +79,7 @@ end-stages img (on b) e = go (eqb (b .left) 1) e
 
 -- ── stage 3 ──
 
-count-is : (img : List ℕ) (k p : ℕ) → recordCount img k p ≡ sum (inUse img) k p
+pub count-is : (img : List ℕ) (k p : ℕ) → recordCount img k p ≡ sum (inUse img) k p
 unfolding recordCount
 count-is img zero p = refl
 count-is img (suc k) p = ap (λ (n : ℕ). inUse img p + n) (count-is img k (suc p))
@@ -105,7 +108,7 @@ module _ (img : List ℕ) (few : 2 ≤ pageCount img) (passed : beforeWalk img �
   start = state n (replicate markBytes 0)
 
   begin : Alike start (been n [])
-  begin = record { marks = marks-none; some = some; left = refl; reached = λ p h. none-marked p }
+  begin = record { some = some; left = refl; reached = matches-none }
 
   used : SomeBytes img
   used p page e =
@@ -143,14 +146,6 @@ module _ (img : List ℕ) (few : 2 ≤ pageCount img) (passed : beforeWalk img �
 
 -- ── the whole ──
 
--- an image of the right length has 2 to 1,024 pages
-pub page-range : (img : List ℕ) → lengthOk (length img) ≡ true → (2 ≤ pageCount img) × (pageCount img ≤ mostPages)
-unfolding lengthOk
-page-range img e =
-    let most = and-both _ _ e in
-    let least = and-both (eqb (length img % pageSize) 0) _ (most .0) in
-    (leb-true 2 (pageCount img) (least .1), leb-true (pageCount img) mostPages (most .1))
-
 walk-stages : (img : List ℕ) → walkFault img .stage ≡ 2 → ⊥
 unfolding walkFault
 walk-stages img e = end-stages img (into (recordRow img (eqb (kindAt img pageSize) 1) 1 1 (been (recordCount img (pageCount img - 1) 1) [])) (rowWalk (16384 * (1 + pageCount img)) img)) e
@@ -170,7 +165,7 @@ fault-first img e = go (settingsOk (pageOf img 0) (pageCount img)) (eqb (pages .
     go true true z e = absurd (walk-stages img e)
     go true false z e =
         let r = pages-first img (pageCount img) (pageCount img - 1) 1 e in
-        record { against = r .0; before = r .1 }
+        record { past = r .0; inside = omega (arith, r .0, r .1); against = r .2; before = r .3 }
 
 -- the two tests before the walk: page 0, and the other pages
 abbrev pub settingsPass : (img : List ℕ) → Bool
@@ -192,4 +187,4 @@ fault-stage img ok = go (settingsPass img) (pagesPass img) refl refl _ (pages-st
         ≡ stageBy a b (walkOk img (trailersOf img))
     go false b d e x s = refl
     go true false d e x s = rw s
-    go true true d e x s = rw s (walk-stage img (page-range img ok .0) (rw (d, e)))
+    go true true d e x s = rw s (walk-stage img (length-says (length img) ok .few) (rw (d, e)))

@@ -7,11 +7,11 @@ use native.Mathlib.Omega.{arith}
 use lib.ListN.{length, getD, drop, length-drop}
 use lib.Seq.{length-take-le}
 use lib.Dec.{leb, eqb}
-use borrow.Author.Tests.{eqb-true, eqb-false, leb-true, ltb-true, le-leb}
-use Rattle.model.specs.Limits.{mostPages, pageSize, capacity}
-use Rattle.model.specs.Reading.{twoAt, pageOf, sizeAt, stateAt, usedAt}
+use borrow.Author.Tests.{eqb-true, eqb-false, leb-true, le-leb}
+use Rattle.model.specs.Limits.{pageSize, capacity}
+use Rattle.model.specs.Reading.{twoAt, pageOf, sizeAt, usedAt}
 use Rattle.model.specs.BeforeWalk.{trailerOf, isFree, settledFits, recordTrailer, trailerFits, pageCount, beforeWalk}
-use Rattle.model.specs.WalkTests.{wholeSize, passingKind, namesOf, recordOf}
+use Rattle.model.specs.WalkTests.{wholeSize, passingKind, recordOf}
 use Rattle.theory_decoding.specs.Valid.{both as and-both}
 use Rattle.theory_check.specs.Before.{before-says}
 use Rattle.theory_check.specs.Trailers.{trailer-two}
@@ -37,30 +37,6 @@ unfolding nodeStep
 refused img s page holder level w e = node-eq img s page holder level w ∙ rw e
 
 -- ── pages ──
-
--- A page that a proxy names.
-pub record Named (img : List ℕ) (p : ℕ) : Type 0 where
-  pub past : 2 ≤ p
-  pub low : p < mostPages
-  pub inside : pageSize * p + pageSize ≤ length img
-  pub kind : stateAt img (pageSize * p) ≡ 1
-  pub used : usedAt img (pageSize * p) ≤ capacity
-
-pub named : (img : List ℕ) (p page : ℕ) → namesOf img p page ≡ true → Named img p
-unfolding namesOf
-named img p page e =
-    let back = and-both _ _ e in
-    let used = and-both _ _ (back .0) in
-    let kind = and-both _ _ (used .0) in
-    let inside = and-both _ _ (kind .0) in
-    let low = and-both _ _ (inside .0) in
-    record {
-      past = leb-true _ _ (low .0);
-      low = ltb-true _ _ (low .1);
-      inside = leb-true _ _ (inside .1);
-      kind = eqb-true _ _ (kind .1);
-      used = leb-true _ _ (used .1);
-    }
 
 -- A record is as long as its trailer says.
 pub record-long : (img : List ℕ) (p : ℕ) → pageSize * p + pageSize ≤ length img → usedAt img (pageSize * p) ≤ capacity

@@ -1,35 +1,35 @@
 -- The walk that finds a fault is the check's walk: step for step it stops exactly where that refuses, and goes on in the same state.
-use mathlib.Core.Path.{_≡_, refl, sym, ap, _∙_}
-use mathlib.Core.Bool.{Bool, true, false, cond, not, _&&_, _||_}
+use mathlib.Core.Path.{_≡_, refl, ap}
+use mathlib.Core.Bool.{Bool, true, false, cond, not, _&&_}
 use mathlib.Core.List.{List, [], _∷_}
 use Prim.Native.Nat.{ℕ, zero, suc, _+_, _-_, _*_, _≤_, _<_}
 use native.Mathlib.Omega.{arith}
 use lib.ListN.{length, take, drop, length-drop}
 use lib.Seq.{length-take-le}
 use lib.Dec.{ltb, leb, eqb}
-use borrow.Author.Tests.{eqb-true, eqb-false, eq-eqb, ne-eqb, leb-true}
+use borrow.Author.Tests.{eqb-true, eqb-false, ne-eqb, leb-true}
 use Rattle.model.specs.Limits.{mostPages, pageSize, mostLevels}
 use Rattle.model.specs.Reading.{nameAt, usedAt, settledAt}
 use Rattle.model.specs.WalkTests.{wholeSize, passingKind, namesOf, rootFits, tailZero, recordOf}
 use Rattle.model.specs.Calls.Diagnose.{badNode, badProxy, Been, been, Walk, on, stopped, contains, Inside, row, stops, recordRow, inside, onward, into, rowWalk}
 use Rattle.theory_decoding.specs.Valid.{both as and-both}
+use Rattle.theory_growth.specs.Chain.{both as pair}
 use Rattle.theory_check.specs.Tests.{isMarked}
-use Rattle.theory_check.specs.Marks.{IsMarks, marks-kept, is-marked}
 use Rattle.theory_check.specs.Walk.{State, withMark, entersOf, Decoded, node, list, measure, stop, asRec, proxyStep, nodeStep, moreStep, listStep}
 use Rattle.theory_check.specs.Walk.{decode, nodeOf, listOf, proxyOf}
 use Rattle.theory_check.specs.Nodes.{alone}
-use Rattle.theory_check.specs.Steps.{less, node-eq, list-eq, list-none, head-long, size-long}
-use Rattle.theory_faults.specs.Facts.{pair, other, after}
-use Rattle.theory_faults.specs.Tests.{not-whole, refused, named, record-long}
+use Rattle.theory_check.specs.Steps.{named, less, node-eq, list-eq, list-none, head-long, size-long}
+use Rattle.theory_faults.specs.Facts.{other, after}
+use Rattle.theory_faults.specs.Tests.{not-whole, refused, record-long}
+use Rattle.theory_faults.specs.Reached.{Matches, matches-more}
 
 -- ── states ──
 
 -- The same state of both walks, and not refused.
 pub record Alike (w : State) (b : Been) : Type 0 where
-  pub marks : IsMarks (w .marks)
   pub some : 1 ≤ w .left
   pub left : b .left ≡ w .left
-  pub reached : (p : ℕ) → p < mostPages → isMarked (w .marks) p ≡ contains (b .reached) p
+  pub reached : Matches (w .marks) (b .reached)
 
 -- It goes on where the check's does, in the same state, and has stopped where that is refused.
 abbrev pub Agree : Walk → State → Type 0
@@ -44,28 +44,12 @@ Walks x d = Agree x (d .walk)
 abbrev pub SomeBytes : (img : List ℕ) → Type 0
 SomeBytes img = (p page : ℕ) → namesOf img p page ≡ true → 1 ≤ usedAt img (pageSize * p)
 
-eqb-sym : (p q : ℕ) → eqb p q ≡ eqb q p
-eqb-sym p q = go (eqb q p) refl
-  where
-    go : (c : Bool) → eqb q p ≡ c → eqb p q ≡ c
-    go true e = eq-eqb p q (sym (eqb-true q p e))
-    go false e = ne-eqb p q (λ z. eqb-false q p e (sym z))
-
 -- A page is reached by its proxy.
 abbrev reaching : Been → (p : ℕ) → Been
 reaching b p = been (b .left - 1) (p ∷ b .reached)
 
 enter : (w : State) (b : Been) (p : ℕ) → Alike w b → 2 ≤ w .left → p < mostPages → Alike (withMark w p) (reaching b p)
-enter w b p a room low = record {
-  marks = marks-kept (w .marks) p (a .marks) low;
-  some = omega arith;
-  left = ap (λ (n : ℕ). n - 1) (a .left);
-  reached = λ q h. is-marked (w .marks) p q (a .marks) low h ∙ rw (a .reached q h, eqb-sym q p) (or-is (eqb p q) (contains (b .reached) q));
-}
-  where
-    or-is : (c d : Bool) → cond c true d ≡ (c || d)
-    or-is true d = refl
-    or-is false d = refl
+enter w b p a room low = record { some = omega arith; left = ap (λ (n : ℕ). n - 1) (a .left); reached = matches-more (a .reached) p low }
 
 -- ── the test of a proxy's page ──
 
@@ -88,7 +72,7 @@ enters-is img p page w b a = go (namesOf img p page) refl
         ≡ ((n && leb 2 (b .left) && not (contains (b .reached) p)) && (rootFits img p && tailZero img p))
     go false e = refl
     go true e =
-        rw (a .left, ← a .reached p (named img p page e .low)) (order (rootFits img p) (leb 2 (w .left)) (not (isMarked (w .marks) p)) (tailZero img p))
+        rw (a .left, ← a .reached .same p (named img p page e .low)) (order (rootFits img p) (leb 2 (w .left)) (not (isMarked (w .marks) p)) (tailZero img p))
 
 -- ── one node, where the rows inside it agree ──
 

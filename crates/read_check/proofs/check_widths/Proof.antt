@@ -6,7 +6,7 @@ use borrow.Author.Needs.{needs}
 use Rattle.theory_check.specs.Check.{checkBy}
 use Rattle.theory_check.specs.Before.{trailers-most, trailers-none, trailers-pass}
 use Rattle.theory_check.specs.Facts.{passes, fails}
-use Rattle.base_ranges.specs.Long.{length-says}
+use Rattle.theory_decoding.specs.Length.{length-says}
 use Rattle.read_check.proofs.check_widths.Statement.{statement}
 use Rattle.read_check.proofs.check_widths.Tie as tie
 

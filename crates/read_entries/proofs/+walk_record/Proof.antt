@@ -6,10 +6,10 @@ use borrow.Author.Needs.{needs}
 use borrow.Fn.Kinds.{In}
 use borrow.Fn.PlainCycle.{Measures, is, falls, and}
 use Rattle.read_find.specs.Rowed.{endOn}
-use Rattle.read_cursor.specs.Going.{Going}
+use Rattle.read_cursor.specs.Going.{Going, going-as}
 use Rattle.read_cursor.specs.declared.Cursor.{Cursor}
 use Rattle.read_entries.specs.Nested.{Recorded, goal, going-start, going-end, same-walked, within, at-some, at-inner, at-node, at-last, inside, entered, named-inside}
-use Rattle.read_entries.specs.Nested.{named-few, nested, same-cursor, proxy-walked, proxy-stopped}
+use Rattle.read_entries.specs.Nested.{named-few, nested, proxy-walked, proxy-stopped}
 use Rattle.read_entries.proofs.finished.Reads as finished-reads
 use Rattle.read_entries.proofs.first.Reads as first-reads
 use Rattle.read_entries.proofs.walk_record.Reads as walk-record
@@ -55,7 +55,7 @@ rec-first-requires : (t : ℕ) → walk-record-lts.Need-first-requires (claims t
 rec-first-requires t c κs = c .before .before .pre .1 .0 .on
 
 rec-loop-holds : (t : ℕ) → walk-record-lts.Need-loop-holds (claims t) (rec-at t) walk-record.Post Inv-loop μ-loop
-rec-loop-holds t c = λ w. same-cursor (c .first .ensures) (going-start w _ _ _ _ _ (c .before .before .before .pre .1 .2) (c .before .before .before .pre .1 .3))
+rec-loop-holds t c = λ w. going-as (c .first .ensures) refl (going-start w _ _ _ _ _ (c .before .before .before .pre .1 .2) (c .before .before .before .pre .1 .3))
 
 rec-goes-on-requires : (t : ℕ) → walk-record-lts.Need-goes-on-requires (claims t) (rec-at t) walk-record.Post Inv-loop μ-loop
 rec-goes-on-requires t c κs = search needs
@@ -164,7 +164,7 @@ rec-loop-again-3 t c =
     let some = at-some d (c .before .before .before .before .before .before .before .if2 .left) in
     let kind = c .before .before .before .before .before .if4 .left in
     let name = c .before .before .before .before .name-at .ensures .0 in
-    same-cursor (c .behind .ensures) (proxy-stopped d some kind _ name _ (c .before .before .before .before .before .before .before .before .before .before .before .before .before .before .before .before .before .before .before .before .pre .1 .1) (c .before .before .if5 .taken))
+    going-as (c .behind .ensures) refl (proxy-stopped d some kind _ name _ (c .before .before .before .before .before .before .before .before .before .before .before .before .before .before .before .before .before .before .before .before .pre .1 .1) (c .before .before .if5 .taken))
 
 rec-sub-walk-record : (t : ℕ) → walk-record-lts.Need-sub-walk-record (claims t) (rec-at t) walk-record.Post Inv-loop μ-loop
 rec-sub-walk-record t c =
@@ -210,7 +210,7 @@ rec-loop-again-4 t c =
     let some = at-some d (c .before .before .before .before .before .before .before .before .before .before .before .if2 .left) in
     let kind = c .before .before .before .before .before .before .before .before .before .if4 .left in
     let name = c .before .before .before .before .before .before .before .before .name-at .ensures .0 in
-    same-cursor (c .behind2 .ensures) (proxy-walked d some kind _ name (c .before .before .before .walk-record .ensures (nested d some kind _ name)))
+    going-as (c .behind2 .ensures) refl (proxy-walked d some kind _ name (c .before .before .before .walk-record .ensures (nested d some kind _ name)))
 
 rec-finished-requires-2 : (t : ℕ) → walk-record-lts.Need-finished-requires-2 (claims t) (rec-at t) walk-record.Post Inv-loop μ-loop
 rec-finished-requires-2 t c κs = search needs

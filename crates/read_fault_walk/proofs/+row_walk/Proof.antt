@@ -6,7 +6,8 @@ use Prim.Native.Nat.{ℕ, _+_, _≤_, _<_}
 use borrow.Author.Needs.{needs}
 use borrow.Fn.Kinds.{In}
 use borrow.Fn.PlainCycle.{Measures, is, falls, and}
-use Rattle.read_fault_walk.specs.Rows.{Matches, Within, walkOf}
+use Rattle.theory_faults.specs.Reached.{Matches}
+use Rattle.read_fault_walk.specs.Rows.{Within, walkOf}
 use Rattle.read_fault_walk.specs.Nodes.{within-rest, within-front, within-long}
 use Rattle.read_fault_walk.specs.Steps.{Going, sized, going-end, going-out, going-bad, turn-stops, turn-last, turn-halts, turn-on}
 use Rattle.read_fault_walk.proofs.row_walk.Reads as row-walk

@@ -3,7 +3,7 @@ use mathlib.Core.Path.{sym, _∙_}
 use native.Mathlib.Omega.{arith}
 use borrow.Author.Needs.{needs}
 use Rattle.theory_check.specs.Facts.{passes, fails}
-use Rattle.read_fault_walk.specs.Nodes.{leads-stop, named, proxy-names, proxy-left, proxy-again, proxy-leads}
+use Rattle.read_fault_walk.specs.Nodes.{leads-stop, holds, proxy-names, proxy-left, proxy-again, proxy-leads}
 use Rattle.read_fault_walk.proofs.proxy_row.Statement.{statement}
 use Rattle.read_fault_walk.proofs.proxy_row.Tie as tie
 
@@ -19,7 +19,7 @@ returns-2 c =
 is-marked-requires : tie.Need-is-marked-requires
 is-marked-requires c κs =
     let c2 = c .before .before in
-    named _ _ _ (passes (c2 .before .names .ensures) (c2 .if1 .left)) .few
+    holds _ _ _ (passes (c2 .before .names .ensures) (c2 .if1 .left)) .few
 
 returns-3 : tie.Need-returns-3
 returns-3 c =
@@ -30,18 +30,18 @@ returns-3 c =
 set-mark-requires : tie.Need-set-mark-requires
 set-mark-requires c κs =
     let c5 = c .before .before .before .before .before in
-    named _ _ _ (passes (c5 .before .names .ensures) (c5 .if1 .left)) .few
+    holds _ _ _ (passes (c5 .before .names .ensures) (c5 .if1 .left)) .few
 
 root-fits-requires : tie.Need-root-fits-requires
 root-fits-requires c κs =
     let c6 = c .before .before .before .before .before .before in
-    let h = named _ _ _ (passes (c6 .before .names .ensures) (c6 .if1 .left)) in
+    let h = holds _ _ _ (passes (c6 .before .names .ensures) (c6 .if1 .left)) in
     (h .few, h .on)
 
 record-row-requires : tie.Need-record-row-requires
 record-row-requires c κs =
     let c7 = c .before .before .before .before .before .before .before in
-    (named _ _ _ (passes (c7 .before .names .ensures) (c7 .if1 .left)), c7 .before .before .before .pre .1)
+    (holds _ _ _ (passes (c7 .before .names .ensures) (c7 .if1 .left)), c7 .before .before .before .pre .1)
 
 returns-4 : tie.Need-returns-4
 returns-4 c =

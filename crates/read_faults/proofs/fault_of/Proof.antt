@@ -7,7 +7,7 @@ use borrow.Author.Needs.{needs}
 use Rattle.model.specs.Calls.Diagnose.{fault}
 use Rattle.theory_check.specs.Before.{trailers-none, trailers-pass}
 use Rattle.theory_check.specs.Facts.{passes, fails}
-use Rattle.base_ranges.specs.Long.{length-says}
+use Rattle.theory_decoding.specs.Length.{length-says}
 use Rattle.read_faults.specs.Answer.{answer}
 use Rattle.read_faults.specs.Whole.{count-trailers, fault-settings, fault-pages, fault-walk}
 use Rattle.read_faults.proofs.fault_of.Statement.{statement}

@@ -8,7 +8,7 @@ use denote.Ref.{now}
 use borrow.Author.Needs.{needs}
 use borrow.Author.Tests.{not-true, not-false}
 use Rattle.model.specs.Calls.Diagnose as diagnose
-use Rattle.read_fault_walk.specs.Rows.{Matches}
+use Rattle.theory_faults.specs.Reached.{Matches}
 use Rattle.read_faults.specs.Pages.{reached-end, reached-free, reached-past, reached-here}
 use Rattle.read_faults.proofs.unreached.Statement.{statement}
 use Rattle.read_faults.proofs.unreached.Tie as tie

@@ -4,7 +4,7 @@ use native.Mathlib.Omega.{arith}
 use lib.ListN.{length}
 use denote.Ref.{now}
 use borrow.Author.Needs.{needs}
-use Rattle.base_ranges.specs.Long.{length-says}
+use Rattle.theory_decoding.specs.Length.{length-says}
 use Rattle.read_faults.specs.Answer.{answer}
 use Rattle.read_faults.specs.Whole.{first-holds, root-stops, walk-stops, walk-all, walk-some}
 use Rattle.read_faults.proofs.walk_fault.Statement.{statement}

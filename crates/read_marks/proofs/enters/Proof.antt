@@ -1,31 +1,11 @@
-use mathlib.Core.Path.{_≡_}
-use mathlib.Core.Bool.{and-false, true}
-use mathlib.Core.List.{List}
-use Prim.Native.Nat.{ℕ, _+_, _*_, _≤_, _<_}
-use borrow.Author.Tests.{le-leb, lt-leb, leb-true, ltb-true}
+use mathlib.Core.Bool.{and-false}
+use borrow.Author.Tests.{le-leb, lt-leb}
 use borrow.Author.Needs.{needs}
-use lib.ListN.{length}
-use lib.Dec.{leb}
-use Rattle.model.specs.Limits.{mostPages, pageSize, capacity}
-use Rattle.model.specs.Reading.{usedAt}
-use Rattle.theory_decoding.specs.Valid.{both as and-both}
-use Rattle.model.specs.WalkTests.{namesOf}
+use Rattle.theory_check.specs.Steps.{named}
 use Rattle.theory_check.specs.Walk.{entersOf}
 use Rattle.theory_check.specs.Facts.{passes, fails}
 use Rattle.read_marks.proofs.enters.Statement.{statement}
 use Rattle.read_marks.proofs.enters.Tie as tie
-
--- what a page that is named shows of itself
-named : (img : List ℕ) (p page : ℕ) → namesOf img p page ≡ true
-    → (p < mostPages) × (pageSize * p + pageSize ≤ length img) × (usedAt img (pageSize * p) ≤ capacity)
-unfolding namesOf
-named img p page e =
-    let holder = and-both _ _ e in
-    let used = and-both _ _ (holder .0) in
-    let kind = and-both _ _ (used .0) in
-    let inside = and-both _ _ (kind .0) in
-    let low = and-both (leb 2 p) _ (inside .0) in
-    (ltb-true _ _ (low .1), leb-true _ _ (inside .1), leb-true _ _ (used .1))
 
 names-requires : tie.Need-names-requires
 names-requires c κs = search needs
@@ -35,7 +15,7 @@ unfolding entersOf
 returns c = simp (fails (c .before .names .ensures) (c .if1 .taken))
 
 root-fits-requires : tie.Need-root-fits-requires
-root-fits-requires c κs = let n = named _ _ _ (passes (c .before .names .ensures) (c .if1 .left)) in (n .0, n .1)
+root-fits-requires c κs = let n = named _ _ _ (passes (c .before .names .ensures) (c .if1 .left)) in (n .low, n .inside)
 
 returns-2 : tie.Need-returns-2
 unfolding entersOf
@@ -46,7 +26,7 @@ unfolding entersOf
 returns-3 c = simp (lt-leb _ _ (c .if3 .taken), and-false)
 
 is-marked-requires : tie.Need-is-marked-requires
-is-marked-requires c κs = named _ _ _ (passes (c .before .before .before .before .names .ensures) (c .before .before .before .if1 .left)) .0
+is-marked-requires c κs = named _ _ _ (passes (c .before .before .before .before .names .ensures) (c .before .before .before .if1 .left)) .low
 
 returns-4 : tie.Need-returns-4
 unfolding entersOf
@@ -55,7 +35,8 @@ returns-4 c = simp (← c .before .is-marked .ensures, c .if4 .taken, and-false)
 tail-zero-requires : tie.Need-tail-zero-requires
 tail-zero-requires c κs =
     let p1 = c .before .before .before .before .before in
-    named _ _ _ (passes (p1 .before .names .ensures) (p1 .if1 .left))
+    let n = named _ _ _ (passes (p1 .before .names .ensures) (p1 .if1 .left)) in
+    (n .low, n .inside, n .used)
 
 returns-5 : tie.Need-returns-5
 unfolding entersOf

@@ -4,7 +4,7 @@ use denote.Ref.{now}
 use borrow.Author.Needs.{needs}
 use Rattle.theory_check.specs.Before.{trailers-scan}
 use Rattle.theory_check.specs.Facts.{passes, fails}
-use Rattle.base_ranges.specs.Long.{length-says}
+use Rattle.theory_decoding.specs.Length.{length-says}
 use Rattle.read_pages.proofs.trailers.Statement.{statement}
 use Rattle.read_pages.proofs.trailers.Tie as tie
 

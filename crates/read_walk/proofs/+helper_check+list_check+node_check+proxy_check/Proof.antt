@@ -565,23 +565,23 @@ pub +helper-check+list-check+node-check+proxy-check-spec : {M : Type 1} → stat
     -- returns
     (λ c. came-stop _ _ (proxy-no _ _ _ _ _ (fails (c .before .enters .ensures) (c .if1 .taken))))
     -- mul-a
-    (λ c. omega (arith, goes _ _ _ _ _ (c .before .enters .ensures) (c .if1 .left) .low))
+    (λ c. omega (arith, goes _ _ _ _ _ (c .before .enters .ensures) (c .if1 .left) .names .low))
     -- used-at-requires
-    (λ c κs. omega (arith, goes _ _ _ _ _ (c .before .enters .ensures) (c .if1 .left) .inside))
+    (λ c κs. omega (arith, goes _ _ _ _ _ (c .before .enters .ensures) (c .if1 .left) .names .inside))
     -- add-e
-    (λ c. let k = c .before in omega (arith, goes _ _ _ _ _ (k .before .enters .ensures) (k .if1 .left) .low, c .used-at .ensures .1))
+    (λ c. let k = c .before in omega (arith, goes _ _ _ _ _ (k .before .enters .ensures) (k .if1 .left) .names .low, c .used-at .ensures .1))
     -- set-mark-requires
-    (λ c κs. let k = c .before .before in goes _ _ _ _ _ (k .before .enters .ensures) (k .if1 .left) .low)
+    (λ c κs. let k = c .before .before in goes _ _ _ _ _ (k .before .enters .ensures) (k .if1 .left) .names .low)
     -- sub-node-check
-    (λ c. let k = c .before .before .before in omega (arith, goes _ _ _ _ _ (k .before .enters .ensures) (k .if1 .left) .low))
+    (λ c. let k = c .before .before .before in omega (arith, goes _ _ _ _ _ (k .before .enters .ensures) (k .if1 .left) .names .low))
     -- part-node-check-start
-    (λ c. let k = c .before .before .before in omega (arith, goes _ _ _ _ _ (k .before .enters .ensures) (k .if1 .left) .low))
+    (λ c. let k = c .before .before .before in omega (arith, goes _ _ _ _ _ (k .before .enters .ensures) (k .if1 .left) .names .low))
     -- part-node-check-end
     (λ c.
     let k = c .before .before .before in
     let a = k .before .before .before .before .args in
     let f = goes _ _ _ _ _ (k .before .enters .ensures) (k .if1 .left) in
-    omega (arith, c .before .before .used-at .ensures .0, f .used, f .inside))
+    omega (arith, c .before .before .used-at .ensures .0, f .names .used, f .names .inside))
     -- sub-node-check-2
     (λ c. let k = c .before .before .before .before in omega (arith, goes _ _ _ _ _ (k .before .enters .ensures) (k .if1 .left) .room))
     -- node-check-requires
@@ -592,7 +592,7 @@ pub +helper-check+list-check+node-check+proxy-check-spec : {M : Type 1} → stat
     let f = goes _ _ _ _ _ (k .before .enters .ensures) (k .if1 .left) in
     let n = c .before .before .before .before .before .used-at in
     let long = length-part (now (a .image)) (pageSize * a .p) (pageSize * a .p + n .result - pageSize * a .p) in (
-      omega (arith, s .pre .0, f .room, f .used, n .ensures .0, long),
+      omega (arith, s .pre .0, f .room, f .names .used, n .ensures .0, long),
       (search needs, s .pre .1 .0, omega (arith, s .pre .1 .1), omega (arith, n .ensures .1, long), s .pre .1 .2),
     ))
     -- cast-widths
@@ -611,11 +611,11 @@ pub +helper-check+list-check+node-check+proxy-check-spec : {M : Type 1} → stat
     -- mul-widths
     (λ c.
     let k = c .before .before .before .before .before .before .before .before in
-    omega (arith, goes _ _ _ _ _ (k .before .enters .ensures) (k .if1 .left) .low))
+    omega (arith, goes _ _ _ _ _ (k .before .enters .ensures) (k .if1 .left) .names .low))
     -- element-write-widths
     (λ c.
     let k = c .before .before .before .before .before .before .before .before in
-    omega (arith, goes _ _ _ _ _ (k .before .enters .ensures) (k .if1 .left) .low))
+    omega (arith, goes _ _ _ _ _ (k .before .enters .ensures) (k .if1 .left) .names .low))
     -- returns-2
     (λ c.
     let k = c .before .before .before .before .before .before .before .before in

@@ -9,7 +9,7 @@ use Rattle.model.specs.Limits.{pageSize}
 use Rattle.theory_check.specs.Check.{walkOk}
 use Rattle.theory_check.specs.Facts.{passes, fails}
 use Rattle.theory_check.specs.Steps.{length-part}
-use Rattle.base_ranges.specs.Long.{length-says}
+use Rattle.theory_decoding.specs.Length.{length-says}
 use Rattle.read_walk.proofs.Checks.{first-fits, walked, walked-table}
 use Rattle.read_walk.proofs.walk_ok.Statement.{statement}
 use Rattle.read_walk.proofs.walk_ok.Tie as tie
