@@ -97,6 +97,16 @@ WalkWhole = (img : List ℕ) (t : Tree) (buffer : List ℕ) → treeOn img ≡ s
     → walkOf img (record { page = 1; offset = 0 }) buffer
     ≡ (record { number = 0; written = length (nodes t); more = 0; next = noPlace }, all ++ drop (length all) buffer)
 
+-- A walk into room for k entries after which nodes follow, and one that goes on from the place that it answers, are one walk into both buffers, one behind
+-- the other: steps make up the whole.
+abbrev pub WalkSteps : Type 0
+WalkSteps = (img : List ℕ) (x : Place) (k : ℕ) (buffer room : List ℕ) → length buffer ≡ 9 * k
+    → let first = walkOf img x buffer in
+    let second = walkOf img (first .0 .next) room in
+    let a = second .0 in
+    first .0 .more ≡ 1
+    → walkOf img x (buffer ++ room) ≡ (record { number = a .number; written = k + a .written; more = a .more; next = a .next }, first .1 ++ second .1)
+
 -- ── step 1 ──
 
 -- Between siblings that stand at l and r, children i and i + 1, there are two spots. The one whose record has more bytes unused is taken, the left one if they

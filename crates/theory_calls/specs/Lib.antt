@@ -20,6 +20,7 @@ pub mod Diagnose
 pub mod Demand
 pub mod OldImages
 pub mod Navigate
+pub mod WalkSteps
 pub mod WalkWhole
 pub mod Split
 pub mod Added

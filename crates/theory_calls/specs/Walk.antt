@@ -26,7 +26,7 @@ take-again zero l = refl
 take-again (suc k) [] = refl
 take-again (suc k) (x ∷ l) = ap (_∷_ x) (take-again k l)
 
-pub answer-number : (place : List ℕ → Option Place) (k : ℕ) (ns : List Node) → walkAnswer place k ns .number ≡ 0
+answer-number : (place : List ℕ → Option Place) (k : ℕ) (ns : List Node) → walkAnswer place k ns .number ≡ 0
 answer-number place k [] = refl
 answer-number place k (n ∷ ns) = refl
 

@@ -28,6 +28,7 @@ use Rattle.theory_places.specs.From.{from-found}
 use Rattle.theory_calls.specs.Open.{opens, passing}
 use Rattle.theory_calls.specs.Paths.{Spelled, entries-more}
 use Rattle.theory_calls.specs.Matches.{finds, image-matches}
+use Rattle.theory_calls.specs.WalkSteps.{length-entries}
 
 -- ── a path's bytes give the path back ──
 
@@ -64,11 +65,6 @@ small-in (leaf h c rest) few =
     ((omega arith, tt), each-map (SmallIn (treePopulation rest)) P (further 1) (nodes rest) (λ n s. (omega arith, s .1)) (small-in rest (omega arith)))
 
 -- ── room for all ──
-
--- Nine numbers an entry.
-length-entries : (place : List ℕ → Option Place) (ns : List Node) → length (entriesOf place ns) ≡ 9 * length ns
-length-entries place [] = refl
-length-entries place (n ∷ ns) = omega (arith, length-entries place ns)
 
 -- What a walk answers that tells all nodes: so many, and none left.
 abbrev toldAll : ℕ → List ℕ → (buffer : List ℕ) → WalkAnswer × List ℕ
