@@ -4,11 +4,14 @@ use model::Settings;
 use read_pages::trailers;
 use read_walk::walk_ok;
 ghost use mathlib.Core.Path.{_≡_};
+ghost use lib.ListN.{length};
+ghost use Rattle.model.specs.Limits.{mostPages};
 ghost use Rattle.theory_check.specs.Check.{trailersOf, walkOf, checkBy};
 ghost use Rattle.theory_check.specs.Widths.{widthsAfter};
 
 // The check, which leaves in a table how many nodes the record on each page shows.
 pub fn check_widths(image: &[u8], widths: &mut [u32; Settings::PAGES]) -> u32
+    requires { ⌜ length (now widths) ≡ mostPages ⌝ }
     ensures { λ r. ⌜ (r ≡ checkBy (now (image .entry)))
         × (r ≡ 0 → now (widths .exit) ≡ widthsAfter (walkOf (now (image .entry)) (trailersOf (now (image .entry))) .row) (now (widths .entry))) ⌝ }
 {

@@ -32,7 +32,7 @@ record Stands (s : List ℕ) (kind holder level : ℕ) : Type 0 where
   low : level ≤ mostLevels
   may : mayStand holder kind ≡ true
 
-stands-says : (s : List ℕ) (kind holder level : ℕ) → standsOf s kind holder level ≡ true → Stands s kind holder level
+stands-says : (s : List ℕ) (kind holder level : ℕ) → standsOf s kind (mayStand holder kind) level ≡ true → Stands s kind holder level
 unfolding standsOf
 stands-says s kind holder level e =
     let may = and-both _ _ e in
@@ -42,27 +42,22 @@ stands-says s kind holder level e =
 
 module _ (s : List ℕ) (holder level : ℕ) where
   -- the same of the tests for one kind
-  agg-says : (n : ℕ) → aggregateOf s n holder level ≡ true → (6 ≤ length s) × (sizeAt s 0 ≡ n) × Stands s 1 holder level
+  agg-says : (n : ℕ) → aggregateOf s n (mayStand holder 1) level ≡ true → (6 ≤ length s) × (sizeAt s 0 ≡ n) × Stands s 1 holder level
   unfolding aggregateOf
   agg-says n e =
       let a = and-both _ _ e in
       let b = and-both _ _ (a .0) in
       (leb-true _ _ (b .0), eqb-true _ _ (b .1), stands-says s 1 holder level (a .1))
 
-  lit-says : literalOf s holder level ≡ true → (sizeAt s 0 ≤ mostNode) × Stands s 2 holder level
+  lit-says : (n : ℕ) → literalOf s n (mayStand holder 2) level ≡ true → (n ≤ mostNode) × Stands s 2 holder level
   unfolding literalOf
-  lit-says e = let a = and-both _ _ e in (leb-true _ _ (a .0), stands-says s 2 holder level (a .1))
+  lit-says n e = let a = and-both _ _ e in (leb-true _ _ (a .0), stands-says s 2 holder level (a .1))
 
   -- the head of the bytes that a node is
   head-of : (kind : ℕ) → 6 ≤ length s → sizeAt s 0 ≡ length s → kind ≤ 4 → shapeOf s kind ≡ true → Stands s kind holder level → kind ≡ passingKind s holder
   unfolding passingKind
   head-of kind long size small shape h =
       simp (h .first, le-leb _ _ long, le-leb _ _ small, h .may, le-leb _ _ (h .origin), eq-eqb _ _ size, shape)
-
-  -- an aggregate that is what the test asks passes it
-  agg-is : 6 ≤ length s → sizeAt s 0 ≡ length s → Stands s 1 holder level → aggregateOf s (length s) holder level ≡ true
-  unfolding aggregateOf standsOf
-  agg-is long size h = simp (le-leb _ _ long, eq-eqb _ _ size, eq-eqb _ _ (h .first), le-leb _ _ (h .origin), le-leb _ _ (h .low), h .may)
 
   shape-1 : shapeOf s 1 ≡ true
   unfolding shapeOf
@@ -71,21 +66,6 @@ module _ (s : List ℕ) (holder level : ℕ) where
   shape-2 : length s ≤ mostNode → shapeOf s 2 ≡ true
   unfolding shapeOf
   shape-2 h = le-leb _ _ h
-
-  -- a node of none of the other kinds that is no aggregate that stands has no kind
-  pub no-kind : (kind : ℕ) → kind ≡ passingKind s holder → level ≤ mostLevels → aggregateOf s (length s) holder level ≡ false
-      → (kind ≡ 2 → ⊥) → (kind ≡ 3 → ⊥) → (kind ≡ 4 → ⊥) → kind ≡ 0
-  no-kind kind e low none n2 n3 n4 = go (eqb kind 0) refl
-    where
-      go : (b : Bool) → eqb kind 0 ≡ b → kind ≡ 0
-      go true q = eqb-true kind 0 q
-      go false q =
-          let z = eqb-false kind 0 q in
-          let h = passing s holder kind (sym e) z in
-          let one : kind ≡ 1 = omega (arith, h .small) in
-          let may = ap (mayStand holder) (sym one) ∙ h .may in
-          let stands : Stands s 1 holder level = record { first = h .first ∙ one; origin = h .origin; low = low; may = may } in
-          no (sym none ∙ agg-is (h .long) (h .size) stands)
 
 -- the first n bytes, where the node has n
 module _ (s : List ℕ) (n : ℕ) (long : 6 ≤ n) where
@@ -106,7 +86,7 @@ module _ (s : List ℕ) (n : ℕ) (long : 6 ≤ n) where
       (record { first = first ∙ h .first; origin = omega (arith, same, h .origin); low = h .low; may = h .may })
 
 -- the bytes are an aggregate that stands
-pub aggregate-head : (s : List ℕ) (holder level : ℕ) → aggregateOf s (length s) holder level ≡ true
+pub aggregate-head : (s : List ℕ) (holder level : ℕ) → aggregateOf s (length s) (mayStand holder 1) level ≡ true
     → (6 ≤ length s) × (1 ≡ passingKind s holder) × (level ≤ mostLevels)
 aggregate-head s holder level e =
     let f = agg-says s holder level (length s) e in
@@ -119,7 +99,7 @@ size-is s n long inside e =
     let h : 6 ≤ length s = omega arith in
     simp (e, le-leb _ _ h, le-leb _ _ long, le-leb _ _ inside)
 
-pub aggregate-size : (s : List ℕ) (holder level : ℕ) → aggregateOf s (length s) holder level ≡ true → length s ≡ wholeSize s
+pub aggregate-size : (s : List ℕ) (holder level : ℕ) → aggregateOf s (length s) (mayStand holder 1) level ≡ true → length s ≡ wholeSize s
 aggregate-size s holder level e = let f = agg-says s holder level (length s) e in size-is s (length s) (f .0) (omega arith) (f .1)
 
 -- and a node that has a size has as many bytes
@@ -127,7 +107,7 @@ pub sized : (s : List ℕ) (n : ℕ) → n ≡ wholeSize s → (n ≡ 0 → ⊥)
 sized s n e z = rw e (size-long s (ne-eqb _ _ (λ q. z (e ∙ q))))
 
 -- the bytes start with an aggregate that has no child
-pub childless-head : (s : List ℕ) (holder level : ℕ) → aggregateOf s 6 holder level ≡ true
+pub childless-head : (s : List ℕ) (holder level : ℕ) → aggregateOf s 6 (mayStand holder 1) level ≡ true
     → (6 ≡ wholeSize s) × (1 ≡ passingKind (take 6 s) holder) × (level ≤ mostLevels)
 childless-head s holder level e =
     let f = agg-says s holder level 6 e in
@@ -135,10 +115,10 @@ childless-head s holder level e =
     (size-is s 6 six (f .0) (f .1), head-in s 6 six 1 holder level (f .0) (f .1) (omega arith) (shape-1 (take 6 s) holder level) (f .2), f .2 .low)
 
 -- the bytes start with a whole literal
-pub literal-head : (s : List ℕ) (n holder level : ℕ) → n ≡ wholeSize s → (n ≡ 0 → ⊥) → literalOf s holder level ≡ true
+pub literal-head : (s : List ℕ) (n holder level : ℕ) → n ≡ wholeSize s → (n ≡ 0 → ⊥) → literalOf s n (mayStand holder 2) level ≡ true
     → (2 ≡ passingKind (take n s) holder) × (level ≤ mostLevels)
 literal-head s n holder level e z h =
-    let f = lit-says s holder level h in
+    let f = lit-says s holder level n h in
     let t = sized s n e z in
     let l = length-take-le n s (t .1) in
     (head-in s n (t .0) 2 holder level (t .1) (t .2) (omega arith) (shape-2 (take n s) holder level (omega (arith, f .0))) (f .1), f .1 .low)

@@ -1,3 +1,4 @@
 pub mod Leaf
+pub mod Stand
 pub mod Leaves
 pub mod Inner

@@ -2,6 +2,7 @@
 use base_layout::label_at;
 use base_layout::origin_at;
 use base_layout::size_at;
+use base_node_kinds::Kinds;
 use base_node_kinds::may_stand;
 use base_numbers::wide;
 use model::Settings;
@@ -12,6 +13,7 @@ ghost use lib.Dec.{leb};
 ghost use Rattle.model.specs.Limits.{mostLevels, mostOrigin};
 ghost use Rattle.model.specs.Reading.{headAt};
 ghost use Rattle.model.specs.WalkTests.{wholeSize, twoChildren, bareHead, shapeOf, passingKind};
+ghost use Rattle.read_nodes.specs.Stand.{formedOf, standsIn, kindBy};
 ghost use Rattle.read_nodes.specs.Leaf.{standsOf, aggregateOf, literalOf, Only};
 
 // The size of the node that the part starts with, 0 where no whole node stands there.
@@ -80,6 +82,23 @@ pub fn shaped(part: &[u8], kind: usize) -> bool
     true
 }
 
+// The kind, if the part is a well-formed node of it, else 0.
+fn well_formed(part: &[u8], kind: usize) -> usize
+    requires { ⌜ 6 ≤ length (now part) ⌝ }
+    ensures { λ r. ⌜ r ≡ formedOf (now (part .entry)) kind ⌝ }
+{
+    if !origin_fits(part) {
+        return 0;
+    }
+    if size_at(part, 0) != part.len() {
+        return 0;
+    }
+    if !shaped(part, kind) {
+        return 0;
+    }
+    kind
+}
+
 // The kind of the node that the part is, 0 where it is not well formed by itself or may not stand in the holder.
 pub fn head(part: &[u8], holder: usize) -> usize
     requires { ⌜ holder < 5 ⌝ }
@@ -95,22 +114,41 @@ pub fn head(part: &[u8], holder: usize) -> usize
     if !may_stand(holder, kind) {
         return 0;
     }
-    if !origin_fits(part) {
-        return 0;
-    }
-    if size_at(part, 0) != part.len() {
-        return 0;
-    }
-    if !shaped(part, kind) {
-        return 0;
-    }
-    kind
+    well_formed(part, kind)
 }
 
-// Whether the part starts with a node of the kind, by its first two bytes, kind and origin, that may stand in the holder, at a level that may be.
-pub fn stands(part: &[u8], kind: usize, holder: usize, level: usize) -> bool
-    requires { ⌜ (6 ≤ length (now part)) × (holder < 5) × (kind < 5) ⌝ }
-    ensures { λ r. ⌜ r ≡ standsOf (now (part .entry)) kind holder level ⌝ }
+// Whether a node of the kind may stand in a row.
+fn stands_in(may: Kinds, kind: usize) -> bool
+    ensures { λ r. ⌜ r ≡ standsIn may kind ⌝ }
+{
+    if kind == 1 {
+        return may.aggregate;
+    }
+    if kind == 2 {
+        return may.literal;
+    }
+    if kind == 3 {
+        return may.proxy;
+    }
+    false
+}
+
+// The kind of the node that the part is, as `head` gives it of a row whose kinds are known.
+pub fn kind_in(part: &[u8], may: Kinds) -> usize
+    requires { ⌜ 6 ≤ length (now part) ⌝ }
+    ensures { λ r. ⌜ r ≡ kindBy (now (part .entry)) may ⌝ }
+{
+    let kind = wide(part[0]);
+    if !stands_in(may, kind) {
+        return 0;
+    }
+    well_formed(part, kind)
+}
+
+// Whether the part starts with a node of the kind, by its first two bytes, kind and origin, that may stand there, at a level that may be.
+fn stands(part: &[u8], kind: usize, may: bool, level: usize) -> bool
+    requires { ⌜ 6 ≤ length (now part) ⌝ }
+    ensures { λ r. ⌜ r ≡ standsOf (now (part .entry)) kind may level ⌝ }
 {
     if wide(part[0]) != kind {
         return false;
@@ -121,13 +159,12 @@ pub fn stands(part: &[u8], kind: usize, holder: usize, level: usize) -> bool
     if Settings::LEVELS < level {
         return false;
     }
-    may_stand(holder, kind)
+    may
 }
 
 // The same of an aggregate of n bytes.
-pub fn aggregate(part: &[u8], n: usize, holder: usize, level: usize) -> bool
-    requires { ⌜ holder < 5 ⌝ }
-    ensures { λ r. ⌜ r ≡ aggregateOf (now (part .entry)) n holder level ⌝ }
+pub fn aggregate(part: &[u8], n: usize, may: bool, level: usize) -> bool
+    ensures { λ r. ⌜ r ≡ aggregateOf (now (part .entry)) n may level ⌝ }
 {
     if part.len() < 6 {
         return false;
@@ -135,29 +172,36 @@ pub fn aggregate(part: &[u8], n: usize, holder: usize, level: usize) -> bool
     if size_at(part, 0) != n {
         return false;
     }
-    stands(part, 1, holder, level)
+    stands(part, 1, may, level)
 }
 
-// The same of a literal that is not too long.
-pub fn literal(part: &[u8], holder: usize, level: usize) -> bool
-    requires { ⌜ (6 ≤ length (now part)) × (holder < 5) ⌝ }
-    ensures { λ r. ⌜ r ≡ literalOf (now (part .entry)) holder level ⌝ }
+// The same of a literal of this size, which is not too long.
+pub fn literal(part: &[u8], size: usize, may: bool, level: usize) -> bool
+    requires { ⌜ 6 ≤ length (now part) ⌝ }
+    ensures { λ r. ⌜ r ≡ literalOf (now (part .entry)) size may level ⌝ }
 {
-    if Settings::NODE < size_at(part, 0) {
+    if Settings::NODE < size {
         return false;
     }
-    stands(part, 2, holder, level)
+    stands(part, 2, may, level)
 }
 
-// How many aggregates below the one that the part is are each the only node that the last holds.
+// How many aggregates below the one that the part is are each the only node that the last holds. Where its first node does not end it, the answer is at hand.
 pub fn only(part: &[u8], level: usize) -> usize
     requires { ⌜ (6 ≤ length (now part)) × (level ≤ mostLevels + 1) ⌝ }
     ensures { λ r. ⌜ Only (now (part .entry)) level r ⌝ }
 {
+    if part.len() < 12 {
+        return 0;
+    }
+    if size_at(part, 6) != part.len() - 6 {
+        return 0;
+    }
+    let may = may_stand(1, 1);
     let mut d = 0;
     let mut at = 6;
     while at < part.len() {
-        if !aggregate(&part[at..], part.len() - at, 1, level + d) {
+        if !aggregate(&part[at..], part.len() - at, may, level + d) {
             return d;
         }
         at = at + 6;

@@ -1,1 +1,4 @@
-pub mod Came
+pub mod Going
+pub mod Turns
+pub mod Steps
+pub mod First

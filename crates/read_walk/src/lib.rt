@@ -1,191 +1,197 @@
-// The walk of the check: from page 1 through the proxies.
-use base_layout::name_at;
-use base_layout::used_at;
+// The walk of the check: from page 1 through the proxies. Its calls follow the levels of the logical tree, not the records, so that they are at most 24 deep
+// whatever the bytes: a list goes on into the record of a helper, and comes back out of it, in its own loop.
 use model::Settings;
-use read_marks::enters;
-use read_marks::set_mark;
+use read_leaves::holds_leaves;
 use read_marks::tail_zero;
 use read_nodes::aggregate;
 use read_nodes::head;
+use read_nodes::kind_in;
 use read_nodes::literal;
 use read_nodes::only;
 use read_nodes::size_of;
+use read_walker::Walker;
+use read_walker::enter;
+use read_walker::first;
+use read_walker::leave;
+use read_walker::past;
+use read_walker::reach;
+use read_walker::record_end;
+use read_walker::refused;
 ghost use mathlib.Core.Path.{_≡_};
-ghost use mathlib.Core.Bool.{true};
-ghost use Prim.Native.Nat.{_+_, _≤_, _<_};
+ghost use mathlib.Core.Bool.{true, false};
+ghost use Prim.Native.Nat.{ℕ, _+_, _/_, _≤_};
 ghost use lib.ListN.{length};
-ghost use Rattle.model.specs.Limits.{mostPages, mostLevels};
+ghost use Rattle.model.specs.Limits.{mostPages, mostLevels, pageSize};
 ghost use Rattle.model.specs.Reading.{lengthOk};
 ghost use Rattle.model.specs.BeforeWalk.{beforeWalk};
-ghost use Rattle.theory_check.specs.Walk.{state, nodeOf, listOf, proxyOf};
+ghost use Rattle.model.specs.WalkTests.{passingKind};
+ghost use Rattle.theory_check.specs.Marks.{IsMarks};
+ghost use Rattle.theory_check.specs.Walk.{state, nodeOf, listOf};
 ghost use Rattle.theory_check.specs.Check.{PassedBefore, walkOf, walkOk};
 ghost use Rattle.theory_check.specs.Widths.{widthsAfter};
-ghost use Rattle.read_walk.specs.Came.{Came, Shown};
+ghost use Rattle.theory_check.specs.Levels.{bytes};
+ghost use Rattle.read_nodes.specs.Leaf.{literalOf};
+ghost use Rattle.read_nodes.specs.Stand.{kindBy};
+ghost use Rattle.read_walk.specs.Going.{PartAt, Ended, Goal};
+ghost use Rattle.read_walk.specs.Steps.{Standing, NodeAt, Turned};
 
-// ── the walk: all of it asks for the part before it ──
+// ── nodes and lists: all of it asks for the part before the walk ──
 
-// What a walk leaves to be reached, 0 where it is refused, and how many nodes it was shown.
-struct Walked {
-    left: usize,
-    width: usize,
-}
-
-// The record that a proxy in the record of a page names. `widths`, here and below, gets how many nodes each record shows.
-fn proxy_check<'a>(
-    image: &'a [u8],
-    p: usize,
-    page: usize,
-    level: usize,
-    left: usize,
-    marks: &mut [u8; Settings::MARKS],
-    widths: &mut [u32; Settings::PAGES],
-) -> Walked
-    requires { ⌜ (level ≤ mostLevels + 1) × (left ≤ mostPages) × PassedBefore (now image) ⌝ }
-    ensures { λ r. ⌜ Shown (proxyOf (now (image .entry)) p page level (state left (now (marks .entry))))
-        r (now (marks .exit)) (now (widths .entry)) (now (widths .exit)) ⌝ }
-{
-    if !enters(image, p, page, left, marks) {
-        return Walked { left: 0, width: 0 };
-    }
-    let a = Settings::PAGE * p;
-    let n = used_at(image, a);
-    let e = a + n;
-    set_mark(marks, p);
-    let r = node_check(image, &image[a..e], p, 0, level, left - 1, marks, widths);
-    widths[p] = r.width as u32;
-    r
-}
-
-// The node that the part is. An aggregate is entered before the other kinds are asked for.
+// The aggregate that the part is, well formed by itself. It starts at byte `at` of the image.
 fn node_check<'a>(
     image: &'a [u8],
     part: &'a [u8],
-    page: usize,
-    holder: usize,
+    at: usize,
     level: usize,
     left: usize,
     marks: &mut [u8; Settings::MARKS],
     widths: &mut [u32; Settings::PAGES],
-) -> Walked
-    requires { ⌜ (holder < 5) × (level ≤ mostLevels + 1) × (left ≤ mostPages) × (length (now part) < 65536) × PassedBefore (now image) ⌝ }
-    ensures { λ r. ⌜ Shown (nodeOf (now (image .entry)) (now (part .entry)) page holder level (state left (now (marks .entry))))
-        r (now (marks .exit)) (now (widths .entry)) (now (widths .exit)) ⌝ }
+    back: &mut [u32; Settings::PAGES],
+) -> usize
+    requires { ⌜ (6 ≤ length (now part)) × (level ≤ mostLevels + 1) × (1 ≤ left) × (left ≤ mostPages)
+        × PartAt (now image) (now part) at × PassedBefore (now image) × IsMarks (now marks)
+        × (length (now widths) ≡ mostPages) × (length (now back) ≡ mostPages) ⌝ }
+    ensures { λ r. ⌜ ((holder : ℕ) → 1 ≡ passingKind (now (part .entry)) holder
+        → Ended (nodeOf (now (image .entry)) (now (part .entry)) (at / pageSize) holder level (state left (now (marks .entry))))
+        r (now (marks .entry)) (now (marks .exit)) (now (widths .entry)) (now (widths .exit)) (now (back .entry)) (now (back .exit))) ⌝ }
 {
-    let below = level + 1;
-    if aggregate(part, part.len(), holder, level) {
-        let d = only(part, below);
-        let rest = &part[6 * d + 6..];
-        let n = list_check(image, rest, page, below + d, left, marks, widths);
-        return Walked { left: n, width: 1 };
-    }
-    let kind = head(part, holder);
-    if kind == 3 {
-        if part.len() != 8 {
-            return Walked { left: 0, width: 0 };
-        }
-        return proxy_check(image, name_at(part, 0), page, level, left, marks, widths);
-    }
-    if kind == 4 {
-        // a helper is no level
-        return helper_check(image, &part[6..], page, level, left, marks, widths);
-    }
     if Settings::LEVELS < level {
-        return Walked { left: 0, width: 0 };
+        return 0;
     }
-    if kind == 2 {
-        return Walked {
-            left: left,
-            width: 1,
-        };
-    }
-    Walked { left: 0, width: 0 }
+    let below = level + 1;
+    let d = only(part, below);
+    let k = 6 * d + 6;
+    list_check(
+        image,
+        &part[k..],
+        at + k,
+        below + d,
+        left,
+        marks,
+        widths,
+        back,
+    )
 }
 
-// The nodes that an aggregate holds, one after another. What holds no other node is passed without a call: an aggregate by a constant, so that the next
-// header is read without waiting for this one's size. Kept small: as long as the compiler puts it into node_check, a level takes one frame.
+// The record of the page that the proxy names. A helper's record is entered, and the list goes on there.
+fn proxy_check<'a>(
+    image: &'a [u8],
+    node: &'a [u8],
+    w: Walker,
+    marks: &mut [u8; Settings::MARKS],
+    widths: &mut [u32; Settings::PAGES],
+    back: &mut [u32; Settings::PAGES],
+) -> Walker
+    requires { ⌜ PassedBefore (now image) × NodeAt (now image) (now node) w × (3 ≡ kindBy (now node) (w .kinds))
+        × ((g : Goal) × Standing (now image) g (now marks) (now widths) (now back) w) ⌝ }
+    ensures { λ r. ⌜ ((g : Goal) → Standing (now (image .entry)) g (now (marks .entry)) (now (widths .entry)) (now (back .entry)) w
+        → Turned (now (image .entry)) g (now (marks .exit)) (now (widths .exit)) (now (back .exit)) w r) ⌝ }
+{
+    let p = reach(image, node, w.at / Settings::PAGE, w.left, marks);
+    if p == 0 {
+        return refused(w);
+    }
+    let a = Settings::PAGE * p;
+    let e = record_end(image, p);
+    let record = &image[a..e];
+    let root = head(record, 0);
+    if root == 4 {
+        return enter(w, p, e, widths, back);
+    }
+    if root == 0 {
+        return refused(w);
+    }
+    let mut r = past(w, 8, w.left - 1);
+    if root == 2 {
+        if Settings::LEVELS < w.level {
+            return refused(w);
+        }
+        widths[p] = 1;
+        return r;
+    }
+    r.left = node_check(image, record, a, w.level, w.left - 1, marks, widths, back);
+    widths[p] = 1;
+    r
+}
+
+// A node of a list that is neither an empty aggregate nor a literal that passes.
+fn part_check<'a>(
+    image: &'a [u8],
+    node: &'a [u8],
+    w: Walker,
+    marks: &mut [u8; Settings::MARKS],
+    widths: &mut [u32; Settings::PAGES],
+    back: &mut [u32; Settings::PAGES],
+) -> Walker
+    requires { ⌜ PassedBefore (now image) × NodeAt (now image) (now node) w
+        × (literalOf (bytes (now image) (w .at) (w .end)) (length (now node)) (w .kinds .literal) (w .level) ≡ false)
+        × ((g : Goal) × Standing (now image) g (now marks) (now widths) (now back) w) ⌝ }
+    ensures { λ r. ⌜ ((g : Goal) → Standing (now (image .entry)) g (now (marks .entry)) (now (widths .entry)) (now (back .entry)) w
+        → Turned (now (image .entry)) g (now (marks .exit)) (now (widths .exit)) (now (back .exit)) w r) ⌝ }
+{
+    let kind = kind_in(node, w.kinds);
+    if kind == 3 {
+        return proxy_check(image, node, w, marks, widths, back);
+    }
+    if kind != 1 {
+        return refused(w);
+    }
+    let mut r = past(w, node.len(), w.left);
+    if holds_leaves(node, w.level + 1) {
+        return r;
+    }
+    r.left = node_check(image, node, w.at, w.level, w.left, marks, widths, back);
+    r
+}
+
+// The nodes of a logical list, one after another. The part that starts at byte `start` of the image is its own row. What holds no other node is passed without
+// a call: an aggregate by a constant, so that the next header is read without waiting for this one's size.
 fn list_check<'a>(
     image: &'a [u8],
     part: &'a [u8],
-    page: usize,
+    start: usize,
     level: usize,
     left: usize,
     marks: &mut [u8; Settings::MARKS],
     widths: &mut [u32; Settings::PAGES],
+    back: &mut [u32; Settings::PAGES],
 ) -> usize
-    requires { ⌜ (level ≤ mostLevels + 1) × (left ≤ mostPages) × (length (now part) < 65536) × PassedBefore (now image) ⌝ }
-    ensures { λ r. ⌜ Came (listOf (now (image .entry)) (now (part .entry)) page 1 level (state left (now (marks .entry))))
-        r (now (marks .exit)) (now (widths .entry)) (now (widths .exit)) ⌝ }
+    requires { ⌜ (level ≤ mostLevels + 1) × (1 ≤ left) × (left ≤ mostPages)
+        × PartAt (now image) (now part) start × PassedBefore (now image) × IsMarks (now marks)
+        × (length (now widths) ≡ mostPages) × (length (now back) ≡ mostPages) ⌝ }
+    ensures { λ r. ⌜ Ended (listOf (now (image .entry)) (now (part .entry)) (start / pageSize) 1 level (state left (now (marks .entry))))
+        r (now (marks .entry)) (now (marks .exit)) (now (widths .entry)) (now (widths .exit)) (now (back .entry)) (now (back .exit)) ⌝ }
 {
-    let mut cur = left;
-    let mut at = 0;
-    while at < part.len() {
-        if cur == 0 {
-            return 0;
-        }
-        let rest = &part[at..];
-        if aggregate(rest, 6, 1, level) {
-            at = at + 6;
+    let last = start + part.len();
+    let mut w = first(start, last, level, left);
+    loop {
+        let at = w.at;
+        let end = w.end;
+        if at == end {
+            if w.depth == 0 {
+                return w.left;
+            }
+            w = leave(image, w, last, widths, back);
         } else {
-            let size = size_of(rest);
-            if size == 0 {
-                return 0;
-            }
-            if literal(rest, 1, level) {
-                at = at + size;
+            let rest = &image[at..end];
+            let kinds = w.kinds;
+            if aggregate(rest, 6, kinds.aggregate, level) {
+                w = past(w, 6, w.left);
             } else {
-                let r = node_check(image, &rest[..size], page, 1, level, cur, marks, widths);
-                cur = r.left;
-                at = at + size;
+                let size = size_of(rest);
+                if size == 0 {
+                    return 0;
+                }
+                if literal(rest, size, kinds.literal, level) {
+                    w = past(w, size, w.left);
+                } else {
+                    w = part_check(image, &rest[..size], w, marks, widths, back);
+                    if w.left == 0 {
+                        return 0;
+                    }
+                }
             }
         }
-    }
-    cur
-}
-
-// The nodes that a helper holds: as list_check, and they are counted. A function of its own, so that list_check stays small.
-fn helper_check<'a>(
-    image: &'a [u8],
-    part: &'a [u8],
-    page: usize,
-    level: usize,
-    left: usize,
-    marks: &mut [u8; Settings::MARKS],
-    widths: &mut [u32; Settings::PAGES],
-) -> Walked
-    requires { ⌜ (level ≤ mostLevels + 1) × (left ≤ mostPages) × (length (now part) < 65536) × PassedBefore (now image) ⌝ }
-    ensures { λ r. ⌜ Shown (listOf (now (image .entry)) (now (part .entry)) page 4 level (state left (now (marks .entry))))
-        r (now (marks .exit)) (now (widths .entry)) (now (widths .exit)) ⌝ }
-{
-    let mut cur = left;
-    let mut n = 0;
-    let mut at = 0;
-    while at < part.len() {
-        if cur == 0 {
-            return Walked { left: 0, width: n };
-        }
-        let rest = &part[at..];
-        if aggregate(rest, 6, 4, level) {
-            at = at + 6;
-            n = n + 1;
-        } else {
-            let size = size_of(rest);
-            if size == 0 {
-                return Walked { left: 0, width: n };
-            }
-            if literal(rest, 4, level) {
-                at = at + size;
-                n = n + 1;
-            } else {
-                let r = node_check(image, &rest[..size], page, 4, level, cur, marks, widths);
-                cur = r.left;
-                n = n + r.width;
-                at = at + size;
-            }
-        }
-    }
-    Walked {
-        left: cur,
-        width: n,
     }
 }
 
@@ -193,28 +199,30 @@ fn helper_check<'a>(
 
 // Whether the walk from page 1, whose root is an aggregate, reaches every record page one time. It is made only where the part before it passes.
 pub fn walk_ok(image: &[u8], left: usize, widths: &mut [u32; Settings::PAGES]) -> bool
-    requires { ⌜ (lengthOk (length (now image)) ≡ true) × (beforeWalk (now image) ≡ true) × (left ≤ mostPages) ⌝ }
+    requires { ⌜ (lengthOk (length (now image)) ≡ true) × (beforeWalk (now image) ≡ true) × (1 ≤ left) × (left ≤ mostPages)
+        × (length (now widths) ≡ mostPages) ⌝ }
     ensures { λ r. ⌜ (r ≡ walkOk (now (image .entry)) left)
         × (r ≡ true → now (widths .exit) ≡ widthsAfter (walkOf (now (image .entry)) left .row) (now (widths .entry))) ⌝ }
 {
-    if image[Settings::PAGE] != 1 {
-        return false;
-    }
     if !tail_zero(image, 1) {
         return false;
     }
-    let used = used_at(image, Settings::PAGE);
-    let e = Settings::PAGE + used;
+    let e = record_end(image, 1);
+    let record = &image[Settings::PAGE..e];
+    if head(record, 0) != 1 {
+        return false;
+    }
     let mut marks = [0u8; Settings::MARKS];
+    let mut back = [0u32; Settings::PAGES];
     let r = node_check(
         image,
-        &image[Settings::PAGE..e],
-        1,
-        0,
+        record,
+        Settings::PAGE,
         1,
         left,
         &mut marks,
         widths,
+        &mut back,
     );
-    r.left == 1
+    r == 1
 }

@@ -23,5 +23,8 @@ pub mod Images
 pub mod Sound
 pub mod Exact
 pub mod Widths
+pub mod Levels
+pub mod ByKind
+pub mod Stays
 pub mod Told
 pub mod Bounds

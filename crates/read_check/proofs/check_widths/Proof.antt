@@ -35,8 +35,13 @@ walk-ok-requires c κs =
     let k = j .before .before in
     let img = now (k .before .before .before .args .image) in
     let long = passes (k .before .length-ok .ensures) (k .if1 .left) in
-    let n = j .before .trailers .ensures in
-    (long, trailers-pass img (λ q. j .if2 .left (n ∙ q)), omega (arith, n, trailers-most img, length-says (length img) long))
+    let n = j .before .trailers .ensures in (
+      long,
+      trailers-pass img (λ q. j .if2 .left (n ∙ q)),
+      omega (arith, j .if2 .left),
+      omega (arith, n, trailers-most img, length-says (length img) long),
+      k .before .before .before .pre,
+    )
 
 returns-3 : tie.Need-returns-3
 unfolding checkBy

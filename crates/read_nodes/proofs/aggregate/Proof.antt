@@ -1,7 +1,7 @@
-use mathlib.Core.Bool.{and-false}
-use borrow.Author.Needs.{needs}
 use borrow.Author.Tests.{le-leb, lt-leb, eq-eqb, ne-eqb}
+use mathlib.Core.Bool.{and-false}
 use Rattle.read_nodes.specs.Leaf.{aggregateOf}
+use borrow.Author.Needs.{needs}
 use Rattle.read_nodes.proofs.aggregate.Statement.{statement}
 use Rattle.read_nodes.proofs.aggregate.Tie as tie
 
@@ -21,8 +21,7 @@ stands-requires c κs = search needs
 
 returns-3 : tie.Need-returns-3
 unfolding aggregateOf
-returns-3 c =
-    let p2 = c .before in
+returns-3 c = let p2 = c .before in
     rw (le-leb _ _ (p2 .before .before .if1 .left), ← p2 .before .size-at .ensures .0, eq-eqb _ _ (p2 .if2 .left)) (c .stands .ensures)
 
 pub aggregate-spec : {M : Type 1} → statement M

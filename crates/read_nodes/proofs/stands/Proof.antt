@@ -1,8 +1,8 @@
-use mathlib.Core.Bool.{and-false}
-use borrow.Author.Needs.{needs}
 use borrow.Author.Tests.{le-leb, lt-leb, eq-eqb, ne-eqb}
+use mathlib.Core.Bool.{and-false}
 use Rattle.theory_check.specs.Facts.{passes, fails}
 use Rattle.read_nodes.specs.Leaf.{standsOf}
+use borrow.Author.Needs.{needs}
 use Rattle.read_nodes.proofs.stands.Statement.{statement}
 use Rattle.read_nodes.proofs.stands.Tie as tie
 
@@ -27,18 +27,25 @@ returns-3 : tie.Need-returns-3
 unfolding standsOf
 returns-3 c = simp (lt-leb _ _ (c .if3 .taken), and-false)
 
-may-stand-requires : tie.Need-may-stand-requires
-may-stand-requires c κs = search needs
-
 returns-4 : tie.Need-returns-4
 unfolding standsOf
-returns-4 c =
-    let p2 = c .before .before in
+returns-4 c = let p2 = c .before in
     let p1 = p2 .before .before in
-    let fits = passes (p2 .before .origin-fits .ensures) (p2 .if2 .left) in
-    rw (← p1 .before .wide .ensures .0, eq-eqb _ _ (p1 .if1 .left), fits, le-leb _ _ (c .before .if3 .left)) (c .may-stand .ensures)
+    simp (
+      ← p1 .before .wide .ensures .0,
+      eq-eqb _ _ (p1 .if1 .left),
+      passes (p2 .before .origin-fits .ensures) (p2 .if2 .left),
+      le-leb _ _ (c .if3 .left),
+    )
 
 pub stands-spec : {M : Type 1} → statement M
 stands-spec =
     tie.close
-    (tie.spec shared-slice-read-wide wide-requires returns origin-fits-requires returns-2 returns-3 may-stand-requires returns-4)
+    (tie.spec
+    shared-slice-read-wide
+    wide-requires
+    returns
+    origin-fits-requires
+    returns-2
+    returns-3
+    returns-4)

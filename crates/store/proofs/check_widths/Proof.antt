@@ -1,17 +1,18 @@
 -- `store::check_widths` meets its contract: the check on the bytes is the check of the rules, every byte being below 256, and its table is right.
-use mathlib.Core.Path.{sym, _∙_}
+use mathlib.Core.Path.{sym, ap, _∙_}
 use Prim.Native.Nat.{ℕ, _<_}
 use native.Mathlib.Omega.{arith}
 use borrow.Author.Needs.{needs}
 use denote.Ref.{now}
-use lib.ListN.{getD}
+use lib.ListN.{getD, length, length-replicate}
+use Rattle.model.specs.Limits.{mostPages}
 use Rattle.theory_check.specs.Exact.{exact}
 use Rattle.store.specs.Widths.{table}
 use Rattle.store.proofs.check_widths.Statement.{statement}
 use Rattle.store.proofs.check_widths.Tie as tie
 
 check-widths-requires : tie.Need-check-widths-requires
-check-widths-requires c κs = search needs
+check-widths-requires c κs = ap length (c .before .before .pre) ∙ length-replicate {A = ℕ} mostPages 0
 
 returns : tie.Need-returns
 returns c =

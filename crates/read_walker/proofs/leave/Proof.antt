@@ -1,0 +1,80 @@
+use mathlib.Core.Path.{refl}
+use denote.Ref.{now}
+use Rattle.read_walker.specs.Turns.{out-own, out-outer}
+use native.Mathlib.Omega.{arith}
+use borrow.Author.Needs.{needs}
+use Rattle.read_walker.proofs.leave.Statement.{statement}
+use Rattle.read_walker.proofs.leave.Tie as tie
+use Rattle.read_walker.proofs.leave.Reads as reads
+use Rattle.read_walker.proofs.leave.Lts as lts
+use Rattle.base_node_kinds.proofs.in_aggregate.Reads as in-aggregate-reads
+use Rattle.read_walker.proofs.record_end.Reads as record-end-reads
+
+mul-before : tie.Need-mul-before
+mul-before c = search needs
+
+element-copy-out-before : tie.Need-element-copy-out-before
+element-copy-out-before c = search needs
+
+cast-before : tie.Need-cast-before
+cast-before c = search needs
+
+sub-widths : tie.Need-sub-widths
+sub-widths c = search needs
+
+cast-widths : tie.Need-cast-widths
+cast-widths c = search needs
+
+mul-widths : tie.Need-mul-widths
+mul-widths c = search needs
+
+element-write-widths : tie.Need-element-write-widths
+element-write-widths c = search needs
+
+mul-at : tie.Need-mul-at
+mul-at c = search needs
+
+element-copy-out-at : tie.Need-element-copy-out-at
+element-copy-out-at c = search needs
+
+cast-at : tie.Need-cast-at
+cast-at c = let s = c .before .before .before .before .before in omega (arith, s .pre .6, s .good)
+
+sub-depth : tie.Need-sub-depth
+sub-depth c = search needs
+
+in-aggregate-requires : tie.Need-in-aggregate-requires
+in-aggregate-requires c κs = search needs
+
+returns : tie.Need-returns
+returns c =
+    let a = c .before .before .before .before .before .before .before .before .args in
+    (out-own (now (a .image)) (a .w) (a .last) _ _ (c .in-aggregate .ensures) (c .before .if1 .taken), refl)
+
+record-end-requires : tie.Need-record-end-requires
+record-end-requires c κs = c .before .before .before .before .before .before .before .pre .7 (c .if1 .left)
+
+returns-2 : tie.Need-returns-2
+returns-2 c =
+    let a = c .before .before .before .before .before .before .before .before .args in
+    (out-outer (now (a .image)) (a .w) (a .last) _ _ (c .record-end .ensures) (c .before .if1 .left), refl)
+
+pub leave-spec : {M : Type 1} → statement M
+leave-spec =
+    tie.close
+    (tie.spec
+    mul-before
+    element-copy-out-before
+    cast-before
+    sub-widths
+    cast-widths
+    mul-widths
+    element-write-widths
+    mul-at
+    element-copy-out-at
+    cast-at
+    sub-depth
+    in-aggregate-requires
+    returns
+    record-end-requires
+    returns-2)
