@@ -9,7 +9,7 @@ use lib.Seq.{getD-set-same, getD-set-other, sets}
 use lib.Dec.{eqb, ltb, leb}
 use borrow.Author.Tests.{eqb-true, eqb-false, ltb-true, ltb-false, lt-ltb, leb-true, not-true}
 use Rattle.model.specs.Limits.{mostLevels, mostBytes}
-use Rattle.model.specs.Row.{Row, nil, agg, lit, rec, size, base, height}
+use Rattle.model.specs.Row.{Row, nil, agg, lit, rec, size, base, height, count}
 use Rattle.model.specs.Reading.{kindAt, headAt, sizeAt}
 use Rattle.model.specs.Tree.{width}
 use Rattle.theory_decoding.specs.Steps.{steps}
@@ -103,16 +103,22 @@ stacked-within stack room base stop level end (f ∷ fs) s =
     let b = stacked-within stack room base stop (f .level) (f .end) fs (s .1) in
     (omega (arith, a .starts, f .rest .ends), omega (arith, a .up))
 
+-- How often a page is named in what is behind them.
+unfoldable pub namedIn : {img : List ℕ} {depth : ℕ} (q : ℕ) → List (Frame img depth) → ℕ
+namedIn q [] = 0
+namedIn q (f ∷ fs) = count q (f .rest .row) + namedIn q fs
+
 -- ── the walk ──
 
 -- What a walk over a record is to come to: its nodes have the level `base` and its row ends at `stop`; records are nested at most so deep below it; `stack` is as at
--- its start, and the buffer takes `room` numbers.
+-- its start, and the buffer takes `room` numbers. What is left to walk names each page at most so often.
 pub record Goal : Type 0 where
   pub depth : ℕ
   pub base : ℕ
   pub stop : ℕ
   pub stack : List ℕ
   pub room : ℕ
+  pub names : (page : ℕ) → ℕ
   pub result : Way × ℕ
 
 pub record Going (img : List ℕ) (t : ℕ) (g : Goal) (c : Cursor) (stack out : List ℕ) : Type 0 where
@@ -124,6 +130,7 @@ pub record Going (img : List ℕ) (t : ℕ) (g : Goal) (c : Cursor) (stack out :
   pub long : length out ≡ g .room
   pub frames : List (Frame img (g .depth))
   pub stacked : Stacked stack (length out) (g .base) (g .stop) (c .level) (c .end) frames
+  pub left : (q : ℕ) → count q (rest .row) + namedIn q frames ≤ g .names q
   pub whole : resume t (reached c out) (c .level) (c .i) (rest .row) (c .n) frames ≡ g .result
   pub kept : (j : ℕ) → j < 3 * g .base → getD stack j 0 ≡ getD (g .stack) j 0
 
@@ -214,6 +221,13 @@ heights nil h = absurd (omega arith)
 heights (agg l cs rest) h = (λ k. omega arith, omega arith)
 heights (lit l c rest) h = (λ k. absurd (omega arith), omega arith)
 heights (rec p s r rest) h = (λ k. absurd (omega arith), omega arith)
+
+-- What a row names, its first node's children and the nodes behind it name.
+counts : (q : ℕ) (row : Row) → count q (kidsOf row) + count q (restOf row) ≤ count q row
+counts q nil = omega arith
+counts q (agg l cs rest) = omega arith
+counts q (lit l c rest) = omega arith
+counts q (rec p s r rest) = omega arith
 
 -- A node takes a level.
 own-height : (row : Row) → 0 < size row → (kindOf row ≡ 3 → ⊥) → 1 ≤ height row
@@ -364,6 +378,7 @@ module _ {img : List ℕ} {t : ℕ} {g : Goal} {c : Cursor} {stack out : List �
           long = keeps .long ∙ w .long;
           frames = w .frames;
           stacked = stacked-room stack _ _ _ _ _ _ (w .frames) (sym (keeps .long)) (w .stacked);
+          left = λ q. omega (arith, counts q row, w .left q);
           whole =
               sym (resume-same t (reached c out) left (c .level) (c .level) (c .i) (c .i + m) row (restOf row) (c .n) (c .n + 1) (w .frames)
               (passed e) (omega (arith, wide)))
@@ -448,7 +463,7 @@ module _ {img : List ℕ} {t : ℕ} {g : Goal} {c : Cursor} {stack out : List �
 
     pub node-entered : enters (kindAt img (c .i)) m next ≡ true
         → Going img t g (cursor (c .i + 6) (c .i + m) (c .level + 1) 0 at next) (saved stack c here) after
-    unfolding Stacked resume
+    unfolding Stacked namedIn resume
     node-entered e =
         let u = entering e in
         let w = a .going in
@@ -466,6 +481,7 @@ module _ {img : List ℕ} {t : ℕ} {g : Goal} {c : Cursor} {stack out : List �
             framed (u .room),
             stacked-room (saved stack c here) _ _ _ _ _ _ (w .frames) (sym (keeps .long)) (stacked-kept stack (saved stack c here) _ _ _ _ _ (w .frames) saved-below (w .stacked)),
           );
+          left = λ q. omega (arith, counts q row, w .left q);
           whole =
               sym (resume-same t (reached c out) _ (c .level) (c .level) (c .i) (c .i + m) row (restOf row) (c .n) (c .n + 1) (w .frames)
               (entered-way u) (omega (arith, wide)))
@@ -486,16 +502,18 @@ module _ {img : List ℕ} {t : ℕ} {g : Goal} {c : Cursor} {stack out : List �
     frames : List (Frame img (g .depth))
     framed : Framed stack (length out) (c .level) (c .end) frame
     stacked : Stacked stack (length out) (g .base) (g .stop) (frame .level) (frame .end) frames
+    left : (q : ℕ) → count q (frame .rest .row) + namedIn q frames ≤ g .names q
     whole : resume t (reached c out) (c .level) (c .i) (w .rest .row) (c .n) (frame ∷ frames) ≡ g .result
 
   closing : (w : Going img t g c stack out) → g .base < c .level → Closing w
-  unfolding Stacked
-  closing w h = go (w .frames) (w .stacked) (w .whole)
+  unfolding Stacked namedIn
+  closing w h = go (w .frames) (w .stacked) (w .left) (w .whole)
     where
       go : (fs : List (Frame img (g .depth))) → Stacked stack (length out) (g .base) (g .stop) (c .level) (c .end) fs
+          → ((q : ℕ) → count q (w .rest .row) + namedIn q fs ≤ g .names q)
           → resume t (reached c out) (c .level) (c .i) (w .rest .row) (c .n) fs ≡ g .result → Closing w
-      go [] s q = absurd (omega (arith, s .0))
-      go (f ∷ fs) s q = record { frame = f; frames = fs; framed = s .0; stacked = s .1; whole = q }
+      go [] s l q = absurd (omega (arith, s .0))
+      go (f ∷ fs) s l q = record { frame = f; frames = fs; framed = s .0; stacked = s .1; left = λ p. omega (arith, l p); whole = q }
 
 module _ {img : List ℕ} {t : ℕ} {g : Goal} {c : Cursor} {stack out : List ℕ} (a : AtEnd img t g c stack out) where
   abbrev last : Closing (a .going)
@@ -547,6 +565,7 @@ module _ {img : List ℕ} {t : ℕ} {g : Goal} {c : Cursor} {stack out : List �
         long = long ∙ w .long;
         frames = u .frames;
         stacked = stacked-room stack _ _ _ _ _ _ (u .frames) (sym long) (u .stacked);
+        left = u .left;
         whole =
             ap (λ (v : Way). resume t v (f .level) (f .pos) (f .rest .row) (f .n) (u .frames))
             (e ∙ (λ j. patch (closed-here j) (counted z j) (met-none z j)))

@@ -18,6 +18,7 @@ use Rattle.model.specs.Calls.Check.{checkOf}
 use Rattle.model.specs.Calls.Walk.{joined, entriesOf, walkAnswer, walkFrom, walkIn, walkOf}
 use Rattle.model.specs.declared.Place.{Place}
 use Rattle.model.specs.declared.WalkAnswer.{WalkAnswer}
+use Rattle.theory_rows.specs.Image.{once}
 use Rattle.theory_decoding.specs.Reading.{reads-valid}
 use Rattle.theory_decoding.specs.Steps.{few-steps}
 use Rattle.theory_places.specs.Order.{lone-root}
@@ -29,7 +30,7 @@ use Rattle.read_next.specs.Scan.{NodeOf, Located, store-of}
 use Rattle.read_next.specs.Read.{some-from}
 use Rattle.read_cursor.specs.Way.{Met, Way, way, begin, begin-on, told, told-written, told-full, visit, visits, visits-keeps, visits-stopped}
 use Rattle.read_cursor.specs.Meets.{meets}
-use Rattle.read_entries.specs.Nested.{Recorded}
+use Rattle.read_entries.specs.Records.{Rooted}
 use Rattle.read_entries.specs.Told.{placed, Each, Tells, tells-all, fromPos, tells-from, each-take, each-drop, each-length, entries-of}
 
 abbrev entryList : List Met → List ℕ
@@ -167,7 +168,7 @@ module _ (root : Row) (t : ℕ) (out : List ℕ) where
 -- ── the root's record ──
 
 pub root-recorded : (img : List ℕ) (st : Config) (root : Row) → Reads img st root
-    → (w : Recorded img 1 1 mostPages) × ((startOn img 1 ≡ pageSize) × (w .rowed .row ≡ root))
+    → (w : Rooted img) × ((startOn img 1 ≡ pageSize) × (w .recorded .rowed .row ≡ root))
 root-recorded img st root r =
     let v = reads-valid img st root r in
     let o = root-page img st root r in
@@ -181,15 +182,17 @@ root-recorded img st root r =
       ends = omega arith;
       deep = root-nesting img st root r;
       few = omega (arith, few-steps st root v, v .ranges .many);
-    } in
-    (record { on = o .here .on; rowed = rowed; tall = omega (arith, v .levels) }, (omega arith, refl))
+    } in (
+      record { recorded = record { on = o .here .on; rowed = rowed; tall = omega (arith, v .levels) }; once = λ q. omega (arith, once st root v q) },
+      (omega arith, refl),
+    )
   where
     base-none : base root ≡ 0
     base-none = rw (lone-root st root (reads-valid img st root r))
 
 -- A walk over it.
 pub root-met : (img : List ℕ) (st : Config) (root : Row) (r : Reads img st root) (t : ℕ) (w v : Way)
-    → v ≡ visits t w (meets 1 (startOn img 1) (root-recorded img st root r .0 .rowed .row)) → v ≡ visits t w (meets 1 pageSize root)
+    → v ≡ visits t w (meets 1 (startOn img 1) (root-recorded img st root r .0 .recorded .rowed .row)) → v ≡ visits t w (meets 1 pageSize root)
 root-met img st root r t w v e =
     let p = root-recorded img st root r .1 in
     e ∙ (λ i. visits t w (meets 1 (p .0 i) (p .1 i)))

@@ -1,4 +1,5 @@
 pub mod Literals
 pub mod Nested
+pub mod Records
 pub mod Told
 pub mod Answer

@@ -1,25 +1,25 @@
 -- A walk over a record: its start, the records that its proxies stand for, and its end.
 use mathlib.Core.Path.{_≡_, refl, sym, ap, subst, _∙_}
-use mathlib.Core.Bool.{Bool, true, false, _||_, true≢false}
+use mathlib.Core.Bool.{cond}
 use mathlib.Core.List.{List, [], _∷_}
 use Prim.Native.Nat.{ℕ, _+_, _*_, _-_, _≤_, _<_}
 use native.Mathlib.Omega.{arith}
 use lib.ListN.{length, getD}
-use lib.Dec.{ltb}
-use borrow.Author.Tests.{ltb-false}
+use lib.Dec.{eqb}
 use Rattle.model.specs.Limits.{mostLevels, mostPages, mostBytes, pageSize}
-use Rattle.model.specs.Row.{rec, size, base, height}
+use Rattle.model.specs.Row.{rec, size, base, height, count}
 use Rattle.model.specs.Reading.{kindAt, nameAt}
 use Rattle.model.specs.Tree.{width}
+use Rattle.theory_rows.specs.Bound.{depth}
+use Rattle.theory_rows.specs.Keeps.{depth-height}
 use Rattle.theory_decoding.specs.Steps.{steps}
 use Rattle.theory_layout.specs.Here.{PageIn}
 use Rattle.theory_layout.specs.Widths.{Widths}
 use Rattle.read_find.specs.Rowed.{Rowed, startOn, endOn, Entered, enter, width-steps}
 use Rattle.read_cursor.specs.Way.{Way, way, Fair, kept-fair, visits, visits-++, visits-keeps, visits-stopped}
 use Rattle.read_cursor.specs.Meets.{meets, meets-none}
-use Rattle.read_cursor.specs.Going.{cursor, reached, Frame, resume, resume-same, Stacked, stacked-kept, stacked-room, stacked-within, Goal, Going, AtNode, AtEnd, row-none}
+use Rattle.read_cursor.specs.Going.{cursor, reached, Frame, resume, resume-same, Stacked, stacked-kept, stacked-room, stacked-within, namedIn, Goal, Going, AtNode, AtEnd, row-none}
 use Rattle.read_cursor.specs.declared.Cursor.{Cursor}
-use Rattle.read_entries.specs.declared.Walked.{Walked}
 
 -- The record on a page, whose nodes have the level, with records nested at most `depth` deep below it.
 pub record Recorded (img : List ℕ) (page level depth : ℕ) : Type 0 where
@@ -27,17 +27,10 @@ pub record Recorded (img : List ℕ) (page level depth : ℕ) : Type 0 where
   pub rowed : Rowed img (startOn img page) (endOn img page) depth
   pub tall : level + height (rowed .row) ≤ mostLevels + 1
 
--- What a walk over it does.
-pub record Done {img : List ℕ} {page level depth : ℕ} (w : Recorded img page level depth) (t at next : ℕ) (stack out : List ℕ) (r : Walked)
-    (after left : List ℕ) : Type 0 where
-  pub way-is : way (r .at) (r .next) left ≡ visits t (way at next out) (meets level (startOn img page) (w .rowed .row))
-  pub wide : r .width ≡ width (w .rowed .row)
-  pub kept : (j : ℕ) → j < 3 * level → getD after j 0 ≡ getD stack j 0
-  pub sized : length after ≡ 75
+-- ── its start ──
 
--- ── its start and its end ──
-
-module _ {img : List ℕ} {page level depth : ℕ} (w : Recorded img page level depth) (t at next : ℕ) (stack out : List ℕ) where
+module _ {img : List ℕ} {page level depth : ℕ} (w : Recorded img page level depth) (t at next n : ℕ) (stack out : List ℕ) where
+  -- n nodes are counted before it.
   abbrev pub goal : Goal
   goal = record {
     depth = depth;
@@ -45,54 +38,35 @@ module _ {img : List ℕ} {page level depth : ℕ} (w : Recorded img page level 
     stop = endOn img page;
     stack = stack;
     room = length out;
-    result = (visits t (way at next out) (meets level (startOn img page) (w .rowed .row)), 0 + width (w .rowed .row));
+    names = λ q. count q (w .rowed .row);
+    result = (visits t (way at next out) (meets level (startOn img page) (w .rowed .row)), n + width (w .rowed .row));
   }
 
-  pub going-start : Fair (way at next out) → length stack ≡ 75 → Going img t goal (cursor (startOn img page) (endOn img page) level 0 at next) stack out
-  unfolding Stacked resume
-  going-start fair sized = record {
+  pub going-start : Fair (way at next out) → length stack ≡ 75 → n + steps (w .rowed .row) ≤ mostBytes
+      → Going img t goal (cursor (startOn img page) (endOn img page) level n at next) stack out
+  unfolding Stacked namedIn resume
+  going-start fair sized few = record {
     rest = w .rowed;
     tall = w .tall;
     fair = fair;
-    few = omega (arith, w .rowed .few);
+    few = few;
     sized = sized;
     long = refl;
     frames = [];
     stacked = (refl, refl);
+    left = λ q. omega arith;
     whole = refl;
     kept = λ j h. refl;
   }
 
-  pub going-end : {c : Cursor} {after left : List ℕ} → Going img t goal c after left → c .end ≤ c .i → c .level ≤ level
-      → Done w t at next stack out (record { at = c .at; next = c .next; width = c .n }) after left
-  unfolding Stacked resume visits
-  going-end {c} {after} {left} x h k = go (x .frames) (x .stacked) (x .whole)
-    where
-      z : size (x .rest .row) ≡ 0
-      z = omega (arith, x .rest .ends)
-
-      go : (fs : List (Frame img depth)) → Stacked after (length left) level (endOn img page) (c .level) (c .end) fs
-          → resume t (reached c left) (c .level) (c .i) (x .rest .row) (c .n) fs ≡ goal .result
-          → Done w t at next stack out (record { at = c .at; next = c .next; width = c .n }) after left
-      go [] s q = record {
-        way-is = sym (ap (visits t (reached c left)) (meets-none (c .level) (c .i) (x .rest .row) z)) ∙ ap (λ (p : Way × ℕ). p .0) q;
-        wide = omega (arith, row-none (x .rest .row) z, ap (λ (p : Way × ℕ). p .1) q);
-        kept = x .kept;
-        sized = x .sized;
-      }
-      go (f ∷ fs) s q = absurd (omega (arith, s .0 .up, stacked-within after (length left) level (endOn img page) (f .level) (f .end) fs (s .1) .1))
-
-pub same-walked : {img : List ℕ} {page level depth : ℕ} {w : Recorded img page level depth} {t at next : ℕ} {stack out : List ℕ} {r s : Walked} {after left : List ℕ}
-    → r ≡ s → Done w t at next stack out s after left → Done w t at next stack out r after left
-same-walked {w = w} {t} {at} {next} {stack} {out} {after = after} {left} e d = subst (λ (x : Walked). Done w t at next stack out x after left) (sym e) d
-
 -- ── where a walk is ──
 
 module _ {img : List ℕ} {t : ℕ} {g : Goal} {c : Cursor} {stack out : List ℕ} (w : Going img t g c stack out) where
-  pub within : (c .i ≤ c .end) × (c .end ≤ g .stop) × (g .base ≤ c .level)
+  pub within : (c .i ≤ c .end) × (c .end < mostBytes) × (g .base ≤ c .level)
   within =
+      let x = w .rest .here in
       let s = stacked-within stack (length out) (g .base) (g .stop) (c .level) (c .end) (w .frames) (w .stacked) in
-      (omega (arith, w .rest .ends), s .0, s .1)
+      (omega (arith, w .rest .ends), omega (arith, w .rest .ends, x .room, x .on .high), s .1)
 
   pub at-some : (c .i ≡ c .end → ⊥) → c .i < c .end
   at-some z = omega (arith, within .0)
@@ -103,14 +77,28 @@ module _ {img : List ℕ} {t : ℕ} {g : Goal} {c : Cursor} {stack out : List �
   pub at-node : (c .i ≡ c .end → ⊥) → (kindAt img (c .i) ≡ 3 → ⊥) → AtNode img t g c stack out
   at-node z k = record { going = w; some = at-some z; plain = k }
 
-  -- Nothing is left to do.
-  pub at-last : (ltb (c .i) (c .end) || ltb (g .base) (c .level)) ≡ false → (c .end ≤ c .i) × (c .level ≤ g .base)
-  at-last e = go (ltb (c .i) (c .end)) (ltb (g .base) (c .level)) refl refl e
+  -- In no aggregate of the record, and at its end: the walk over it has come to its result.
+  pub at-stop : c .level ≡ g .base → c .end ≡ g .stop
+  unfolding Stacked
+  at-stop e = go (w .frames) (w .stacked)
     where
-      go : (a b : Bool) → ltb (c .i) (c .end) ≡ a → ltb (g .base) (c .level) ≡ b → (a || b) ≡ false → (c .end ≤ c .i) × (c .level ≤ g .base)
-      go true b p q e = absurd (true≢false e)
-      go false true p q e = absurd (true≢false e)
-      go false false p q e = (ltb-false (c .i) (c .end) p, ltb-false (g .base) (c .level) q)
+      go : (fs : List (Frame img (g .depth))) → Stacked stack (length out) (g .base) (g .stop) (c .level) (c .end) fs → c .end ≡ g .stop
+      go [] s = s .1
+      go (f ∷ fs) s = absurd (omega (arith, s .0 .up, stacked-within stack (length out) (g .base) (g .stop) (f .level) (f .end) fs (s .1) .1))
+
+  pub at-last : c .i ≡ c .end → c .level ≡ g .base → _≡_ {A = Way × ℕ} (reached c out, c .n) (g .result)
+  unfolding Stacked resume visits
+  at-last e k = go (w .frames) (w .stacked) (w .whole)
+    where
+      z : size (w .rest .row) ≡ 0
+      z = omega (arith, w .rest .ends)
+
+      go : (fs : List (Frame img (g .depth))) → Stacked stack (length out) (g .base) (g .stop) (c .level) (c .end) fs
+          → resume t (reached c out) (c .level) (c .i) (w .rest .row) (c .n) fs ≡ g .result → _≡_ {A = Way × ℕ} (reached c out, c .n) (g .result)
+      go [] s q =
+          let none : c .n ≡ c .n + width (w .rest .row) = omega (arith, row-none (w .rest .row) z) in
+          (λ j. (visits t (reached c out) (sym (meets-none (c .level) (c .i) (w .rest .row) z) j), none j)) ∙ q
+      go (f ∷ fs) s q = absurd (omega (arith, s .0 .up, stacked-within stack (length out) (g .base) (g .stop) (f .level) (f .end) fs (s .1) .1))
 
   pub inside : c .i < c .end → (c .i < length img) × (c .i < mostBytes)
   inside h =
@@ -118,6 +106,10 @@ module _ {img : List ℕ} {t : ℕ} {g : Goal} {c : Cursor} {stack out : List �
       (omega (arith, w .rest .ends, x .room, x .on .inside), omega (arith, w .rest .ends, x .room, x .on .high))
 
 -- ── a proxy ──
+
+-- The goal of what is left, where that names pages so often.
+abbrev pub naming : Goal → (names : ℕ → ℕ) → Goal
+naming g m = record { depth = g .depth; base = g .base; stop = g .stop; stack = g .stack; room = g .room; names = m; result = g .result }
 
 module _ {img : List ℕ} {t : ℕ} {g : Goal} {c : Cursor} {stack out : List ℕ} (w : Going img t g c stack out) (some : c .i < c .end)
     (kind : kindAt img (c .i) ≡ 3) (p : ℕ) (named : p ≡ nameAt img (c .i)) where
@@ -139,12 +131,28 @@ module _ {img : List ℕ} {t : ℕ} {g : Goal} {c : Cursor} {stack out : List �
   pub named-few : c .n + width (entered .inside .row) ≤ mostBytes
   named-few = omega (arith, steps-is, w .few, width-steps (entered .inside .row))
 
+  pub named-level : c .level ≤ mostLevels
+  named-level = omega (arith, w .tall, depth-height (w .rest .row) (w .rest .here .fits), ap depth (entered .is))
+
   -- Its record,
   abbrev pub nested : Recorded img p (c .level) (g .depth - 1)
   nested = record { on = entered .on; rowed = entered .inside; tall = omega (arith, height-is, w .tall) }
 
-  -- and the row behind it, once n more nodes are counted.
-  module _ (n : ℕ) (wide : n ≡ width (entered .inside .row)) (at next : ℕ) (after left : List ℕ)
+  abbrev pub inner : Goal
+  inner = goal nested t (c .at) (c .next) (c .n) stack out
+
+  pub going-in : Going img t inner (cursor (startOn img p) (endOn img p) (c .level) (c .n) (c .at) (c .next)) stack out
+  going-in = going-start nested t (c .at) (c .next) (c .n) stack out (w .fair) (w .sized) (omega (arith, steps-is, w .few))
+
+  -- and what is behind it.
+  abbrev pub outer : Goal
+  outer = naming g (λ q. count q (entered .after .row) + namedIn q (w .frames))
+
+  pub names-both : (q : ℕ) → cond (eqb q p) 1 0 + inner .names q + outer .names q ≤ g .names q
+  names-both q = omega (arith, w .left q, ap (count q) (entered .is))
+
+  -- Once it is walked, and the count is n.
+  module _ (n : ℕ) (wide : n ≡ c .n + width (entered .inside .row)) (at next : ℕ) (after left : List ℕ)
       (walked : way at next left ≡ visits t (reached c out) (meets (c .level) (startOn img p) (entered .inside .row)))
       (below : (j : ℕ) → j < 3 * c .level → getD after j 0 ≡ getD stack j 0) (sized : length after ≡ 75) where
     met-both : visits t (reached c out) (meets (c .level) (c .i) (w .rest .row)) ≡ visits t (way at next left) (meets (c .level) (c .i + 8) (entered .after .row))
@@ -157,8 +165,8 @@ module _ {img : List ℕ} {t : ℕ} {g : Goal} {c : Cursor} {stack out : List �
         ∙ (λ j. visits t (visits t (reached c out) (meets (c .level) (sym (entered .starts) j) a)) (meets (c .level) (c .i + 8) b))
         ∙ (λ j. visits t (sym walked j) (meets (c .level) (c .i + 8) b))
 
-    pub proxy-passed : Going img t g (cursor (c .i + 8) (c .end) (c .level) (c .n + n) at next) after left
-    proxy-passed =
+    proxy-passed : (m : ℕ → ℕ) → ((q : ℕ) → outer .names q ≤ m q) → Going img t (naming g m) (cursor (c .i + 8) (c .end) (c .level) n at next) after left
+    proxy-passed m fewer =
         let k = visits-keeps t (reached c out) (meets (c .level) (startOn img p) (entered .inside .row)) (w .fair) in
         let long : length left ≡ length out = ap (λ (v : Way). length (v .out)) walked ∙ k .long in
         let base-low = stacked-within stack (length out) (g .base) (g .stop) (c .level) (c .end) (w .frames) (w .stacked) in
@@ -171,20 +179,25 @@ module _ {img : List ℕ} {t : ℕ} {g : Goal} {c : Cursor} {stack out : List �
           long = long ∙ w .long;
           frames = w .frames;
           stacked = stacked-room after _ _ _ _ _ _ (w .frames) (sym long) (stacked-kept stack after _ _ _ _ _ (w .frames) below (w .stacked));
+          left = fewer;
           whole =
-              sym (resume-same t (reached c out) (way at next left) (c .level) (c .level) (c .i) (c .i + 8) (w .rest .row) (entered .after .row) (c .n) (c .n + n)
+              sym (resume-same t (reached c out) (way at next left) (c .level) (c .level) (c .i) (c .i + 8) (w .rest .row) (entered .after .row) (c .n) n
               (w .frames) met-both (omega (arith, entered .wide, wide)))
               ∙ w .whole;
           kept = λ j h. below j (omega (arith, base-low)) ∙ w .kept j h;
         }
 
-  -- By a walk over its record, or, where the walk has stopped, by the table's number of its nodes.
-  pub proxy-walked : {r : Walked} {after left : List ℕ} → Done nested t (c .at) (c .next) stack out r after left
-      → Going img t g (cursor (c .i + 8) (c .end) (c .level) (c .n + r .width) (r .at) (r .next)) after left
-  proxy-walked {r} {after} {left} d = proxy-passed (r .width) (d .wide) (r .at) (r .next) after left (d .way-is) (d .kept) (d .sized)
+  -- Once a walk over its record has come to its result,
+  pub proxy-walked : {n at next : ℕ} {after left : List ℕ} → _≡_ {A = Way × ℕ} (way at next left, n) (inner .result)
+      → ((j : ℕ) → j < 3 * c .level → getD after j 0 ≡ getD stack j 0) → length after ≡ 75
+      → Going img t outer (cursor (c .i + 8) (c .end) (c .level) n at next) after left
+  proxy-walked {n} {at} {next} {after} {left} e below sized =
+      proxy-passed n (ap (λ (p : Way × ℕ). p .1) e) at next after left (ap (λ (p : Way × ℕ). p .0) e) below sized (outer .names) (λ q. omega arith)
 
+  -- or, where the walk has stopped, by the table's number of its nodes.
   pub proxy-stopped : (table : List ℕ) → Widths img table → (c .next ≡ 0 → ⊥)
       → Going img t g (cursor (c .i + 8) (c .end) (c .level) (c .n + getD table p 0) (c .at) (c .next)) stack out
   proxy-stopped table told z =
-      proxy-passed (getD table p 0) (entered .told table told) (c .at) (c .next) stack out
+      proxy-passed (c .n + getD table p 0) (ap (λ (n : ℕ). c .n + n) (entered .told table told)) (c .at) (c .next) stack out
       (sym (visits-stopped t (reached c out) (meets (c .level) (startOn img p) (entered .inside .row)) (w .fair .begun z) z)) (λ j h. refl) (w .sized)
+      (g .names) (λ q. omega (arith, names-both q))

@@ -13,27 +13,22 @@ use read_find::row_end;
 use read_find::row_start;
 use read_next::node_at;
 ghost use mathlib.Core.Path.{_≡_};
-ghost use mathlib.Core.Bool.{true, cond, _||_};
+ghost use mathlib.Core.Bool.{true, cond};
 ghost use mathlib.Core.List.{List};
-ghost use Prim.Native.Nat.{ℕ, _+_, _≤_, _<_};
-ghost use lib.ListN.{length};
-ghost use lib.Dec.{eqb, ltb};
+ghost use Prim.Native.Nat.{ℕ, _+_, _/_, _≤_, _<_};
+ghost use lib.ListN.{length, set};
+ghost use lib.Dec.{eqb};
+ghost use Rattle.model.specs.Limits.{mostPages, mostLevels, pageSize};
 ghost use Rattle.model.specs.Calls.Check.{checkOf};
 ghost use Rattle.model.specs.Calls.Walk.{walkOf};
 ghost use Rattle.theory_layout.specs.Here.{PageIn};
 ghost use Rattle.theory_layout.specs.Widths.{Widths};
 ghost use Rattle.read_find.specs.Rowed.{startOn, endOn};
-ghost use Rattle.read_cursor.specs.Way.{way, Fair};
-ghost use Rattle.read_cursor.specs.Going.{cursor, Goal, Going, writes as writesOf};
+ghost use Rattle.read_cursor.specs.Way.{way, visits};
+ghost use Rattle.read_cursor.specs.Meets.{meets};
+ghost use Rattle.read_cursor.specs.Going.{cursor, reached, Goal, Going, writes as writesOf};
 ghost use Rattle.read_entries.specs.Literals.{literalNext};
-ghost use Rattle.read_entries.specs.Nested.{Recorded, Done};
-
-// What a walk over a record leaves, with the number of nodes that the record shows.
-pub struct Walked {
-    pub at: usize,
-    pub next: usize,
-    pub width: usize,
-}
+ghost use Rattle.read_entries.specs.Records.{Rooted, inner, heldIn, stopOf, Leaving, behindOf, outer};
 
 // Whether there is room for an entry, and it is to be written.
 fn writes(c: Cursor, room: usize) -> bool
@@ -116,108 +111,181 @@ fn run(
     c
 }
 
+// ── from record to record ──
+
+// The records that a walk is in: the nodes of the innermost have the level `base`. `depth` of them are nested, and number `since` is the first whose nodes have
+// that level: its proxy stands in an aggregate, those of the records inside it do not.
+struct Nest {
+    base: usize,
+    depth: usize,
+    since: usize,
+}
+
 // Behind a proxy, whose record shows n nodes.
-fn behind(c: Cursor, at: usize, next: usize, n: usize) -> Cursor
+fn behind(c: Cursor, n: usize) -> Cursor
     requires { ⌜ (c .i < 4194304) × (c .n + n ≤ 4194304) ⌝ }
-    ensures { λ r. ⌜ r ≡ cursor (c .i + 8) (c .end) (c .level) (c .n + n) at next ⌝ }
+    ensures { λ r. ⌜ r ≡ cursor (c .i + 8) (c .end) (c .level) (c .n + n) (c .at) (c .next) ⌝ }
 {
     Cursor {
         i: c.i + 8,
         end: c.end,
         level: c.level,
         n: c.n + n,
-        at: at,
-        next: next,
+        at: c.at,
+        next: c.next,
     }
 }
 
-// Whether a walk over a record whose nodes have the level has more to do: nodes to pass, or aggregates to come out of.
-fn goes_on(c: Cursor, level: usize) -> bool
-    ensures { λ r. ⌜ r ≡ (ltb (c .i) (c .end) || ltb level (c .level)) ⌝ }
-{
-    if c.i < c.end {
-        return true;
-    }
-    level < c.level
-}
-
-// At the first node of the record on a page.
-fn first(image: &[u8], page: usize, level: usize, at: usize, next: usize) -> Cursor
+// At the first node of the record on a page. The count goes on from the row in which its proxy stands.
+fn first(image: &[u8], page: usize, level: usize, n: usize, at: usize, next: usize) -> Cursor
     requires { ⌜ PageIn (now image) page ⌝ }
-    ensures { λ r. ⌜ r ≡ cursor (startOn (now (image .entry)) page) (endOn (now (image .entry)) page) level 0 at next ⌝ }
+    ensures { λ r. ⌜ r ≡ cursor (startOn (now (image .entry)) page) (endOn (now (image .entry)) page) level n at next ⌝ }
 {
     Cursor {
         i: row_start(image, page),
         end: row_end(image, page),
         level: level,
-        n: 0,
+        n: n,
         at: at,
         next: next,
     }
 }
 
-// At the end of a record.
-fn finished(c: Cursor) -> Walked
-    ensures { λ r. ⌜ r ≡ record { at = c .at; next = c .next; width = c .n } ⌝ }
+// Into the record on page p, whose proxy is at the cursor: `back` keeps where its row goes on behind it. Where that is the row of an aggregate, `held` keeps
+// its end, and what the walk is in without the record.
+fn into_record(
+    c: Cursor,
+    w: Nest,
+    p: usize,
+    back: &mut [u32; Settings::PAGES],
+    held: &mut [usize; STACK],
+) -> Nest
+    requires { ⌜ (c .i < 4194304) × (p < mostPages) × (c .level ≤ mostLevels) × (w .depth < mostPages) ⌝ }
+    ensures nest { λ r. ⌜ r ≡ inner c w ⌝ }
+    ensures back { λ _. ⌜ now (back .exit) ≡ set (now (back .entry)) p (c .i + 8) ⌝ }
+    ensures held { λ _. ⌜ now (held .exit) ≡ heldIn c w (now (held .entry)) ⌝ }
 {
-    Walked {
-        at: c.at,
-        next: c.next,
-        width: c.n,
+    let level = c.level;
+    let depth = w.depth + 1;
+    back[p] = (c.i + 8) as u32;
+    if level == w.base {
+        return Nest {
+            base: level,
+            depth: depth,
+            since: w.since,
+        };
+    }
+    let k = 3 * level;
+    held[k] = c.end;
+    held[k + 1] = w.base;
+    held[k + 2] = w.since;
+    Nest {
+        base: level,
+        depth: depth,
+        since: depth,
     }
 }
 
-// A walk over the record on a page. What its proxies stand for is walked where they stand; once the walk has stopped, `widths` has how many nodes each record
-// shows.
-fn walk_record(
+// Where the row ends in which the proxy stands, once the walk is behind it, at byte i: it is an aggregate's, or the whole row of a record.
+fn row_stop(image: &[u8], i: usize, level: usize, w: Nest, held: &[usize; STACK]) -> usize
+    requires { ⌜ (level ≤ mostLevels) × ((w .depth ≡ w .since → ⊥) → PageIn (now image) (i / pageSize)) ⌝ }
+    ensures { λ r. ⌜ r ≡ stopOf (now (image .entry)) i level w (now (held .entry)) ⌝ }
+{
+    if w.depth == w.since {
+        return held[3 * level];
+    }
+    row_end(image, i / Settings::PAGE)
+}
+
+// Out of the record at whose end the cursor is: behind its proxy,
+fn behind_record(
+    image: &[u8],
+    c: Cursor,
+    w: Nest,
+    back: &[u32; Settings::PAGES],
+    held: &[usize; STACK],
+) -> Cursor
+    requires { ⌜ Leaving (now image) c w (now back) ⌝ }
+    ensures { λ r. ⌜ r ≡ behindOf (now (image .entry)) c w (now (back .entry)) (now (held .entry)) ⌝ }
+{
+    let page = c.i / Settings::PAGE;
+    let i = back[page] as usize;
+    Cursor {
+        i: i,
+        end: row_stop(image, i, c.level, w, held),
+        level: c.level,
+        n: c.n,
+        at: c.at,
+        next: c.next,
+    }
+}
+
+// in what is around it.
+fn around(c: Cursor, w: Nest, held: &[usize; STACK]) -> Nest
+    requires { ⌜ (c .level ≤ mostLevels) × (1 ≤ w .depth) ⌝ }
+    ensures { λ r. ⌜ r ≡ outer c w (now (held .entry)) ⌝ }
+{
+    let depth = w.depth - 1;
+    if w.depth == w.since {
+        let k = 3 * c.level;
+        return Nest {
+            base: held[k + 1],
+            depth: depth,
+            since: held[k + 2],
+        };
+    }
+    Nest {
+        base: w.base,
+        depth: depth,
+        since: w.since,
+    }
+}
+
+// A walk over the record on page 1 and all records below it, each where its proxy stands; once the walk has stopped, `widths` has how many nodes each shows.
+fn walk_records(
     image: &[u8],
     widths: &[u32; Settings::PAGES],
-    page: usize,
-    level: usize,
-    depth: usize,
     target: usize,
-    stack: &mut [usize; STACK],
     out: &mut [u32],
-    at: usize,
-    next: usize,
-) -> Walked
-    requires { ⌜ Recorded (now image) page level depth × Widths (now image) (now widths) × Fair (way at next (now out)) × (length (now stack) ≡ 75) ⌝ }
-    ensures { λ r. ⌜ ((w : Recorded (now (image .entry)) page level depth)
-        → Done w target at next (now (stack .entry)) (now (out .entry)) r (now (stack .exit)) (now (out .exit))) ⌝ }
+) -> Cursor
+    requires { ⌜ Rooted (now image) × Widths (now image) (now widths) ⌝ }
+    ensures { λ r. ⌜ ((w : Rooted (now (image .entry))) → reached r (now (out .exit))
+        ≡ visits target (way 0 0 (now (out .entry))) (meets 1 (startOn (now (image .entry)) 1) (w .recorded .rowed .row))) ⌝ }
 {
-    let mut c = first(image, page, level, at, next);
-    while goes_on(c, level) {
-        let d = run(image, c, level, stack, out);
+    let mut stack = [0usize; STACK];
+    let mut held = [0usize; STACK];
+    let mut back = [0u32; Settings::PAGES];
+    let mut c = first(image, 1, 1, 0, 0, 0);
+    let mut w = Nest {
+        base: 1,
+        depth: 0,
+        since: 0,
+    };
+    loop {
+        let d = run(image, c, w.base, &mut stack, out);
         let i = d.i;
         if i == d.end {
-            if d.level == level {
-                return finished(d);
+            if d.level != w.base {
+                c = close(d, &stack, out);
+            } else {
+                if w.depth == 0 {
+                    return d;
+                }
+                c = behind_record(image, d, w, &back, &held);
+                w = around(d, w, &held);
             }
-            c = close(d, stack, out);
         } else if image[i] != 3 {
-            c = node(image, d, target, stack, out);
+            c = node(image, d, target, &mut stack, out);
         } else {
             let p = name_at(image, i);
             if d.next != 0 {
-                c = behind(d, d.at, d.next, widths[p] as usize);
+                c = behind(d, widths[p] as usize);
             } else {
-                let r = walk_record(
-                    image,
-                    widths,
-                    p,
-                    d.level,
-                    depth - 1,
-                    target,
-                    stack,
-                    out,
-                    d.at,
-                    d.next,
-                );
-                c = behind(d, r.at, r.next, r.width);
+                w = into_record(d, w, p, &mut back, &mut held);
+                c = first(image, p, d.level, d.n, d.at, d.next);
             }
         }
     }
-    finished(c)
 }
 
 // ── the call ──
@@ -249,19 +317,7 @@ pub fn walk_of(
             next: Place { page: 0, offset: 0 },
         };
     }
-    let mut stack = [0usize; STACK];
-    let r = walk_record(
-        image,
-        widths,
-        1,
-        1,
-        Settings::PAGES,
-        target,
-        &mut stack,
-        out,
-        0,
-        0,
-    );
+    let r = walk_records(image, widths, target, out);
     let next = r.next;
     WalkAnswer {
         number: 0,

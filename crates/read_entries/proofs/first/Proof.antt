@@ -12,7 +12,7 @@ row-end-requires c κs = search needs
 returns : tie.Need-returns
 returns c =
     let a = c .before .before .before .args in
-    λ j. cursor (c .before .row-start .ensures j) (c .row-end .ensures j) (a .level) 0 (a .at) (a .next)
+    λ j. cursor (c .before .row-start .ensures j) (c .row-end .ensures j) (a .level) (a .n) (a .at) (a .next)
 
 pub first-spec : {M : Type 1} → statement M
 first-spec = tie.close (tie.spec row-start-requires row-end-requires returns)

@@ -1,9 +1,8 @@
--- `read_entries::walk_of`: the record on page 1 is the whole tree.
-use mathlib.Core.Path.{refl, ap, _∙_}
+-- `read_entries::walk_of`: the record on page 1, with those below it, is the whole tree.
+use mathlib.Core.Path.{ap, _∙_}
 use mathlib.Core.List.{List}
 use Prim.Native.Nat.{ℕ, _-_, _/_}
 use native.Mathlib.Omega.{arith}
-use lib.ListN.{length-replicate}
 use borrow.Author.Needs.{needs}
 use Rattle.model.specs.declared.WalkAnswer.{WalkAnswer}
 use Rattle.read_next.specs.Scan.{store-of}
@@ -21,24 +20,20 @@ returns c =
     let q = walk-stray (e .args .image .now) (e .args .x) (e .args .out .now) _ (e .pre .0) (c .before .node-at .ensures) (c .if1 .taken) in
     (ap (λ (o : WalkAnswer × List ℕ). o .0) q, ap (λ (o : WalkAnswer × List ℕ). o .1) q)
 
-walk-record-requires : tie.Need-walk-record-requires
-walk-record-requires c κs =
-    let e = c .before .before .before .before .before .before in
-    let s = store-of (e .args .image .now) (e .pre .0) in (
-      root-recorded (e .args .image .now) (s .settings) (s .root) (s .reads) .0,
-      e .pre .1,
-      record { low = omega arith; begun = λ z. absurd (z refl) },
-      length-replicate {A = ℕ} 75 0,
-    )
+walk-records-requires : tie.Need-walk-records-requires
+walk-records-requires c κs =
+    let e = c .before .before .before .before .before in
+    let s = store-of (e .args .image .now) (e .pre .0) in
+    (root-recorded (e .args .image .now) (s .settings) (s .root) (s .reads) .0, e .pre .1)
 
-sub-t14 : tie.Need-sub-t14
-sub-t14 c =
-    let e = c .before .before .before .before .before .before .before .before .before .before in
+sub-t12 : tie.Need-sub-t12
+sub-t12 c =
+    let e = c .before .before .before .before .before .before .before .before .before in
     let s = store-of (e .args .image .now) (e .pre .0) in
     let w = root-recorded (e .args .image .now) (s .settings) (s .root) (s .reads) .0 in
-    let d = c .before .before .before .walk-record .ensures w in
-    let node = c .before .before .before .before .before .before .before .node-at .ensures .found (omega (arith, c .before .before .before .before .before .before .if1 .left)) in
-    let met = root-met (e .args .image .now) (s .settings) (s .root) (s .reads) _ _ _ (d .way-is) in
+    let d = c .before .before .before .walk-records .ensures w in
+    let node = c .before .before .before .before .before .before .node-at .ensures .found (omega (arith, c .before .before .before .before .before .if1 .left)) in
+    let met = root-met (e .args .image .now) (s .settings) (s .root) (s .reads) _ _ _ d in
     walk-on (e .args .image .now) (e .args .x) (e .args .out .now) _ node (s .settings) (s .root) (s .reads) _ _ _ met
 
 follows-requires : tie.Need-follows-requires
@@ -49,17 +44,18 @@ same-length c = search needs
 
 returns-2 : tie.Need-returns-2
 returns-2 c =
-    let e = c .before .before .before .before .before .before .before .before .before .before .before in
+    let e = c .before .before .before .before .before .before .before .before .before .before in
     let s = store-of (e .args .image .now) (e .pre .0) in
     let w = root-recorded (e .args .image .now) (s .settings) (s .root) (s .reads) .0 in
-    let d = c .before .before .before .before .walk-record .ensures w in
-    let node = c .before .before .before .before .before .before .before .before .node-at .ensures .found (omega (arith, c .before .before .before .before .before .before .before .if1 .left)) in
-    let met = root-met (e .args .image .now) (s .settings) (s .root) (s .reads) _ _ _ (d .way-is) in
-    let q = walk-told (e .args .image .now) (e .args .x) (e .args .out .now) _ node (s .settings) (s .root) (s .reads) _ _ _ met in (
-      ap (λ (n : ℕ). record { number = 0; written = (c .before .before .before .before .walk-record .result .at - 1) / 9; more = n; next = placed (c .before .before .before .before .walk-record .result .next) }) (c .follows .ensures)
+    let d = c .before .before .before .before .walk-records .ensures w in
+    let node = c .before .before .before .before .before .before .before .node-at .ensures .found (omega (arith, c .before .before .before .before .before .before .if1 .left)) in
+    let met = root-met (e .args .image .now) (s .settings) (s .root) (s .reads) _ _ _ d in
+    let q = walk-told (e .args .image .now) (e .args .x) (e .args .out .now) _ node (s .settings) (s .root) (s .reads) _ _ _ met in
+    let r = c .before .before .before .before .walk-records .result in (
+      ap (λ (n : ℕ). record { number = 0; written = (r .at - 1) / 9; more = n; next = placed (r .next) }) (c .follows .ensures)
           ∙ ap (λ (o : WalkAnswer × List ℕ). o .0) q,
       ap (λ (o : WalkAnswer × List ℕ). o .1) q,
     )
 
 pub walk-of-spec : {M : Type 1} → statement M
-walk-of-spec = tie.close (tie.spec node-at-requires returns walk-record-requires sub-t14 follows-requires same-length returns-2)
+walk-of-spec = tie.close (tie.spec node-at-requires returns walk-records-requires sub-t12 follows-requires same-length returns-2)
