@@ -1,3 +1,4 @@
 pub mod Rows
 pub mod Nodes
 pub mod Steps
+pub mod Root

@@ -10,10 +10,18 @@ use read_marks::tail_zero;
 use read_nodes::head;
 use read_nodes::size_of;
 ghost use mathlib.Core.Path.{_≡_};
+ghost use mathlib.Core.Bool.{true};
 ghost use Prim.Native.Nat.{_+_, _≤_};
-ghost use Rattle.model.specs.Limits.{mostLevels};
+ghost use lib.ListN.{length};
+ghost use Rattle.model.specs.Limits.{mostPages, mostLevels, pageSize};
+ghost use Rattle.model.specs.Reading.{usedAt};
 ghost use Rattle.theory_check.specs.Check.{PassedBefore};
-ghost use Rattle.read_fault_walk.specs.Rows.{Within, Holds, rowAt, stopsAt, Leads, LeadsTo, recordOn, proxyTo, insideOf, stoppedAt, walkOf, Ends};
+ghost use Rattle.theory_check.specs.Marks.{IsMarks};
+ghost use Rattle.read_fault_walk.specs.Rows.{Within, Holds, recordEnd, rowAt, stopsAt, Rooted, Opened, Into, Leads, LeadsTo, recordOn, proxyTo};
+ghost use Rattle.read_fault_walk.specs.Rows.{insideOf, nextOf, Sized, firstOf, walkedTo, stoppedAt, walkOf, recordWalk, Ends, Stays};
+
+// A proxy's bytes.
+const PROXY: usize = 8;
 
 const PAST_LENGTH: u32 = 5;
 
@@ -27,14 +35,14 @@ const BAD_PROXY: u32 = 8;
 
 // A row of nodes: its bytes, the kind of what holds them, their level, and what is left to be reached; or, if the reason is not 0, the page in which the
 // walk stops. A row's page is the one that it starts in.
-pub struct Inner {
-    pub start: usize,
-    pub stop: usize,
-    pub kind: usize,
-    pub level: usize,
-    pub left: usize,
-    pub page: usize,
-    pub reason: u32,
+struct Inner {
+    start: usize,
+    stop: usize,
+    kind: usize,
+    level: usize,
+    left: usize,
+    page: usize,
+    reason: u32,
 }
 
 fn stops(page: usize, reason: u32) -> Inner
@@ -66,9 +74,9 @@ fn row(start: usize, stop: usize, holder: usize, level: usize, left: usize) -> I
 }
 
 // The record of page p, if its root may be one: a row of one node, which takes all of the length used.
-pub fn record_row(image: &[u8], root_ok: bool, p: usize, level: usize, left: usize) -> Inner
+fn record_row(image: &[u8], root_ok: bool, p: usize, level: usize, left: usize) -> Inner
     requires { ⌜ Holds (now image) p × (level ≤ mostLevels + 1) ⌝ }
-    ensures { λ r. ⌜ LeadsTo (now (image .entry)) (recordOn (now (image .entry)) «root_ok» p level left) r ⌝ }
+    ensures { λ r. ⌜ LeadsTo (now (image .entry)) (recordOn (now (image .entry)) «root_ok» p level left) (Rooted (now (image .entry)) p level left r) r ⌝ }
 {
     if !root_ok {
         return stops(p, BAD_NODE);
@@ -95,7 +103,8 @@ fn proxy_row(
     marks: &mut [u8; Settings::MARKS],
 ) -> Inner
     requires { ⌜ PassedBefore (now image) × (level ≤ mostLevels + 1) ⌝ }
-    ensures { λ r. ⌜ Leads (now (image .entry)) (proxyTo (now (image .entry)) p page level left) (now (marks .entry)) (now (marks .exit)) r ⌝ }
+    ensures { λ r. ⌜ Leads (now (image .entry)) (proxyTo (now (image .entry)) p page level left)
+        (Opened (now (image .entry)) p level left (now (marks .entry)) (now (marks .exit)) r) (now (marks .entry)) (now (marks .exit)) r ⌝ }
 {
     if !names(image, p, page) {
         return stops(page, BAD_PROXY);
@@ -121,7 +130,8 @@ fn inside(
     marks: &mut [u8; Settings::MARKS],
 ) -> Inner
     requires { ⌜ PassedBefore (now image) × Within (now image) i next holder level × (i + 6 ≤ next) ⌝ }
-    ensures { λ r. ⌜ Leads (now (image .entry)) (insideOf (now (image .entry)) i next holder level left) (now (marks .entry)) (now (marks .exit)) r ⌝ }
+    ensures { λ r. ⌜ Leads (now (image .entry)) (insideOf (now (image .entry)) i next holder level left)
+        (Into (now (image .entry)) i next holder level left (now (marks .entry)) (now (marks .exit)) r) (now (marks .entry)) (now (marks .exit)) r ⌝ }
 {
     let page = i / Settings::PAGE;
     let part = &image[i..next];
@@ -130,7 +140,7 @@ fn inside(
         return stops(page, BAD_NODE);
     }
     if kind == 3 {
-        if part.len() != 8 {
+        if part.len() != PROXY {
             return stops(page, BAD_NODE);
         }
         return proxy_row(image, name_at(part, 0), page, level, left, marks);
@@ -145,6 +155,29 @@ fn inside(
         return row(next, next, 2, level, left);
     }
     row(i + 6, next, 1, level + 1, left)
+}
+
+// What the first node of the row from i to stop leads into.
+fn first(
+    image: &[u8],
+    i: usize,
+    stop: usize,
+    holder: usize,
+    level: usize,
+    left: usize,
+    marks: &mut [u8; Settings::MARKS],
+) -> Inner
+    requires { ⌜ PassedBefore (now image) × Within (now image) i stop holder level × (i ≤ stop) ⌝ }
+    ensures { λ r. ⌜ Leads (now (image .entry)) (firstOf (now (image .entry)) i stop holder level left)
+        (Into (now (image .entry)) i (nextOf (now (image .entry)) i stop) holder level left (now (marks .entry)) (now (marks .exit)) r
+        × Sized (now (image .entry)) i stop)
+        (now (marks .entry)) (now (marks .exit)) r ⌝ }
+{
+    let n = size_of(&image[i..stop]);
+    if n == 0 {
+        return stops(i / Settings::PAGE, BAD_NODE);
+    }
+    inside(image, i, i + n, holder, level, left, marks)
 }
 
 // ── the walk ──
@@ -166,52 +199,126 @@ fn stopped(page: usize, reason: u32) -> Walked
     }
 }
 
-// The nodes of a row, each followed by the row that it leads into. The row of its last node takes its place, so that a nested record costs one call at most.
-pub fn row_walk(
-    image: &[u8],
-    mut start: usize,
-    mut stop: usize,
-    mut holder: usize,
-    mut level: usize,
-    mut left: usize,
-    mut fuel: usize,
-    marks: &mut [u8; Settings::MARKS],
-) -> Walked
-    requires { ⌜ PassedBefore (now image) × Within (now image) start stop holder level ⌝ }
-    ensures { λ r. ⌜ Ends (walkOf fuel (now (image .entry)) start stop holder level left) (now (marks .entry)) (now (marks .exit)) r ⌝ }
+fn went(left: usize) -> Walked
+    ensures { λ r. ⌜ r ≡ walkedTo left ⌝ }
 {
-    while start < stop {
-        if fuel == 0 {
-            return stopped(start / Settings::PAGE, BAD_NODE);
-        }
-        fuel = fuel - 1;
-        let n = size_of(&image[start..stop]);
-        if n == 0 {
-            return stopped(start / Settings::PAGE, BAD_NODE);
-        }
-        let next = start + n;
-        let x = inside(image, start, next, holder, level, left, marks);
-        if x.reason != 0 {
-            return stopped(x.page, x.reason);
-        }
-        if next == stop {
-            start = x.start;
-            stop = x.stop;
-            holder = x.kind;
-            level = x.level;
-            left = x.left;
-            continue;
-        }
-        let r = row_walk(image, x.start, x.stop, x.kind, x.level, x.left, fuel, marks);
-        if r.reason != 0 {
-            return r;
-        }
-        start = next;
-        left = r.left;
-    }
     Walked {
         left: left,
         page: 0,
         reason: 0,
     }
+}
+
+// Where the record on page p ends.
+fn record_end(image: &[u8], p: usize) -> usize
+    requires { ⌜ Holds (now image) p ⌝ }
+    ensures { λ r. ⌜ r ≡ recordEnd (now (image .entry)) p ⌝ }
+{
+    let a = Settings::PAGE * p;
+    a + used_at(image, a)
+}
+
+// Whether a row that ends at `end` is the last of the call's own, so that its nodes may take its place.
+fn last_own(depth: usize, end: usize, stop: usize) -> bool
+    ensures { λ r. ⌜ (r ≡ true → (depth ≡ 0) × (end ≡ stop)) ⌝ }
+{
+    if depth != 0 {
+        return false;
+    }
+    end == stop
+}
+
+// The nodes of a row, each followed by the row that it leads into. The walk goes into the record of a proxy and comes back out of it: `depth` is how many
+// records it is in, and `back` keeps for the page of each where in the image the row goes on behind its proxy. So only levels cost a call, and the last
+// aggregate of the call's own row takes its place instead.
+fn row_walk(
+    image: &[u8],
+    start: usize,
+    stop: usize,
+    mut holder: usize,
+    mut level: usize,
+    left: usize,
+    marks: &mut [u8; Settings::MARKS],
+    back: &mut [u32; Settings::PAGES],
+) -> Walked
+    requires { ⌜ PassedBefore (now image) × Within (now image) start stop holder level × (start ≤ stop) × (holder ≡ 0 → ⊥)
+        × IsMarks (now marks) × (length (now back) ≡ mostPages) ⌝ }
+    ensures { λ r. ⌜ Ends (walkOf (now (image .entry)) start stop holder level left) (now (marks .entry)) (now (marks .exit)) r
+        × Stays left (now (marks .entry)) (now (back .entry)) (now (marks .exit)) (now (back .exit)) r ⌝ }
+{
+    let mut at = start;
+    let mut end = stop;
+    let mut kind = holder;
+    let mut rest = left;
+    let mut depth: usize = 0;
+    loop {
+        if at == end {
+            if depth == 0 {
+                return went(rest);
+            }
+            at = back[at / Settings::PAGE] as usize;
+            depth = depth - 1;
+            // A proxy stands in the call's own row, or in a helper's.
+            if depth == 0 {
+                end = stop;
+                kind = holder;
+            } else {
+                end = record_end(image, at / Settings::PAGE);
+                kind = 4;
+            }
+        } else {
+            let x = first(image, at, end, kind, level, rest, marks);
+            if x.reason != 0 {
+                return stopped(x.page, x.reason);
+            }
+            if x.kind == 0 {
+                back[x.start / Settings::PAGE] = (at + PROXY) as u32;
+                depth = depth + 1;
+                rest = x.left;
+                kind = 0;
+                at = x.start;
+                end = x.stop;
+            } else if x.kind == 4 {
+                // A helper is its record's only node, so the row ends where it did.
+                kind = 4;
+                at = x.start;
+            } else if x.start == x.stop {
+                // A literal, or an aggregate without nodes.
+                at = x.stop;
+            } else if last_own(depth, x.stop, stop) {
+                holder = 1;
+                level = x.level;
+                kind = 1;
+                at = x.start;
+            } else {
+                let r = row_walk(image, x.start, x.stop, 1, x.level, rest, marks, back);
+                if r.reason != 0 {
+                    return r;
+                }
+                at = x.stop;
+                rest = r.left;
+            }
+        }
+    }
+}
+
+// The walk from page 1, whose root is an aggregate.
+pub fn record_walk(image: &[u8], left: usize, marks: &mut [u8; Settings::MARKS]) -> Walked
+    requires { ⌜ PassedBefore (now image) × Holds (now image) 1 × (1 ≤ usedAt (now image) pageSize) × IsMarks (now marks) ⌝ }
+    ensures { λ r. ⌜ Ends (recordWalk (now (image .entry)) left) (now (marks .entry)) (now (marks .exit)) r ⌝ }
+{
+    if image[Settings::PAGE] != 1 {
+        return stopped(1, BAD_NODE);
+    }
+    let x = record_row(image, true, 1, 1, left);
+    if x.reason != 0 {
+        return stopped(x.page, x.reason);
+    }
+    let a = x.start;
+    let e = x.stop;
+    if head(&image[a..e], 0) != 1 {
+        return stopped(1, BAD_NODE);
+    }
+    let mut back = [0u32; Settings::PAGES];
+    row_walk(image, a + 6, e, 1, 2, left, marks, &mut back)
 }

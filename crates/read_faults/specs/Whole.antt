@@ -2,29 +2,30 @@
 use mathlib.Core.Path.{_≡_, refl, sym, ap, _∙_}
 use mathlib.Core.Bool.{Bool, true, false, cond}
 use mathlib.Core.List.{List, []}
-use Prim.Native.Nat.{ℕ, _+_, _-_, _*_, _<_}
+use Prim.Native.Nat.{ℕ, _+_, _-_, _*_, _≤_, _<_}
 use native.Mathlib.Omega.{arith}
 use lib.ListN.{length, getD, replicate}
 use lib.Dec.{eqb}
 use borrow.Author.Tests.{eq-eqb, ne-eqb, eqb-true, eqb-false}
 use Rattle.model.specs.Limits.{pageSize, markBytes}
-use Rattle.model.specs.Reading.{lengthOk, kindAt, pageOf}
+use Rattle.model.specs.Reading.{lengthOk, usedAt, kindAt, pageOf}
 use Rattle.model.specs.BeforeWalk.{settingsOk, pagesFit, pageCount, beforeWalk}
-use Rattle.model.specs.Calls.Diagnose.{fault, noFault, settingsReason, pagesFault, notReached, into, rowWalk, unreached, walkEnd, recordCount, walkFault}
+use Rattle.model.specs.Calls.Diagnose.{fault, noFault, been, settingsReason, pagesFault, notReached, unreached, walkEnd, recordCount, walkFault}
 use Rattle.model.specs.Calls.Diagnose.{faultOf, diagnosis, diagnoseOf}
 use Rattle.model.specs.Calls.Check.{checkOf}
 use Rattle.model.specs.Answers.{notPassed}
 use Rattle.theory_decoding.specs.Valid.{both as and-both}
 use Rattle.theory_check.specs.Check.{trailersOf, checkBy}
-use Rattle.theory_check.specs.Before.{first-used, used-fits, trailers-are}
+use Rattle.theory_check.specs.Before.{first-used, used-fits, trailers-are, trailers-most}
 use Rattle.theory_check.specs.Exact.{exact}
+use Rattle.theory_faults.specs.Fuel.{record-fuel}
 use Rattle.theory_faults.specs.Reached.{Matches, matches-none}
 use Rattle.theory_faults.specs.Stages.{count-is, pages-stage}
+use Rattle.theory_faults.specs.Tests.{record-some, record-long}
 use Rattle.theory_faults.specs.Exact.{no-fault, some-fault}
 use Rattle.theory_decoding.specs.Length.{length-says}
-use Rattle.read_fault_walk.specs.declared.Inner.{Inner}
 use Rattle.read_fault_walk.specs.declared.Walked.{Walked}
-use Rattle.read_fault_walk.specs.Rows.{Holds, innerOf, LeadsTo, recordOn, Ended, walkOf, Ends}
+use Rattle.read_fault_walk.specs.Rows.{Holds, recordOn, Ended, recordWalk, Ends}
 use Rattle.read_faults.specs.Answer.{answer}
 
 -- ── before the walk ──
@@ -43,25 +44,27 @@ count-trailers img e = trailers-are img e ∙ sym (count-is img (pageCount img -
 
 -- ── the walk ──
 
-abbrev fuelOf : List ℕ → ℕ
-fuelOf img = 16384 * (1 + pageCount img)
+module _ (img : List ℕ) (l : lengthOk (length img) ≡ true) (passed : beforeWalk img ≡ true) where
+  few : 2 ≤ pageCount img
+  few = length-says (length img) l .few
 
-module _ (img : List ℕ) (n : ℕ) (is : n ≡ recordCount img (pageCount img - 1) 1) (x : Inner)
-    (l : LeadsTo img (recordOn img (eqb (kindAt img pageSize) 1) 1 1 n) x) where
-  begun : walkFault img ≡ walkEnd img (into (innerOf img x []) (rowWalk (fuelOf img) img))
-  unfolding walkFault recordOn
-  begun = rw (← is) (ap (λ w. walkEnd img (into w (rowWalk (fuelOf img) img))) (l .1 []))
+  -- the record of page 1 has some bytes
+  pub first-some : 1 ≤ usedAt img pageSize
+  first-some = omega (arith, record-some img 1 passed (omega arith) few (first-used img few passed))
 
-  pub root-stops : (x .reason ≡ 0 → ⊥) → walkFault img ≡ fault 3 (x .page) (x .reason)
-  root-stops z = begun ∙ rw (ne-eqb (x .reason) 0 z)
-
-  module _ (z : x .reason ≡ 0) {r : Walked} {m : List ℕ}
-      (e : Ends (walkOf (fuelOf img) img (x .start) (x .stop) (x .kind) (x .level) (x .left)) (replicate markBytes 0) m r) where
-    ended : Ended (walkOf (fuelOf img) img (x .start) (x .stop) (x .kind) (x .level) (x .left) []) r m
+  module _ (n : ℕ) (is : n ≡ recordCount img (pageCount img - 1) 1) {r : Walked} {m : List ℕ}
+      (e : Ends (recordWalk img n) (replicate markBytes 0) m r) where
+    ended : Ended (recordWalk img n []) r m
     ended = e [] matches-none
 
-    walked : walkFault img ≡ walkEnd img (walkOf (fuelOf img) img (x .start) (x .stop) (x .kind) (x .level) (x .left) [])
-    walked = begun ∙ rw (eq-eqb (x .reason) 0 z)
+    -- the definition's fuel is enough
+    walked : walkFault img ≡ walkEnd img (recordWalk img n [])
+    unfolding walkFault recordOn
+    walked =
+        let h = first-holds img l passed in
+        rw (← is)
+        (ap (walkEnd img) (record-fuel (16384 * (1 + pageCount img)) img (eqb (kindAt img pageSize) 1) 1 1 (been n [])
+        (omega (arith, record-long img 1 (h .on) (h .used), h .used, is, count-trailers img passed, trailers-most img))))
 
     pub walk-stops : (r .reason ≡ 0 → ⊥) → walkFault img ≡ fault 3 (r .page) (r .reason)
     walk-stops s = walked ∙ rw (ended .same, ne-eqb (r .reason) 0 s)

@@ -2,8 +2,7 @@
 use base_ranges::length_ok;
 use model::Diagnosis;
 use model::Settings;
-use read_fault_walk::record_row;
-use read_fault_walk::row_walk;
+use read_fault_walk::record_walk;
 use read_marks::is_marked;
 use read_pages::page_state;
 use read_pages::settings_ok;
@@ -34,9 +33,6 @@ const BAD_TRAILER: u32 = 3;
 const FREE_NOT_ZERO: u32 = 4;
 
 const NOT_REACHED: u32 = 9;
-
-// Turns for each page, and for one page more: more than any image can use.
-const FUEL: usize = 16384;
 
 // ── answers ──
 
@@ -155,22 +151,8 @@ fn walk_fault(image: &[u8], left: usize) -> Diagnosis
     ensures { λ r. ⌜ r ≡ answer (walkFault (now (image .entry))) ⌝ }
 {
     let pages = image.len() / Settings::PAGE;
-    let x = record_row(image, image[Settings::PAGE] == 1, 1, 1, left);
-    if x.reason != 0 {
-        return fault(3, x.page, x.reason);
-    }
     let mut marks = [0u8; Settings::MARKS];
-    let fuel = FUEL * (1 + pages);
-    let r = row_walk(
-        image,
-        x.start,
-        x.stop,
-        x.kind,
-        x.level,
-        x.left,
-        fuel,
-        &mut marks,
-    );
+    let r = record_walk(image, left, &mut marks);
     if r.reason != 0 {
         return fault(3, r.page, r.reason);
     }

@@ -1,180 +1,296 @@
--- `read_fault_walk::row_walk`: the walk comes to what it comes to from the byte at hand on. The measure of the recursion is the fuel. cN is c N places before.
-use mathlib.Core.Path.{refl}
-use mathlib.Core.List.{List}
+-- `read_fault_walk::row_walk`: what is left, done from the byte at hand, comes to the call's walk. Pages to reach fall, then bytes.
+-- cN is c N places before; f is where `first` has returned, e where an aggregate with nodes is met.
 use native.Mathlib.Omega.{arith}
-use Prim.Native.Nat.{ℕ, _+_, _≤_, _<_}
+use lib.ListN.{getD}
+use denote.Ref.{now}
+use Prim.Native.Nat.{ℕ, _+_, _-_, _*_, _/_, _<_}
 use borrow.Author.Needs.{needs}
 use borrow.Fn.Kinds.{In}
 use borrow.Fn.PlainCycle.{Measures, is, falls, and}
-use Rattle.theory_faults.specs.Reached.{Matches}
-use Rattle.read_fault_walk.specs.Rows.{Within, walkOf}
-use Rattle.read_fault_walk.specs.Nodes.{within-rest, within-front, within-long}
-use Rattle.read_fault_walk.specs.Steps.{Going, sized, going-end, going-out, going-bad, turn-stops, turn-last, turn-halts, turn-on}
+use Rattle.model.specs.Limits.{pageSize}
+use Rattle.read_fault_walk.specs.Steps.{Going, Out, callOf, going-start, going-stays, halt-stays, stop-stays, going-end, going-out, going-stops, forth, entered}
+use Rattle.read_fault_walk.specs.Steps.{going-empty, going-helper, going-record, going-last, deeper-row, deeper-end, deeper-marks, deeper-falls}
+use Rattle.read_fault_walk.specs.Steps.{going-halts, going-aggregate}
 use Rattle.read_fault_walk.proofs.row_walk.Reads as row-walk
 use Rattle.read_fault_walk.proofs.row_walk.Kinds as row-walk-kinds
 use Rattle.read_fault_walk.proofs.+row_walk.Lts-row_walk as row-walk-lts
-use Rattle.read_fault_walk.proofs.inside.Reads as inside-reads
+use Rattle.read_fault_walk.proofs.first.Reads as first-reads
+use Rattle.read_fault_walk.proofs.last_own.Reads as last-own-reads
+use Rattle.read_fault_walk.proofs.record_end.Reads as record-end-reads
 use Rattle.read_fault_walk.proofs.stopped.Reads as stopped-reads
-use Rattle.read_nodes.proofs.size_of.Reads as size-of-reads
+use Rattle.read_fault_walk.proofs.went.Reads as went-reads
 use Rattle.read_fault_walk.proofs.+row_walk.{statement}
 use Rattle.read_fault_walk.proofs.+row_walk.Tie.{close}
 
-abbrev μ-row-walk : Measures 2 row-walk-kinds.ps ℕ
-μ-row-walk κs a = a .1 .1 .1 .1 .1 .1 .0
+abbrev μ-row-walk : Measures 3 row-walk-kinds.ps ℕ
+μ-row-walk κs a = 8192 * a .1 .1 .1 .1 .1 .0 + (a .1 .1 .0 - a .1 .0)
 
-abbrev row-walk-at : ℕ → In 2 row-walk-kinds.ps
-row-walk-at t = and 2 row-walk-kinds.ps (is 2 row-walk-kinds.ps μ-row-walk t) row-walk.Pre
+abbrev row-walk-at : ℕ → In 3 row-walk-kinds.ps
+row-walk-at t = and 3 row-walk-kinds.ps (is 3 row-walk-kinds.ps μ-row-walk t) row-walk.Pre
 
-abbrev row-walk-below : ℕ → In 2 row-walk-kinds.ps
-row-walk-below t = and 2 row-walk-kinds.ps (falls 2 row-walk-kinds.ps _<_ μ-row-walk t) row-walk.Pre
+abbrev row-walk-below : ℕ → In 3 row-walk-kinds.ps
+row-walk-below t = and 3 row-walk-kinds.ps (falls 3 row-walk-kinds.ps _<_ μ-row-walk t) row-walk.Pre
 
 abbrev claims : ℕ → row-walk-lts.Claims
 claims t = (
+  went-reads.Asked,
+  went-reads.Learnt,
+  record-end-reads.Asked,
+  record-end-reads.Learnt,
+  first-reads.Asked,
+  first-reads.Learnt,
   stopped-reads.Asked,
   stopped-reads.Learnt,
-  size-of-reads.Asked,
-  size-of-reads.Learnt,
-  inside-reads.Asked,
-  inside-reads.Learnt,
+  last-own-reads.Asked,
+  last-own-reads.Learnt,
   row-walk-below t,
   row-walk.Post,
 )
 
 abbrev Inv-loop : row-walk-lts.InvT-loop
-Inv-loop image start₀ stop₀ holder₀ level₀ left₀ fuel₀ marks₀ start stop holder level left fuel marks =
-    Within image start stop holder level × (fuel ≤ fuel₀)
-    × ((reached : List ℕ) → Matches marks₀ reached
-    → Going image (walkOf fuel₀ image start₀ stop₀ holder₀ level₀ left₀ reached) start stop holder level left fuel marks)
+Inv-loop image start stop holder₀ level₀ left marks₀ back₀ at₀ end₀ kind₀ rest₀ depth₀ holder level marks back at end kind rest depth =
+    Going image (callOf start stop holder₀ level₀ left marks₀ back₀) marks back holder level at end kind rest depth
 
+-- Falls also where the walk comes out of a record: a row is shorter than a page.
 abbrev μ-loop : row-walk-lts.MeasureT-loop
-μ-loop image start₀ stop₀ holder₀ level₀ left₀ fuel₀ marks₀ start stop holder level left fuel marks = fuel
+μ-loop image start stop holder₀ level₀ left marks₀ back₀ at₀ end₀ kind₀ rest₀ depth₀ holder level marks back at end kind rest depth =
+    8192 * rest + 4096 * depth + (end - at)
 
--- The size of the node at hand.
-here : (t : ℕ) (c : row-walk-lts.Else2 (claims t) (row-walk-at t) row-walk.Post Inv-loop μ-loop)
-    → let l = c .before .before .before .before .before .loop in
-    (6 ≤ c .before .size-of .result) × (l .start + c .before .size-of .result ≤ l .stop)
-here t c =
-    let c5 = c .before .before .before .before .before in
-    sized (c5 .loop .inv .0) _ (c .before .size-of .ensures) (c .if2 .left)
+-- Out of a record.
+out-at : (t : ℕ) (c : row-walk-lts.Else2 (claims t) (row-walk-at t) row-walk.Post Inv-loop μ-loop)
+    → let l = c .before .before .loop in
+    let a = c .before .before .before .before .args in
+    Out (now (a .image)) (callOf (a .start) (a .stop) (a .holder) (a .level) (a .left) (now (a .marks)) (now (a .back))) (l .marks) (l .back)
+    (l .holder) (l .level) (getD (l .back) (l .at / pageSize) 0) (l .rest) (l .depth - 1)
+out-at t c = going-out (c .before .before .loop .inv) (c .before .if1 .taken) (c .if2 .left)
 
 row-walk-loop-holds : (t : ℕ) → row-walk-lts.Need-loop-holds (claims t) (row-walk-at t) row-walk.Post Inv-loop μ-loop
-row-walk-loop-holds t c = (c .before .pre .1 .1, omega arith, λ ps k. record { reached = ps; matches = k; same = refl })
+row-walk-loop-holds t c =
+    let p = c .before .pre .1 in
+    going-start _ _ _ (p .1) (p .2) (p .3) (p .4) (p .5)
+
+row-walk-went-requires : (t : ℕ) → row-walk-lts.Need-went-requires (claims t) (row-walk-at t) row-walk.Post Inv-loop μ-loop
+row-walk-went-requires t c κs = search needs
+
+row-walk-returns : (t : ℕ) → row-walk-lts.Need-returns (claims t) (row-walk-at t) row-walk.Post Inv-loop μ-loop
+row-walk-returns t c =
+    let now = c .before .before .before .loop .inv in
+    (going-end now (c .before .before .if1 .taken) (c .before .if2 .taken) (c .went .ensures), going-stays now (c .went .ensures))
+
+row-walk-mul-at : (t : ℕ) → row-walk-lts.Need-mul-at (claims t) (row-walk-at t) row-walk.Post Inv-loop μ-loop
+row-walk-mul-at t c =
+    let c2 = c .before .before in
+    omega (arith, c2 .loop .inv .row .on, c2 .before .before .pre .1 .0)
+
+row-walk-element-copy-out-at : (t : ℕ) → row-walk-lts.Need-element-copy-out-at (claims t) (row-walk-at t) row-walk.Post Inv-loop μ-loop
+row-walk-element-copy-out-at t c =
+    let c2 = c .before .before in
+    omega (arith, c2 .loop .inv .row .on, c2 .before .before .pre .1 .0, c2 .loop .inv .long)
+
+row-walk-cast-at : (t : ℕ) → row-walk-lts.Need-cast-at (claims t) (row-walk-at t) row-walk.Post Inv-loop μ-loop
+row-walk-cast-at t c = omega (arith, out-at t (c .before) .fits, c .before .before .before .before .before .good)
+
+row-walk-sub-depth : (t : ℕ) → row-walk-lts.Need-sub-depth (claims t) (row-walk-at t) row-walk.Post Inv-loop μ-loop
+row-walk-sub-depth t c = omega (arith, c .before .if2 .left)
+
+row-walk-loop-less : (t : ℕ) → row-walk-lts.Need-loop-less (claims t) (row-walk-at t) row-walk.Post Inv-loop μ-loop
+row-walk-loop-less t c =
+    let c2 = c .before .before in
+    omega (arith, out-at t c2 .own-row (c .if3 .taken) .row .fits, c2 .if2 .left)
+
+row-walk-loop-again : (t : ℕ) → row-walk-lts.Need-loop-again (claims t) (row-walk-at t) row-walk.Post Inv-loop μ-loop
+row-walk-loop-again t c = out-at t (c .before .before) .own-row (c .if3 .taken)
+
+row-walk-record-end-requires : (t : ℕ) → row-walk-lts.Need-record-end-requires (claims t) (row-walk-at t) row-walk.Post Inv-loop μ-loop
+row-walk-record-end-requires t c κs = out-at t (c .before .before) .outer (c .if3 .left)
+
+row-walk-loop-less-2 : (t : ℕ) → row-walk-lts.Need-loop-less-2 (claims t) (row-walk-at t) row-walk.Post Inv-loop μ-loop
+row-walk-loop-less-2 t c =
+    let c3 = c .before .before .before in
+    omega (arith, out-at t c3 .outer-row (c .before .if3 .left) _ (c .record-end .ensures) .row .fits, c3 .if2 .left)
+
+row-walk-loop-again-2 : (t : ℕ) → row-walk-lts.Need-loop-again-2 (claims t) (row-walk-at t) row-walk.Post Inv-loop μ-loop
+row-walk-loop-again-2 t c = out-at t (c .before .before .before) .outer-row (c .before .if3 .left) _ (c .record-end .ensures)
+
+row-walk-first-requires : (t : ℕ) → row-walk-lts.Need-first-requires (claims t) (row-walk-at t) row-walk.Post Inv-loop μ-loop
+row-walk-first-requires t c κs =
+    let c2 = c .before .before in
+    (c2 .before .before .pre .1 .0, c2 .loop .inv .row, c2 .loop .inv .within)
 
 row-walk-stopped-requires : (t : ℕ) → row-walk-lts.Need-stopped-requires (claims t) (row-walk-at t) row-walk.Post Inv-loop μ-loop
 row-walk-stopped-requires t c κs = search needs
 
-row-walk-returns : (t : ℕ) → row-walk-lts.Need-returns (claims t) (row-walk-at t) row-walk.Post Inv-loop μ-loop
-row-walk-returns t c =
-    let c3 = c .before .before .before in
-    λ ps k. going-out (c3 .loop .inv .2 ps k) (c3 .loop .inv .0) (c .before .before .loop-test .taken) (c .before .if1 .taken) (c .stopped .ensures)
-
-row-walk-sub-fuel : (t : ℕ) → row-walk-lts.Need-sub-fuel (claims t) (row-walk-at t) row-walk.Post Inv-loop μ-loop
-row-walk-sub-fuel t c = omega (arith, c .if1 .left)
-
-row-walk-sub-size-of : (t : ℕ) → row-walk-lts.Need-sub-size-of (claims t) (row-walk-at t) row-walk.Post Inv-loop μ-loop
-row-walk-sub-size-of t c = omega (arith, c .before .loop-test .taken)
-
-row-walk-part-size-of-start : (t : ℕ) → row-walk-lts.Need-part-size-of-start (claims t) (row-walk-at t) row-walk.Post Inv-loop μ-loop
-row-walk-part-size-of-start t c = omega (arith, c .before .loop-test .taken)
-
-row-walk-part-size-of-end : (t : ℕ) → row-walk-lts.Need-part-size-of-end (claims t) (row-walk-at t) row-walk.Post Inv-loop μ-loop
-row-walk-part-size-of-end t c = omega (arith, within-long (c .before .before .loop .inv .0))
-
-row-walk-size-of-requires : (t : ℕ) → row-walk-lts.Need-size-of-requires (claims t) (row-walk-at t) row-walk.Post Inv-loop μ-loop
-row-walk-size-of-requires t c κs = search needs
-
-row-walk-stopped-requires-2 : (t : ℕ) → row-walk-lts.Need-stopped-requires-2 (claims t) (row-walk-at t) row-walk.Post Inv-loop μ-loop
-row-walk-stopped-requires-2 t c κs = search needs
-
 row-walk-returns-2 : (t : ℕ) → row-walk-lts.Need-returns-2 (claims t) (row-walk-at t) row-walk.Post Inv-loop μ-loop
 row-walk-returns-2 t c =
-    let c4 = c .before .before .before .before in
-    let c6 = c4 .before .before in
-    λ ps k.
-    going-bad (c6 .loop .inv .2 ps k) (c6 .loop .inv .0) (c4 .before .loop-test .taken) (c4 .if1 .left) _ (c .before .before .size-of .ensures)
-    (c .before .if2 .taken) (c .stopped2 .ensures)
+    let f = c .before .before .before in
+    let now = f .before .before .before .loop .inv in
+    let here = f .before .before .if1 .left in
+    let stops = c .before .if4 .taken in
+    (going-stops now here (f .first .ensures) stops (c .stopped .ensures), stop-stays _ _ (c .stopped .ensures) stops)
 
-row-walk-add-next : (t : ℕ) → row-walk-lts.Need-add-next (claims t) (row-walk-at t) row-walk.Post Inv-loop μ-loop
-row-walk-add-next t c =
-    let c5 = c .before .before .before .before .before in
-    omega (arith, here t c, within-long (c5 .loop .inv .0))
+row-walk-add-back : (t : ℕ) → row-walk-lts.Need-add-back (claims t) (row-walk-at t) row-walk.Post Inv-loop μ-loop
+row-walk-add-back t c =
+    let c7 = c .before .before .before .before .before .before .before in
+    let now = c7 .loop .inv in
+    omega (arith, now .row .fits, now .row .on, now .within, c7 .before .before .pre .1 .0)
 
-row-walk-inside-requires : (t : ℕ) → row-walk-lts.Need-inside-requires (claims t) (row-walk-at t) row-walk.Post Inv-loop μ-loop
-row-walk-inside-requires t c κs =
-    let c6 = c .before .before .before .before .before .before in
-    let h = here t (c .before) in
-    (c6 .before .before .pre .1 .0, within-front (c6 .loop .inv .0) (h .1), omega (arith, h .0))
+row-walk-cast-back : (t : ℕ) → row-walk-lts.Need-cast-back (claims t) (row-walk-at t) row-walk.Post Inv-loop μ-loop
+row-walk-cast-back t c =
+    let c7 = c .before .before .before .before .before .before .before in
+    let now = c7 .loop .inv in
+    omega (arith, now .row .fits, now .row .on, now .within, c7 .before .before .pre .1 .0)
 
-row-walk-stopped-requires-3 : (t : ℕ) → row-walk-lts.Need-stopped-requires-3 (claims t) (row-walk-at t) row-walk.Post Inv-loop μ-loop
-row-walk-stopped-requires-3 t c κs = search needs
+row-walk-mul-back : (t : ℕ) → row-walk-lts.Need-mul-back (claims t) (row-walk-at t) row-walk.Post Inv-loop μ-loop
+row-walk-mul-back t c =
+    let f = c .before .before .before .before .before in
+    let now = f .before .before .before .loop .inv in
+    let here = f .before .before .if1 .left in
+    let ok = c .before .before .before .if4 .left in
+    omega (arith, going-record now here (f .first .ensures) ok (c .before .if5 .taken) .row .on, f .before .before .before .before .before .pre .1 .0)
 
-row-walk-returns-3 : (t : ℕ) → row-walk-lts.Need-returns-3 (claims t) (row-walk-at t) row-walk.Post Inv-loop μ-loop
-row-walk-returns-3 t c =
-    let c5 = c .before .before .before .before .before in
-    let c8 = c5 .before .before .before in
-    let c10 = c8 .before .before in
-    λ ps k.
-    turn-stops (c10 .loop .inv .2 ps k) (c10 .loop .inv .0) (c8 .before .loop-test .taken) (c8 .if1 .left) _ (c5 .before .size-of .ensures)
-    (c5 .if2 .left) (c .before .before .before .inside .ensures) (c .before .if3 .taken) (c .stopped3 .ensures)
+row-walk-element-write-back : (t : ℕ) → row-walk-lts.Need-element-write-back (claims t) (row-walk-at t) row-walk.Post Inv-loop μ-loop
+row-walk-element-write-back t c =
+    let f = c .before .before .before .before .before in
+    let now = f .before .before .before .loop .inv in
+    let here = f .before .before .if1 .left in
+    let ok = c .before .before .before .if4 .left in
+    omega (arith, going-record now here (f .first .ensures) ok (c .before .if5 .taken) .row .on, f .before .before .before .before .before .pre .1 .0, now .long)
 
-row-walk-loop-less : (t : ℕ) → row-walk-lts.Need-loop-less (claims t) (row-walk-at t) row-walk.Post Inv-loop μ-loop
-row-walk-loop-less t c = omega (arith, c .before .before .before .before .before .before .before .before .if1 .left)
+row-walk-add-depth : (t : ℕ) → row-walk-lts.Need-add-depth (claims t) (row-walk-at t) row-walk.Post Inv-loop μ-loop
+row-walk-add-depth t c =
+    let f = c .before .before .before .before .before in
+    let now = f .before .before .before .loop .inv in
+    let here = f .before .before .if1 .left in
+    let ok = c .before .before .before .if4 .left in
+    omega (arith, now .fewer, entered now here (f .first .ensures) ok (c .before .if5 .taken), f .before .before .before .before .before .good)
 
-row-walk-loop-again : (t : ℕ) → row-walk-lts.Need-loop-again (claims t) (row-walk-at t) row-walk.Post Inv-loop μ-loop
-row-walk-loop-again t c =
-    let c5 = c .before .before .before .before .before in
-    let c8 = c5 .before .before .before in
-    let c10 = c8 .before .before in
-    let x = c .before .before .before .inside in (
-      x .ensures .0 (c .before .if3 .left),
-      omega (arith, c10 .loop .inv .1),
-      λ ps k.
-          turn-last (c10 .loop .inv .2 ps k) (c10 .loop .inv .0) (c8 .before .loop-test .taken) (c8 .if1 .left) _ (c5 .before .size-of .ensures)
-          (c5 .if2 .left) (x .ensures) (c .before .if3 .left) (c .if4 .taken),
-    )
+row-walk-loop-less-3 : (t : ℕ) → row-walk-lts.Need-loop-less-3 (claims t) (row-walk-at t) row-walk.Post Inv-loop μ-loop
+row-walk-loop-less-3 t c =
+    let f = c .before .before .before .before .before in
+    let now = f .before .before .before .loop .inv in
+    let here = f .before .before .if1 .left in
+    let ok = c .before .before .before .if4 .left in
+    omega (arith, going-record now here (f .first .ensures) ok (c .before .if5 .taken) .row .fits, entered now here (f .first .ensures) ok (c .before .if5 .taken))
+
+row-walk-loop-again-3 : (t : ℕ) → row-walk-lts.Need-loop-again-3 (claims t) (row-walk-at t) row-walk.Post Inv-loop μ-loop
+row-walk-loop-again-3 t c =
+    let f = c .before .before .before .before .before in
+    let now = f .before .before .before .loop .inv in
+    let here = f .before .before .if1 .left in
+    let ok = c .before .before .before .if4 .left in
+    going-record now here (f .first .ensures) ok (c .before .if5 .taken)
+
+row-walk-loop-less-4 : (t : ℕ) → row-walk-lts.Need-loop-less-4 (claims t) (row-walk-at t) row-walk.Post Inv-loop μ-loop
+row-walk-loop-less-4 t c =
+    let f = c .before .before .before .before .before .before in
+    let now = f .before .before .before .loop .inv in
+    let here = f .before .before .if1 .left in
+    let ok = c .before .before .before .before .if4 .left in
+    omega (arith, forth now here (f .first .ensures) ok (c .before .before .if5 .left) .0, going-helper now here (f .first .ensures) ok (c .if6 .taken) .within)
+
+row-walk-loop-again-4 : (t : ℕ) → row-walk-lts.Need-loop-again-4 (claims t) (row-walk-at t) row-walk.Post Inv-loop μ-loop
+row-walk-loop-again-4 t c =
+    let f = c .before .before .before .before .before .before in
+    let now = f .before .before .before .loop .inv in
+    let here = f .before .before .if1 .left in
+    let ok = c .before .before .before .before .if4 .left in
+    going-helper now here (f .first .ensures) ok (c .if6 .taken)
+
+row-walk-loop-less-5 : (t : ℕ) → row-walk-lts.Need-loop-less-5 (claims t) (row-walk-at t) row-walk.Post Inv-loop μ-loop
+row-walk-loop-less-5 t c =
+    let f = c .before .before .before .before .before .before .before .before in
+    let now = f .before .before .before .loop .inv in
+    let here = f .before .before .if1 .left in
+    let ok = c .before .before .before .before .before .before .if4 .left in
+    let none = c .before .before .before .before .if5 .left in
+    omega (arith, forth now here (f .first .ensures) ok none .1, going-empty now here (f .first .ensures) ok none (c .before .before .if6 .left) (c .if7 .taken) .within)
+
+row-walk-loop-again-5 : (t : ℕ) → row-walk-lts.Need-loop-again-5 (claims t) (row-walk-at t) row-walk.Post Inv-loop μ-loop
+row-walk-loop-again-5 t c =
+    let f = c .before .before .before .before .before .before .before .before in
+    let now = f .before .before .before .loop .inv in
+    let here = f .before .before .if1 .left in
+    let ok = c .before .before .before .before .before .before .if4 .left in
+    let none = c .before .before .before .before .if5 .left in
+    going-empty now here (f .first .ensures) ok none (c .before .before .if6 .left) (c .if7 .taken)
+
+row-walk-last-own-requires : (t : ℕ) → row-walk-lts.Need-last-own-requires (claims t) (row-walk-at t) row-walk.Post Inv-loop μ-loop
+row-walk-last-own-requires t c κs = search needs
+
+row-walk-loop-less-6 : (t : ℕ) → row-walk-lts.Need-loop-less-6 (claims t) (row-walk-at t) row-walk.Post Inv-loop μ-loop
+row-walk-loop-less-6 t c =
+    let e = c .before .before in
+    let f = e .before .before .before .before .before .before .before .before in
+    let now = f .before .before .before .loop .inv in
+    let here = f .before .before .if1 .left in
+    let ok = e .before .before .before .before .before .before .if4 .left in
+    let none = e .before .before .before .before .if5 .left in
+    let four = e .before .before .if6 .left in
+    let r = going-last now here (f .first .ensures) ok none four (e .if7 .left) (c .before .last-own .ensures (c .if8 .taken)) in
+    omega (arith, forth now here (f .first .ensures) ok none .0, r .within)
+
+row-walk-loop-again-6 : (t : ℕ) → row-walk-lts.Need-loop-again-6 (claims t) (row-walk-at t) row-walk.Post Inv-loop μ-loop
+row-walk-loop-again-6 t c =
+    let e = c .before .before in
+    let f = e .before .before .before .before .before .before .before .before in
+    let now = f .before .before .before .loop .inv in
+    let here = f .before .before .if1 .left in
+    let ok = e .before .before .before .before .before .before .if4 .left in
+    let none = e .before .before .before .before .if5 .left in
+    let four = e .before .before .if6 .left in
+    going-last now here (f .first .ensures) ok none four (e .if7 .left) (c .before .last-own .ensures (c .if8 .taken))
 
 row-walk-row-walk-requires : (t : ℕ) → row-walk-lts.Need-row-walk-requires (claims t) (row-walk-at t) row-walk.Post Inv-loop μ-loop
 row-walk-row-walk-requires t c κs =
-    let c4 = c .before .before .before .before in
-    let c9 = c4 .before .before .before .before .before in
-    let c11 = c9 .before .before in
-    let c13 = c11 .before .before in (
-      omega (arith, c9 .if1 .left, c11 .loop .inv .1, c13 .pre .0),
-      (c13 .pre .1 .0, c4 .inside .ensures .0 (c .before .before .if3 .left)),
+    let e = c .before .before .before .before in
+    let f = e .before .before .before .before .before .before .before .before in
+    let now = f .before .before .before .loop .inv in
+    let here = f .before .before .if1 .left in
+    let ok = e .before .before .before .before .before .before .if4 .left in
+    let none = e .before .before .before .before .if5 .left in
+    let four = e .before .before .if6 .left in
+    let w = deeper-row now here (f .first .ensures) ok none four (e .if7 .left) in
+    let top = f .before .before .before .before .before in (
+      omega (arith, deeper-falls now here (f .first .ensures) ok none four (e .if7 .left), top .pre .0),
+      (top .pre .1 .0, w .0, w .1, λ z. omega arith, deeper-marks now here (f .first .ensures) ok none four (e .if7 .left), now .long),
     )
 
-row-walk-returns-4 : (t : ℕ) → row-walk-lts.Need-returns-4 (claims t) (row-walk-at t) row-walk.Post Inv-loop μ-loop
-row-walk-returns-4 t c =
-    let c5 = c .before .before .before .before .before in
-    let c9 = c5 .before .before .before .before in
-    let c12 = c9 .before .before .before in
-    let c14 = c12 .before .before in
-    λ ps k.
-    turn-halts (c14 .loop .inv .2 ps k) (c14 .loop .inv .0) (c12 .before .loop-test .taken) (c12 .if1 .left) _ (c9 .before .size-of .ensures)
-    (c9 .if2 .left) (c5 .before .before .inside .ensures) (c5 .if3 .left) (c .before .before .row-walk .ensures) (c .if5 .taken)
+row-walk-returns-3 : (t : ℕ) → row-walk-lts.Need-returns-3 (claims t) (row-walk-at t) row-walk.Post Inv-loop μ-loop
+row-walk-returns-3 t c =
+    let e = c .before .before .before .before .before .before .before in
+    let f = e .before .before .before .before .before .before .before .before in
+    let now = f .before .before .before .loop .inv in
+    let here = f .before .before .if1 .left in
+    let ok = e .before .before .before .before .before .before .if4 .left in
+    let none = e .before .before .before .before .if5 .left in
+    let four = e .before .before .if6 .left in
+    let r = c .before .before .row-walk .ensures in
+    (going-halts now here (f .first .ensures) ok none four (e .if7 .left) (r .0) (c .if9 .taken), halt-stays (c .if9 .taken))
 
-row-walk-loop-less-2 : (t : ℕ) → row-walk-lts.Need-loop-less-2 (claims t) (row-walk-at t) row-walk.Post Inv-loop μ-loop
-row-walk-loop-less-2 t c =
-    let c5 = c .before .before .before .before .before in
-    let c9 = c5 .before .before .before .before in
-    omega (arith, c9 .before .before .before .if1 .left)
+row-walk-loop-less-7 : (t : ℕ) → row-walk-lts.Need-loop-less-7 (claims t) (row-walk-at t) row-walk.Post Inv-loop μ-loop
+row-walk-loop-less-7 t c =
+    let e = c .before .before .before .before .before .before .before in
+    let f = e .before .before .before .before .before .before .before .before in
+    let now = f .before .before .before .loop .inv in
+    let here = f .before .before .if1 .left in
+    let ok = e .before .before .before .before .before .before .if4 .left in
+    let none = e .before .before .before .before .if5 .left in
+    let four = e .before .before .if6 .left in
+    let r = c .before .before .row-walk .ensures in
+    let last = deeper-end now here (f .first .ensures) ok none four (e .if7 .left) in
+    omega (arith, forth now here (f .first .ensures) ok none .1, last, r .1 .less (c .if9 .left))
 
-row-walk-loop-again-2 : (t : ℕ) → row-walk-lts.Need-loop-again-2 (claims t) (row-walk-at t) row-walk.Post Inv-loop μ-loop
-row-walk-loop-again-2 t c =
-    let c5 = c .before .before .before .before .before in
-    let c9 = c5 .before .before .before .before in
-    let c12 = c9 .before .before .before in
-    let c14 = c12 .before .before in
-    let w = c14 .loop .inv .0 in (
-      within-rest w (omega arith) (here t c9 .1) _ _ (w .held) (w .low),
-      omega (arith, c14 .loop .inv .1),
-      λ ps k.
-          turn-on (c14 .loop .inv .2 ps k) w (c12 .before .loop-test .taken) (c12 .if1 .left) _ (c9 .before .size-of .ensures)
-          (c9 .if2 .left) (c5 .before .before .inside .ensures) (c5 .if3 .left) (c .before .before .row-walk .ensures) (c .if5 .left),
-    )
-
-row-walk-returns-5 : (t : ℕ) → row-walk-lts.Need-returns-5 (claims t) (row-walk-at t) row-walk.Post Inv-loop μ-loop
-row-walk-returns-5 t c = λ ps k. going-end (c .before .loop .inv .2 ps k) (c .loop-test .left) refl refl
+row-walk-loop-again-7 : (t : ℕ) → row-walk-lts.Need-loop-again-7 (claims t) (row-walk-at t) row-walk.Post Inv-loop μ-loop
+row-walk-loop-again-7 t c =
+    let e = c .before .before .before .before .before .before .before in
+    let f = e .before .before .before .before .before .before .before .before in
+    let now = f .before .before .before .loop .inv in
+    let here = f .before .before .if1 .left in
+    let ok = e .before .before .before .before .before .before .if4 .left in
+    let none = e .before .before .before .before .if5 .left in
+    let four = e .before .before .if6 .left in
+    let r = c .before .before .row-walk .ensures in
+    going-aggregate now here (f .first .ensures) ok none four (e .if7 .left) (r .0) (r .1) (c .if9 .left)
 
 pub +row-walk-spec : {M : Type 1} → statement M
 +row-walk-spec = close μ-row-walk λ t. row-walk-lts.spec (claims t)
@@ -183,23 +299,35 @@ pub +row-walk-spec : {M : Type 1} → statement M
     Inv-loop
     μ-loop
     (row-walk-loop-holds t)
-    (row-walk-stopped-requires t)
+    (row-walk-went-requires t)
     (row-walk-returns t)
-    (row-walk-sub-fuel t)
-    (row-walk-sub-size-of t)
-    (row-walk-part-size-of-start t)
-    (row-walk-part-size-of-end t)
-    (row-walk-size-of-requires t)
-    (row-walk-stopped-requires-2 t)
-    (row-walk-returns-2 t)
-    (row-walk-add-next t)
-    (row-walk-inside-requires t)
-    (row-walk-stopped-requires-3 t)
-    (row-walk-returns-3 t)
+    (row-walk-mul-at t)
+    (row-walk-element-copy-out-at t)
+    (row-walk-cast-at t)
+    (row-walk-sub-depth t)
     (row-walk-loop-less t)
     (row-walk-loop-again t)
-    (row-walk-row-walk-requires t)
-    (row-walk-returns-4 t)
+    (row-walk-record-end-requires t)
     (row-walk-loop-less-2 t)
     (row-walk-loop-again-2 t)
-    (row-walk-returns-5 t)
+    (row-walk-first-requires t)
+    (row-walk-stopped-requires t)
+    (row-walk-returns-2 t)
+    (row-walk-add-back t)
+    (row-walk-cast-back t)
+    (row-walk-mul-back t)
+    (row-walk-element-write-back t)
+    (row-walk-add-depth t)
+    (row-walk-loop-less-3 t)
+    (row-walk-loop-again-3 t)
+    (row-walk-loop-less-4 t)
+    (row-walk-loop-again-4 t)
+    (row-walk-loop-less-5 t)
+    (row-walk-loop-again-5 t)
+    (row-walk-last-own-requires t)
+    (row-walk-loop-less-6 t)
+    (row-walk-loop-again-6 t)
+    (row-walk-row-walk-requires t)
+    (row-walk-returns-3 t)
+    (row-walk-loop-less-7 t)
+    (row-walk-loop-again-7 t)

@@ -1,8 +1,10 @@
 -- `read_fault_walk::inside`: by the kind of the node. cN is c N places before.
+use mathlib.Core.Path.{refl}
 use native.Mathlib.Omega.{arith}
 use borrow.Author.Needs.{needs}
-use Rattle.read_fault_walk.specs.Nodes.{leads-stop, leads-row, leads-same, within-rest, inside-none, inside-size, inside-proxy, inside-helper, inside-deep}
-use Rattle.read_fault_walk.specs.Nodes.{inside-literal, inside-aggregate}
+use Rattle.read_fault_walk.specs.Rows.{literal, aggregate}
+use Rattle.read_fault_walk.specs.Nodes.{leads-stop, leads-row, leads-same, inside-none, inside-size, inside-proxy, into-proxy, inside-helper, into-helper}
+use Rattle.read_fault_walk.specs.Nodes.{inside-deep, inside-literal, inside-aggregate}
 use Rattle.read_fault_walk.proofs.inside.Statement.{statement}
 use Rattle.read_fault_walk.proofs.inside.Tie as tie
 
@@ -20,15 +22,16 @@ returns-3 : tie.Need-returns-3
 returns-3 c =
     let c4 = c .before .before .before .before in
     let c6 = c4 .before .before in
-    leads-same
-    (inside-proxy _ _ _ _ _ _ _ (c6 .head .ensures) (c4 .if2 .taken) (c .before .before .before .if3 .left) _ (c .before .before .name-at .ensures .0))
-    (c .proxy-row .ensures)
+    let w = c6 .before .before .before .pre in
+    let eight = c .before .before .before .if3 .left in
+    leads-same (inside-proxy _ _ _ _ _ _ _ (c6 .head .ensures) (c4 .if2 .taken) eight _ (c .before .before .name-at .ensures .0))
+    (into-proxy _ _ _ _ _ _ _ (c6 .head .ensures) (w .1) (w .2) _ (c4 .if2 .taken) eight) (c .proxy-row .ensures)
 
 returns-4 : tie.Need-returns-4
 returns-4 c =
     let c4 = c .before .before .before .before in
     let w = c4 .before .before .before .pre in
-    leads-row _ _ _ _ _ (c .row .ensures) (within-rest (w .1) (omega arith) (w .2) 4 _ (omega arith) (w .1 .low))
+    leads-row _ _ _ _ _ (c .row .ensures) (into-helper _ _ _ _ _ _ _ (c4 .head .ensures) (w .1) (w .2) (c .before .if4 .taken) (c .row .ensures))
     (inside-helper _ _ _ _ _ _ _ (c4 .head .ensures) (w .1) (w .2) (c .before .if4 .taken))
 
 returns-5 : tie.Need-returns-5
@@ -44,7 +47,7 @@ returns-6 c =
     let c4 = c .before .before .before .before in
     let c6 = c4 .before .before in
     let w = c6 .before .before .before .pre in
-    leads-row _ _ _ _ _ (c .row2 .ensures) (within-rest (w .1) (omega (arith, w .2)) (omega arith) 2 _ (omega arith) (w .1 .low))
+    leads-row _ _ _ _ _ (c .row2 .ensures) (literal refl (c .row2 .ensures))
     (inside-literal _ _ _ _ _ _ _ (c6 .head .ensures) (w .1) (w .2) (c4 .before .if1 .left) (c4 .if2 .left) (c .before .before .before .if4 .left)
     (c .before .before .if5 .left) (c .before .if6 .taken))
 
@@ -53,7 +56,7 @@ returns-7 c =
     let c4 = c .before .before .before .before in
     let c6 = c4 .before .before in
     let w = c6 .before .before .before .pre in
-    leads-row _ _ _ _ _ (c .row3 .ensures) (within-rest (w .1) (omega arith) (w .2) 1 _ (omega arith) (omega (arith, c .before .before .if5 .left)))
+    leads-row _ _ _ _ _ (c .row3 .ensures) (aggregate refl (omega (arith, c .before .before .if5 .left)) (c .row3 .ensures))
     (inside-aggregate _ _ _ _ _ _ _ (c6 .head .ensures) (w .1) (w .2) (c4 .before .if1 .left) (c4 .if2 .left) (c .before .before .before .if4 .left)
     (c .before .before .if5 .left) (c .before .if6 .left))
 

@@ -31,7 +31,7 @@ returns-4 c =
     let c7 = c5 .before .before in
     let p = c7 .before .before .pre in
     record-leads _ _ _ _ _ (p .0) (not-false _ (c7 .if1 .left)) (passes (c5 .before .tail-zero .ensures) (c5 .if2 .left)) _ _
-    (c .before .before .before .before .used-at .ensures .0) (c .before .before .size-of .ensures) (p .1) (c .row .ensures) (c .before .if3 .left)
+    (c .before .before .before .before .used-at .ensures .0) (c .before .before .size-of .ensures) (c .row .ensures) (c .before .if3 .left)
 
 pub record-row-spec : {M : Type 1} → statement M
 record-row-spec =
