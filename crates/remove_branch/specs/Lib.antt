@@ -1,6 +1,5 @@
-pub mod Reach
-pub mod Direct
-pub mod Holders
-pub mod Marks
+pub mod Own
+pub mod Listed
 pub mod Cleared
+pub mod Freeing
 pub mod Branch

@@ -1,12 +1,11 @@
 -- What a removal works on: a node that stands in the records, and what each step needs of it.
 use mathlib.Core.Path.{_≡_, refl, sym, ap, subst, _∙_}
-use mathlib.Core.Bool.{Bool, true, false, cond, true≢false}
+use mathlib.Core.Bool.{Bool, false, cond, true≢false}
 use mathlib.Core.List.{List}
 use Prim.Native.Nat.{ℕ, _+_, _*_, _≤_, _<_}
 use native.Mathlib.Omega.{arith}
-use borrow.Author.Tests.{leb-true, leb-false, ne-eqb}
 use lib.ListN.{length, getD}
-use lib.Dec.{eqb, leb}
+use lib.Dec.{eqb}
 use Rattle.model.specs.Limits.{mostPages, pageSize, capacity}
 use Rattle.model.specs.Row.{Row, rec, store, _⊹_, size, base, nodeCount, lone, recordPage, recordOn, count, Config}
 use Rattle.model.specs.Tree.{Tree}
@@ -18,7 +17,7 @@ use Rattle.theory_rows.specs.Laws.{size-⊹}
 use Rattle.theory_rows.specs.Pages.{bit, count-⊹}
 use Rattle.theory_decoding.specs.Decode.{in-trailer}
 use Rattle.theory_decoding.specs.Reading.{reads-valid}
-use Rattle.theory_places.specs.Widths.{Table, told-some}
+use Rattle.theory_places.specs.Widths.{Table}
 use Rattle.theory_row_bytes.specs.RowAt.{byte-on, row-split}
 use Rattle.theory_layout.specs.Here.{PageIn, Here, OnPage}
 use Rattle.theory_growth.specs.Chain.{before, lastSettled, chain-fits, beside, along, offsetIn}
@@ -188,32 +187,15 @@ module _ {img u : List ℕ} {s : Standing} (w : Going img u s) where
   pub one-time : (q : ℕ) → beside c q + along c q + count q (fill (w .t .position) (w .t .rest)) + count q (w .t .node) ≤ 1
   one-time q = stand-once (w .root) (w .new) (w .t) (w .leaves) q (w .st) v
 
-  -- Beside the chain it is as it was: each of the branch's records has an entry, and no free page.
+  -- Beside the chain it is as it was.
   pub less-other : (q : ℕ) → along c q ≡ 0 → getD less q 0 ≡ getD u q 0
   less-other q e = changed-other (entryAnew false) (s .deep) c u q e
 
-  pub less-named : (q : ℕ) → 1 ≤ count q (w .t .node) → getD less q 0 ≡ 0 → ⊥
-  less-named q h z =
-      let told = told-some u (w .root) (v .rows .1) (w .table .told) q (omega (arith, named q)) in
-      omega (arith, told, sym (less-other q (omega (arith, one-time q))) ∙ z)
-
-  pub less-used : (q : ℕ) → 2 ≤ q → q < w .st .pages → (getD less q 0 ≡ 0 → ⊥) → 1 ≤ count q (w .root)
-  less-used q a b k = go (leb 1 (count q (w .root))) refl
-    where
-      go : (x : Bool) → leb 1 (count q (w .root)) ≡ x → 1 ≤ count q (w .root)
-      go true e = leb-true 1 (count q (w .root)) e
-      go false e =
-          let z : count q (w .root) ≡ 0 = omega (arith, leb-false 1 (count q (w .root)) e) in
-          let far : bit (eqb q 1) ≡ 0 = ap bit (ne-eqb q 1 (λ e. omega arith)) in
-          absurd (k (less-other q (omega (arith, named q)) ∙ w .table .free q (omega arith) b (omega (arith, z, far))))
-
-  abbrev pub branch : (u₁ : List ℕ) → u₁ ≡ less → Branch img u₁ (s .page) (pageSize * s .page + s .at) (pageSize * s .page + s .at + s .gone)
+  abbrev pub branch : (u₁ : List ℕ) → u₁ ≡ less → Branch img u₁ (pageSize * s .page + s .at) (pageSize * s .page + s .at + s .gone)
   branch u₁ e = record {
     b = record { st = w .st; root = w .root; reads = w .reads; new = w .new; t = w .t; leaves = w .leaves };
-    last = page-is;
+    page = s .page;
     here = stands-here;
     ends = omega (arith, gone-is);
     long = ap length e ∙ changed-long (entryAnew false) (s .deep) c u ∙ w .table .long;
-    named = λ q h z. less-named q h (ap (λ (l : List ℕ). getD l q 0) (sym e) ∙ z);
-    used = λ q a b k. less-used q a b (λ z. k (ap (λ (l : List ℕ). getD l q 0) e ∙ z));
   }

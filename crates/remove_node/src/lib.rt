@@ -31,7 +31,7 @@ fn remove_at(image: &mut [u8], widths: &mut [u32; Settings::PAGES], s: Standing)
     let mut buf = [0u8; Settings::CAPACITY];
     let left = take_out(image, page, at, s.par, gone, &mut buf);
     let start = a + at;
-    free_branch(image, widths, page, start, start + gone);
+    free_branch(image, widths, start, start + gone);
     let child = left.child;
     if child != 0 {
         lift_child(image, page, child);

@@ -1,10 +1,10 @@
--- `remove_branch::free_branch`: the first marks, all marks, and the pages that go.
+-- `remove_branch::free_branch`: the pages that the node names itself are listed, and the list's are freed.
 use Prim.Native.Nat.{ℕ}
 use native.Mathlib.Omega.{arith}
 use borrow.Author.Needs.{needs}
-use lib.ListN.{replicate, length-replicate}
+use lib.ListN.{length-replicate}
 use Rattle.model.specs.Limits.{mostPages}
-use Rattle.remove_branch.specs.Branch.{room, literal-freed, linked, zeros, pages-fit, first-marking, all-marked, branch-freed}
+use Rattle.remove_branch.specs.Branch.{room, literal-freed, listing, freeing, branch-freed}
 use Rattle.remove_branch.proofs.free_branch.Statement.{statement}
 use Rattle.remove_branch.proofs.free_branch.Tie as tie
 
@@ -14,50 +14,38 @@ slice-read-if1 c = omega (arith, room (c .before .before .pre))
 returns : tie.Need-returns
 returns c = λ w. literal-freed w (c .if1 .taken)
 
-array-write-marks : tie.Need-array-write-marks
-array-write-marks c = omega arith
+sub-list-direct : tie.Need-sub-list-direct
+sub-list-direct c = omega (arith, room (c .before .before .before .pre))
 
-array-write-marks-2 : tie.Need-array-write-marks-2
-array-write-marks-2 c = omega (arith, c .before .before .before .pre .here .on .high)
+part-list-direct-start : tie.Need-part-list-direct-start
+part-list-direct-start c = omega (arith, room (c .before .before .before .before .pre))
 
-sub-mark-direct : tie.Need-sub-mark-direct
-sub-mark-direct c = omega (arith, room (c .before .before .before .pre))
+part-list-direct-end : tie.Need-part-list-direct-end
+part-list-direct-end c = omega (arith, room (c .before .before .before .before .pre))
 
-part-mark-direct-start : tie.Need-part-mark-direct-start
-part-mark-direct-start c = omega (arith, room (c .before .before .before .before .pre))
+list-direct-requires : tie.Need-list-direct-requires
+list-direct-requires c κs = listing (c .before .before .before .before .before .before .pre) _ (length-replicate {A = ℕ} mostPages 0)
 
-part-mark-direct-end : tie.Need-part-mark-direct-end
-part-mark-direct-end c = omega (arith, room (c .before .before .before .before .pre))
-
-mark-direct-requires : tie.Need-mark-direct-requires
-mark-direct-requires c κs = linked (c .before .before .before .before .before .before .pre)
-
-mark-all-requires : tie.Need-mark-all-requires
-mark-all-requires c κs =
+free-listed-requires : tie.Need-free-listed-requires
+free-listed-requires c κs =
     let d = c .before .before .before in
-    let s = c .before .before .before .before .before .before .before .before .before .before in
-    first-marking (s .pre) (replicate mostPages 0) (length-replicate {A = ℕ} mostPages 0) (zeros mostPages) _ (d .mark-direct .ensures (linked (s .pre)))
-
-clear-marked-requires : tie.Need-clear-marked-requires
-clear-marked-requires c κs =
-    let s = c .before .before .before .before .before .before .before .before .before .before .before .before .before .before in
-    let p = pages-fit (s .pre) (replicate mostPages 0) (length-replicate {A = ℕ} mostPages 0) (zeros mostPages) in
-    (p .0, (p .1, (omega (arith, p .2), s .pre .long)))
+    let w = d .before .before .before .before .before .before .before .pre in
+    freeing w _ (length-replicate {A = ℕ} mostPages 0) _ _ (d .list-direct .ensures (listing w _ (length-replicate {A = ℕ} mostPages 0)))
 
 same-length : tie.Need-same-length
 same-length c = search needs
 
 returns-2 : tie.Need-returns-2
 returns-2 c =
-    let a = c .before .before .before .before .before .before in
-    let d = c .before .before .before .before .before .before .before .before .before .before in
+    let f = c .before .before in
+    let d = f .before .before .before .before in
     λ w.
-    let m = all-marked w (replicate mostPages 0) (length-replicate {A = ℕ} mostPages 0) (zeros mostPages) _ (d .mark-direct .ensures (linked w)) _
-    (a .mark-all .ensures) in
-    branch-freed w (replicate mostPages 0) (length-replicate {A = ℕ} mostPages 0) (zeros mostPages) _ _ _ m (c .before .before .clear-marked .ensures)
+    let long = length-replicate {A = ℕ} mostPages 0 in
+    let l = d .list-direct .ensures (listing w _ long) in
+    branch-freed w _ long _ _ l _ _ (f .free-listed .ensures (freeing w _ long _ _ l))
 
 pub free-branch-spec : {M : Type 1} → statement M
 free-branch-spec =
     tie.close
-    (tie.spec slice-read-if1 returns array-write-marks array-write-marks-2 sub-mark-direct part-mark-direct-start part-mark-direct-end mark-direct-requires
-    mark-all-requires clear-marked-requires same-length returns-2)
+    (tie.spec slice-read-if1 returns sub-list-direct part-list-direct-start part-list-direct-end list-direct-requires free-listed-requires same-length
+    returns-2)
