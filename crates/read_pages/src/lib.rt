@@ -24,19 +24,20 @@ const BACK: usize = Settings::CAPACITY + 4;
 
 const REST: usize = Settings::CAPACITY + 6;
 
-// Whether every byte is zero. With no early exit the loop is done many bytes at a time.
+// Whether every byte is zero, that is, the largest is. With no early exit the loop is done many bytes at a time.
 pub fn zeros(s: &[u8]) -> bool
     ensures { λ r. ⌜ r ≡ allZero (now (s .entry)) ⌝ }
 {
-    let mut ok = true;
+    let mut most: u8 = 0;
     let mut i = 0;
     while i < s.len() {
-        if s[i] != 0 {
-            ok = false;
+        let x = s[i];
+        if most < x {
+            most = x;
         }
         i = i + 1;
     }
-    ok
+    most == 0
 }
 
 // Whether a settled byte may stand on page p.
