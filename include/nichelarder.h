@@ -21,15 +21,10 @@
  * Every call but format checks the whole image first, so that damage is never trusted: its time grows with the image's length. An image is best no longer
  * than needed.
  *
- * Stack: a thread with NL_STACK_MOST bytes can make every call on every image, broken ones too. Most of that is for records that are nested in one another.
- * Where none are, NL_STACK_READ is enough for calls that change nothing and NL_STACK_CHANGE for all; each record on the way down to the deepest takes
- * NL_STACK_NESTED more. An image of n pages has at most n - 2 of them, whatever its bytes. NL_STACK_READ is for trees of all 24 levels; where there are
- * few, 6 KB do.
- * In all trees that were measured, literals, and aggregates of less than 1 KB with all under them, nest up to 6 deep, wherever they are inserted.
- * Deep nesting comes from many aggregates of more than 1 KB under one parent that are filled one after the other, whether each is put in first or last: a
- * record more for every one to six of them, 341 in a full image being the most that was met; at random places it was 10. It does not come where the matrix
- * keeps them apart from their parent (NL_APART): each then has a record of its own, the nesting stays at 2 or 3, and they take about as many pages or
- * fewer, at random places some fifth more (bench/README.md). `nichelarder records` (tools/) prints how deep an image's records are nested.
+ * Stack: NL_STACK_READ bytes are enough for a call that changes nothing, NL_STACK_CHANGE for any call, on every image, whatever its bytes, broken ones too:
+ * the figures are for trees of all 24 levels, and records that are nested in one another take nothing more. They hold for a process's first call too, where
+ * the loader may look up the two functions below on the same stack.
+ * The archive needs of the C library: memcpy, memset.
  *
  * The format, for those who look at bytes: a record is a tree of nodes, each a header of six bytes (kind, origin, one byte each; label, size, two bytes
  * each, low byte first) and what it holds. Kind 1 is an aggregate, 2 a literal, 3 a proxy: two bytes that name the page of the record that stands in its
@@ -48,8 +43,8 @@ extern "C" {
 
 /* The version of the calls. A call that is changed, or that gives other answers than before, changes the first number; a call that is added changes the
  * second. The format of images has a number of its own, NL_FORM. */
-#define NL_VERSION "1.0"
-#define NL_VERSION_MAJOR 1
+#define NL_VERSION "2.0"
+#define NL_VERSION_MAJOR 2
 #define NL_VERSION_MINOR 0
 
 #define NL_PAGE 4096u     /* bytes of a page */
@@ -59,11 +54,9 @@ extern "C" {
 #define NL_CONTENT 520u   /* most content bytes of a literal */
 #define NL_PATH 92u       /* most bytes of a path: a buffer this long takes every climb */
 
-/* Bytes of stack (see above): a little more than tests/stack.c measures on x86-64, where the most is 373,632. */
-#define NL_STACK_READ 10240u                                      /* a call that changes nothing, where no record is nested in another */
-#define NL_STACK_CHANGE 29696u                                    /* any call, where none is */
-#define NL_STACK_NESTED 355u                                      /* more for each record that is nested in another */
-#define NL_STACK_MOST (NL_STACK_CHANGE + 1022u * NL_STACK_NESTED) /* any call on any image: the records of all pages nested */
+/* Bytes of stack (see above): a little more than tests/stack.c measures on x86-64. */
+#define NL_STACK_READ 20480u   /* a call that changes nothing */
+#define NL_STACK_CHANGE 40960u /* any call */
 
 /* The settings that format takes. */
 #define NL_TARGET_MIN 64u       /* target: a record that is too large is split at so many 256ths of its size */

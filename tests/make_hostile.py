@@ -1,5 +1,5 @@
-"""Writes a call script of hostile calls with the reference's answers: images with a few bytes wrong, or broken in a known way (faults.py), and any
-arguments, through all calls. Each image is diagnosed first.
+"""Writes a call script of hostile calls with the reference's answers: images with a few bytes wrong, or broken in a known way (faults.py), some with records
+nested in one another through all pages, and any arguments, through all calls. Each image is diagnosed first.
 
     make_hostile.py SEED CALLS > SCRIPT
 
@@ -7,6 +7,7 @@ The same seed gives the same script. How far it is, and what was reached, goes t
 """
 
 import collections
+import itertools
 import random
 import sys
 import zlib
@@ -42,6 +43,36 @@ def grow_store(rng):
     image = made.grow_store(rng)
     for _ in range(rng.choice((0, 9, 9))):
         ref.insert(image, b"", 0, ref.LITERAL, rng.randrange(ref.ORIGINS), 300, bytes([rng.randrange(256)]) * ref.CONTENT)
+    return image
+
+
+def leaves(rng, most):
+    """Up to so many nodes that hold no other."""
+    return [ref.Node(rng.choice((ref.AGGREGATE, ref.LITERAL)), 9) for _ in range(rng.randrange(most + 1))]
+
+
+def nested_records(rng, depth):
+    """A chain of so many records in one another, each with leaves before and behind the next one's proxy: helpers, and now and then an aggregate, which takes
+    a level. The first proxy stands in the root's row, in an aggregate there, or below as many levels as there can be."""
+    levels = rng.choice((0, 1, 22))
+    image = bytearray((depth + 2) * ref.PAGE)
+    ref.format_image(image, depth + 2, 128, 409, 1, b"\x02" * 256, 7)
+    store = ref.read_store(image)
+    deep, inner = 2 + levels, []
+    for page in range(depth + 1, 1, -1):
+        own = deep + 2 < ref.LEVELS and rng.random() < 0.02
+        deep += own
+        row = leaves(rng, 2) + inner + leaves(rng, 2)
+        while len(row) < 2:
+            row += leaves(rng, 1)
+        root = ref.Node(ref.AGGREGATE, 8, children=row) if own else ref.Node(ref.HELPER, children=row)
+        store.records[page] = ref.Record(page, own and rng.random() < 0.5, root)
+        inner = [ref.Node(ref.PROXY, record=store.records[page])]
+    for _ in range(levels):
+        inner = [ref.Node(ref.AGGREGATE, 5, children=leaves(rng, 1) + inner + leaves(rng, 1))]
+    store.records[1].root.children = leaves(rng, 1) + inner
+    store.changed = set(store.records)
+    ref.write_changes(store, image)
     return image
 
 
@@ -161,16 +192,24 @@ def main(seed, calls):
     made.SHAPES = SHAPES
     numbers, stages, met = collections.Counter(), collections.Counter(), collections.Counter()
     out = ["V 1 %s %d" % (ref.RULES, LONGEST)]
-    done, said, going = 0, 0, None
-    while done < calls:
+    done, said, going, deepest = 0, 0, None, 0
+    for turn in itertools.count():
+        if done >= calls:
+            break
         ref.read_store = uncached
-        image = grow_store(rng) if done else made.nested_helpers()      # which has all that a fault needs: also a short run meets each
-        broken = faults.variants(rng, image)
+        nested = turn % 50 == 1                       # one image in fifty, and the second of a short run
+        if nested:
+            depth = ref.PAGES - 2 if turn == 1 and seed == 1 else rng.choice((3, 17, 60, 200, 500, ref.PAGES - 2)[:3 if turn == 1 else 6])
+            image, broken = nested_records(rng, depth), []
+            deepest = max(deepest, depth)
+        else:
+            image = grow_store(rng) if done else made.nested_helpers()  # which has all that a fault needs: also a short run meets each
+            broken = faults.variants(rng, image)
         ref.read_store = read_store
         made.put_image(image, out)
         out.append("S")
-        origins = origin_bytes(rng, image)
-        for _ in range(60 + len(broken)):
+        origins = [] if nested else origin_bytes(rng, image)
+        for _ in range(20 if nested else 60 + len(broken)):
             out.append("R")
             hurt, fault = bytearray(image), None
             if origins:
@@ -188,18 +227,18 @@ def main(seed, calls):
                 out.append("I %d" % cut)
                 hurt = bytearray(cut)
             stages[stage(rng, hurt)] += 1
-            for turn in range(4 if fault else 12):    # what is known to be broken has one answer to nearly all calls
+            for k in range(4 if fault else 12):       # what is known to be broken has one answer to nearly all calls
                 try:
                     entries = ref.document_order(ref.read_store(hurt))
                 except ref.Refused:
                     entries = []
-                call = some_call(rng, entries, going) if turn else "diagnose"
+                call = some_call(rng, entries, going) if k else "diagnose"
                 name = call.split(" ")[0]
                 ref.read_store = uncached if name in ("insert", "remove") else read_store
                 answer = made.ask(call, hurt, out)
                 ref.read_store = read_store
                 if name == "diagnose":
-                    assert turn or fault in (None, answer[1:])
+                    assert k or fault in (None, answer[1:])
                     met.update(fault_names(answer))
                 elif name == "walk":
                     going = answer[3:5] if answer[2] else None
@@ -212,6 +251,7 @@ def main(seed, calls):
             print("%d calls" % done, file=sys.stderr)
     print(", ".join("%s: %d" % item for item in sorted(numbers.items())), file=sys.stderr)
     print("faults: " + "; ".join("%s %d" % (name, met[name]) for name in FAULTS), file=sys.stderr)
+    print("deepest nesting of records: %d" % deepest, file=sys.stderr)
     print("images by where the check ends: " + ", ".join("%s: %d" % item for item in sorted(stages.items())), file=sys.stderr)
 
 

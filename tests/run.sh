@@ -3,7 +3,7 @@
 set -euo pipefail
 cd "$(dirname "$0")/.."
 cc=${CC:-cc}
-at() { echo "tests: $1 of 13: $2"; }
+at() { echo "tests: $1 of 14: $2"; }
 at 1 "the archive (minutes, where the crates are not proved yet)"
 rt staticlib nichelarder >/dev/null
 flags=(-std=c99 -O2 -Wall -Wextra -Werror)
@@ -30,15 +30,22 @@ at 6 "random inserts and removals"
 REPLAY=target/replay bash tests/random.sh removals 8000
 at 7 "hostile calls"
 REPLAY=target/replay bash tests/random.sh hostile 20000
-at 8 "the deepest image on a stack of 1 MB"
-(ulimit -s 1024 && target/deep)
-at 9 "the stack of each call"
+at 8 "the deepest image on a stack of 128 KB"
+(ulimit -s 128 && target/deep)
+at 9 "the stack of each call, and of a process's first one"
 target/stack
-at 10 "buffers that lie in the image, and empty ones"
+target/stack save target/split.img
+for call in check diagnose walk find climb read next records format insert remove; do
+    target/stack first "$call" target/split.img
+done
+at 10 "what the archive needs is what the header says"
+needs=$(nm -u target/staticlib/libnichelarder.a | awk '$1 == "U" { print $2 }' | sort -u | paste -sd ' ' | sed 's/ /, /g')
+grep -qxF " * The archive needs of the C library: $needs." include/nichelarder.h || { echo "header: the archive needs $needs"; exit 1; }
+at 11 "buffers that lie in the image, and empty ones"
 target/buffers
-at 11 "walks against next, read and climb"
+at 12 "walks against next, read and climb"
 target/walk
-at 12 "the listing program"
+at 13 "the listing program"
 bash tests/listing.sh
-at 13 "the tool"
+at 14 "the tool"
 bash tests/tool.sh

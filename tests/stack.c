@@ -1,17 +1,21 @@
-/* How much stack the calls take, measured on a thread whose stack is painted, in bytes. Each keeps to the header's figures: NL_STACK_READ for a call that
- * changes nothing, NL_STACK_CHANGE for one that does, and NL_STACK_NESTED more for each record that is nested in another. An insert takes at most 24 KB
- * beside the check of the same image, a removal at most 8 KB.
+/* How much stack the calls take, measured on a thread whose stack is painted, in bytes. Each keeps to the header's figures on every image: NL_STACK_READ for a
+ * call that changes nothing, NL_STACK_CHANGE for any. Records that are nested in one another take nothing: with 1 and with 1,022 of them a call takes as much,
+ * but for 64 bytes at most. An insert takes at most 24 KB beside the check of the same image, a removal at most 8 KB.
  * The images: a small tree; one grown by inserts; two whose splits cascade, the second through as many records as can be; one whose split goes down through
  * all levels; aggregates on all levels with a node beside each, since the check goes into those with a call a level; the deepest nesting of records, a chain
- * of helper records through 1,022 pages, in the root's row, in one branch, which is removed whole, and in the last of the aggregates. Then broken ones: a
- * level too many, alone and with the chain, where the check goes deepest of all, and the chain broken at its end. */
+ * of helper records through 1,022 pages, in the root's row, in one branch, which is removed whole, and in the last of the aggregates, and the same with a
+ * chain of one. Then broken ones: a level too many, alone and with the chain, and the chain broken at its end.
+ * `stack save FILE` writes the image whose split goes down through all levels. `stack first CALL FILE` measures the first call of a process, on that image:
+ * where the program is bound lazily, the loader looks up memset and memcpy on the caller's stack then. */
 #define _POSIX_C_SOURCE 200809L
 #include "../bench/images.h"
 #include "../include/nichelarder.h"
+#include <fcntl.h>
 #include <pthread.h>
 #include <stdio.h>
 #include <stdlib.h>
 #include <string.h>
+#include <unistd.h>
 
 #define STACK (1u << 20)
 #define PAINT 0xa5
@@ -96,12 +100,15 @@ static void *nothing(void *unused) { return unused; }
 
 static size_t used(void *(*run)(void *)) {
     static uint8_t *stack;
+    volatile uint8_t *paint; /* no memset: it would look itself up for the first call */
     pthread_attr_t attr;
     pthread_t thread;
-    size_t i = 0;
+    size_t i;
     if (!stack && posix_memalign((void **)&stack, 4096, STACK))
         exit(2);
-    memset(stack, PAINT, STACK);
+    for (paint = stack, i = 0; i < STACK; i++)
+        paint[i] = PAINT;
+    i = 0;
     pthread_attr_init(&attr);
     if (pthread_attr_setstack(&attr, stack, STACK) || pthread_create(&thread, &attr, run, NULL))
         exit(2);
@@ -129,12 +136,12 @@ static size_t nesting(void) {
     return most;
 }
 
-/* What each call takes, at most: where no records are nested, where those of all pages are, and beside NL_STACK_NESTED for each that is. */
+/* What each call takes, at most: on all images, and where one record is nested in the root's, where those of all pages are. */
 struct taken {
     const char *name;
     void *(*run)(void *);
-    size_t figure; /* the header's, which the last must not pass */
-    size_t flat, deepest, own;
+    size_t figure; /* the header's, which it must not pass */
+    size_t most, one, all;
 };
 
 static struct taken reads[] = {
@@ -153,12 +160,12 @@ static void raise_to(size_t *most, size_t n) {
 
 /* Runs a call on an image in which so many records are nested. */
 static size_t take(struct taken *t, size_t nested) {
-    size_t n = used(t->run) - base, allowed = nested * NL_STACK_NESTED;
-    if (!nested)
-        raise_to(&t->flat, n);
+    size_t n = used(t->run) - base;
+    raise_to(&t->most, n);
+    if (nested == 1)
+        raise_to(&t->one, n);
     if (nested == NL_PAGES - 2)
-        raise_to(&t->deepest, n);
-    raise_to(&t->own, n > allowed ? n - allowed : 0);
+        raise_to(&t->all, n);
     return n;
 }
 
@@ -177,13 +184,15 @@ static void measure_reads(size_t nested) {
         take(reads + i, nested);
 }
 
-/* Prints what a call takes; 1 if that is more than the header says. */
+/* Prints what a call takes; 1 if that is more than the header says, or grows with the records that are nested. */
 static int report(const struct taken *t) {
-    printf("%-8s %5zu bytes of stack, %6zu with 1,022 records nested in one another: %.1f for each\n", t->name, t->flat, t->deepest,
-           ((double)t->deepest - (double)t->flat) / (NL_PAGES - 2));
-    if (t->own > t->figure || t->deepest > NL_STACK_MOST)
-        printf("stack: %s takes %zu beside %u for each record nested, and the header says %zu\n", t->name, t->own, NL_STACK_NESTED, t->figure);
-    return t->own > t->figure || t->deepest > NL_STACK_MOST;
+    int over = t->most > t->figure, grows = t->all > t->one + 64;
+    printf("%-8s %5zu bytes of stack at most; where 1 record is nested in another %5zu, where 1,022 are %5zu\n", t->name, t->most, t->one, t->all);
+    if (over)
+        printf("stack: %s takes %zu, and the header says %zu\n", t->name, t->most, t->figure);
+    if (grows)
+        printf("stack: %s takes more where records are nested\n", t->name);
+    return over || grows;
 }
 
 /* All calls on a broken image, which they refuse. */
@@ -239,6 +248,13 @@ static void measure(const char *name) {
 
 static void two(uint8_t *p, unsigned v) { p[0] = v & 255; p[1] = v >> 8; }
 
+static uint32_t format(unsigned pages, unsigned tolerance) {
+    uint8_t matrix[256];
+    memset(matrix, 2, sizeof matrix);
+    image_len = 4096u * pages;
+    return nl_format(image, image_len, pages, 128, tolerance, 1, matrix, 256, 7);
+}
+
 /* A record of a helper with a literal and the proxy of the next page's record. */
 static void link_page(unsigned page, unsigned last) {
     uint8_t *p = image + 4096u * page;
@@ -255,6 +271,15 @@ static void link_page(unsigned page, unsigned last) {
         two(p + n, 2), two(p + n + 4, 6), n += 6;
     two(p + 4, n);
     p[4080] = 1, p[4081] = page == 1, two(p + 4082, n), two(p + 4084, page - 1);
+}
+
+/* The chain of records from page 1 on, in so many pages. */
+static void make_links(unsigned pages) {
+    unsigned k;
+    if (format(pages, 409))
+        exit(2);
+    for (k = 1; k < pages; k++)
+        link_page(k, pages - 1);
 }
 
 /* So many aggregates in one another, each with a literal after it. The last holds a literal, after a proxy to the records of all other pages, if there are
@@ -277,19 +302,89 @@ static void make_levels(unsigned levels, unsigned pages) {
     }
 }
 
-static uint32_t format(unsigned pages, unsigned tolerance) {
-    uint8_t matrix[256];
-    memset(matrix, 2, sizeof matrix);
-    image_len = 4096u * pages;
-    return nl_format(image, image_len, pages, 128, tolerance, 1, matrix, 256, 7);
+/* One aggregate in another down to level 23, the last full of literals: with tolerance 0, a split goes down to them. */
+static void make_deep_split(void) {
+    unsigned k;
+    if (format(64, 0))
+        exit(2);
+    for (above = 0; above < 88; above += 4)
+        if (nl_insert(image, image_len, content, above, 0, NL_AGGREGATE, NL_WIRE, 9, content, 0, answer, &lean))
+            exit(2);
+    for (k = 0; k < 7; k++)
+        if (nl_insert(image, image_len, content, above, 0, NL_LITERAL, NL_WIRE, 9, content, 520, answer, &lean))
+            exit(2);
 }
 
-int main(void) {
+/* All images with so many pages in which records are nested, whole and broken. */
+static void measure_nested(unsigned pages) {
+    uint8_t *last;
+    above = 88;
+    make_levels(22, pages);
+    measure(pages == NL_PAGES ? "all" : NULL);
+    make_levels(23, pages);
+    measure_broken(pages - 2);
+    above = 0;
+    make_links(pages);
+    measure(pages == NL_PAGES ? "deepest" : NULL);
+    /* the proxy of page 2 in an aggregate of the root */
+    memcpy(image + 4096 + 12, image + 4096 + 6, 8);
+    two(image + 4096 + 6, 1), two(image + 4096 + 8, 9), two(image + 4096 + 10, 14);
+    two(image + 4096 + 4, 20), two(image + 4096 + 4082, 20);
+    measure(pages == NL_PAGES ? "branch" : NULL);
+    /* the last record of the chain: its last node, then a byte past it */
+    last = image + 4096u * (pages - 1u);
+    last[12] = 5;
+    measure_broken(pages - 2);
+    last[12] = 2;
+    last[4079] = 1;
+    measure_broken(pages - 2);
+}
+
+/* The image of a file, as `save` writes it. */
+static void load(const char *name) {
+    int file = open(name, O_RDONLY);
+    ssize_t n = file < 0 ? -1 : read(file, image, 4096u * NL_PAGES);
+    if (n <= 0)
+        exit(2);
+    image_len = (size_t)n;
+    above = 88;
+    place[0] = 1;
+}
+
+/* The first call of this process, by its name: what it takes, and whether that is more than the header says. */
+static int first(const char *name) {
+    struct taken *all[READS + 3] = {&inserts, &removals, &formats};
+    int i;
+    for (i = 0; i < READS; i++)
+        all[i + 3] = reads + i;
+    for (i = 0; i < READS + 3; i++)
+        if (!strcmp(all[i]->name, name)) {
+            size_t n = used(all[i]->run) - base;
+            printf("%-8s %5zu bytes of stack as a process's first call, answer %u\n", name, n, number);
+            if (n > all[i]->figure)
+                printf("stack: the header says %zu\n", all[i]->figure);
+            return n > all[i]->figure;
+        }
+    return 2;
+}
+
+int main(int argc, char **argv) {
     unsigned k;
     int over;
     base = used(nothing);
     image = malloc(4096u * 1024), before = malloc(4096u * 1024);
-    if (!image || !before || format(64, 409))
+    if (!image || !before)
+        return 2;
+    if (argc == 4) {
+        load(argv[3]);
+        return first(argv[2]);
+    }
+    if (argc == 3) {
+        FILE *out = fopen(argv[2], "wb");
+        make_deep_split();
+        return !out || fwrite(image, 1, image_len, out) != image_len || fclose(out);
+    }
+    if (format(64, 409))
         return 2;
     measure("small");
     /* in front of each other, until several records have been split */
@@ -302,47 +397,22 @@ int main(void) {
     /* five nested records that are full: a node in front goes into the deepest, and all are split */
     make_nested(image, 64, 16, 5, 0, fill_literals);
     measure("cascade");
-    /* one aggregate in another down to level 23, the last full of literals: with tolerance 0, the split goes down to them */
-    if (format(64, 0))
-        return 2;
-    for (above = 0; above < 88; above += 4)
-        if (nl_insert(image, image_len, content, above, 0, NL_AGGREGATE, NL_WIRE, 9, content, 0, answer, &lean))
-            return 2;
-    for (k = 0; k < 7; k++)
-        if (nl_insert(image, image_len, content, above, 0, NL_LITERAL, NL_WIRE, 9, content, 520, answer, &lean))
-            return 2;
-    measure("nested");
-    /* aggregates down to level 23, alone and with the chain in the last of them; a level more breaks the image */
+    make_deep_split();
+    measure("split");
+    /* aggregates down to level 23; a level more breaks the image */
     make_levels(22, 2);
     measure("levels");
-    make_levels(22, 1024);
-    measure("all");
     make_levels(23, 2);
     measure_broken(0);
-    make_levels(23, 1024);
-    measure_broken(NL_PAGES - 2);
     above = 0;
     /* the longest cascade: 511 full records */
     make_chain(image, 512, fill_small);
     memset(image + 4096u * 512, 0, 4096u * 512);
     put16(image, 1024);
+    image_len = 4096u * 1024;
     measure("longest");
-    if (format(1024, 409))
-        return 2;
-    for (k = 1; k <= 1023; k++)
-        link_page(k, 1023);
-    measure("deepest");
-    /* the proxy of page 2 in an aggregate of the root */
-    memcpy(image + 4096 + 12, image + 4096 + 6, 8);
-    two(image + 4096 + 6, 1), two(image + 4096 + 8, 9), two(image + 4096 + 10, 14);
-    two(image + 4096 + 4, 20), two(image + 4096 + 4082, 20);
-    measure("branch");
-    /* the last record of the chain: its last node, then a byte past it */
-    image[4096u * 1023u + 12] = 5;
-    measure_broken(NL_PAGES - 2);
-    image[4096u * 1023u + 12] = 2;
-    image[4096u * 1023u + 4079] = 1;
-    measure_broken(NL_PAGES - 2);
+    measure_nested(3);
+    measure_nested(NL_PAGES);
     over = report(&formats) + report(&inserts) + report(&removals);
     for (k = 0; k < READS; k++)
         over += report(reads + k);

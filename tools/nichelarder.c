@@ -602,8 +602,7 @@ static int records(const struct image *image) {
         if (deep > deepest)
             deepest = deep;
     }
-    printf("%lu record%s, nested up to %u deep: a call takes up to %u bytes of stack\n", (unsigned long)(written / 2), written == 2 ? "" : "s", deepest,
-           NL_STACK_CHANGE + NL_STACK_NESTED * deepest);
+    printf("%lu record%s, nested up to %u deep\n", (unsigned long)(written / 2), written == 2 ? "" : "s", deepest);
     return DONE;
 }
 
