@@ -56,7 +56,7 @@ extern "C" {
 
 /* Bytes of stack (see above): a little more than tests/stack.c measures on x86-64. */
 #define NL_STACK_READ 20480u   /* a call that changes nothing */
-#define NL_STACK_CHANGE 40960u /* any call */
+#define NL_STACK_CHANGE 29696u /* any call */
 
 /* The settings that format takes. */
 #define NL_TARGET_MIN 64u       /* target: a record that is too large is split at so many 256ths of its size */
