@@ -12,9 +12,8 @@ use Rattle.model.specs.Limits.{mostNode, mostLevels, mostOrigin}
 use Rattle.model.specs.Row.{mayStand}
 use Rattle.model.specs.Reading.{twoAt, headAt, sizeAt}
 use Rattle.theory_decoding.specs.Valid.{both as and-both}
-use Rattle.theory_check.specs.Steps.{passing, size-long}
+use Rattle.theory_check.specs.Steps.{size-long}
 use Rattle.model.specs.WalkTests.{wholeSize, passingKind, shapeOf}
-use Rattle.theory_check.specs.Facts.{no}
 use Rattle.read_nodes.specs.Leaf.{standsOf, aggregateOf, literalOf}
 
 -- two numbers are zero where their sum is

@@ -215,13 +215,6 @@ module _ {img : List ℕ} {g : Goal} (own : Own img g) {marks widths back : List
         one-is : 1 ≡ passingKind y hold
         one-is = sym aggregate ∙ at-kind
 
-        -- too deep
-        pub at-deep : mostLevels < g .level → refused ≡ g .result
-        at-deep l =
-            going-bad own (h .0) size is some ok
-            (ap (λ (d : Decoded). d .walk .left)
-            (node-deep img y (at / pageSize) hold (g .level) w (λ e. omega (arith, one-is)) (λ e. omega (arith, one-is)) l))
-
         -- with leaves alone
         pub at-leaves : g .level ≤ mostLevels → Leafy (drop 6 y) (g .level + 1) → At img g marks widths back may cur (n + 1) depth (at + size) end
         unfolding widthsAfter

@@ -27,4 +27,3 @@ pub mod Levels
 pub mod ByKind
 pub mod Stays
 pub mod Told
-pub mod Bounds

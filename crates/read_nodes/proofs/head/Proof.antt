@@ -1,6 +1,6 @@
 use mathlib.Core.Bool.{and-false}
 use borrow.Author.Needs.{needs}
-use borrow.Author.Tests.{le-leb, lt-leb}
+use borrow.Author.Tests.{lt-leb}
 use Rattle.model.specs.WalkTests.{passingKind}
 use Rattle.theory_check.specs.Facts.{passes, fails}
 use Rattle.read_nodes.specs.Stand.{formed-is}

@@ -1,25 +1,21 @@
 -- The walk's functions, proved together. Each one's measure is the pages to be reached, then the bytes of its part; never the level.
 use mathlib.Core.Path.{_≡_, refl, sym, ap, subst, _∙_}
-use mathlib.Core.Bool.{Bool, true, false}
-use mathlib.Core.List.{List}
 use Prim.Native.Nat.{ℕ, _<_, _≤_, _+_, _*_, _-_, _/_}
 use native.Mathlib.Omega.{arith}
-use lib.ListN.{length, take, drop, length-take, length-drop}
+use lib.ListN.{length, drop, length-take}
 use denote.Ref.{now}
 use borrow.Author.Needs.{needs}
 use borrow.Fn.Kinds.{In}
 use borrow.Fn.PlainCycle.{Measures, is, falls, and}
-use Rattle.model.specs.Limits.{mostLevels, mostPages, pageSize, capacity}
+use Rattle.model.specs.Limits.{mostLevels, pageSize}
 use Rattle.theory_check.specs.Marks.{IsMarks, marks-kept}
-use Rattle.theory_check.specs.Facts.{passes, fails}
 use Rattle.theory_check.specs.Steps.{Entered}
 use Rattle.theory_check.specs.Walk.{state}
-use Rattle.theory_check.specs.Levels.{bytes}
 use Rattle.read_nodes.specs.Leaves.{sized}
 use Rattle.read_nodes.specs.Stand.{root-low}
 use Rattle.read_leaves.specs.Leafy.{only-fits}
 use Rattle.read_walker.specs.declared.Walker.{Walker}
-use Rattle.read_walker.specs.Turns.{Fits, walker, recordEnd}
+use Rattle.read_walker.specs.Turns.{walker}
 use Rattle.read_walk.specs.Going.{Goal, going-done}
 use Rattle.read_walk.specs.Turns.{goalOf, own-of, at-start, at-short, at-size, at-stop, ended-none, part-rest, node-ended, deep-ended}
 use Rattle.read_walk.specs.Steps as step

@@ -5,9 +5,6 @@ use Rattle.read_walker.specs.Turns.{walker}
 use borrow.Author.Needs.{needs}
 use Rattle.read_walker.proofs.enter.Statement.{statement}
 use Rattle.read_walker.proofs.enter.Tie as tie
-use Rattle.read_walker.proofs.enter.Reads as reads
-use Rattle.read_walker.proofs.enter.Lts as lts
-use Rattle.base_node_kinds.proofs.in_helper.Reads as in-helper-reads
 
 cast-widths : tie.Need-cast-widths
 cast-widths c = search needs

@@ -5,10 +5,6 @@ use native.Mathlib.Omega.{arith}
 use borrow.Author.Needs.{needs}
 use Rattle.read_walker.proofs.leave.Statement.{statement}
 use Rattle.read_walker.proofs.leave.Tie as tie
-use Rattle.read_walker.proofs.leave.Reads as reads
-use Rattle.read_walker.proofs.leave.Lts as lts
-use Rattle.base_node_kinds.proofs.in_aggregate.Reads as in-aggregate-reads
-use Rattle.read_walker.proofs.record_end.Reads as record-end-reads
 
 mul-before : tie.Need-mul-before
 mul-before c = search needs

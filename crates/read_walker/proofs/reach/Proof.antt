@@ -6,11 +6,6 @@ use Rattle.read_walker.specs.Turns.{reach-short, reach-none, reach-some,
 use borrow.Author.Needs.{needs}
 use Rattle.read_walker.proofs.reach.Statement.{statement}
 use Rattle.read_walker.proofs.reach.Tie as tie
-use Rattle.read_walker.proofs.reach.Reads as reads
-use Rattle.read_walker.proofs.reach.Lts as lts
-use Rattle.base_layout.proofs.name_at.Reads as name-at-reads
-use Rattle.read_marks.proofs.enters.Reads as enters-reads
-use Rattle.read_marks.proofs.set_mark.Reads as set-mark-reads
 
 returns : tie.Need-returns
 returns c = (reach-short _ _ _ _ _ (c .if1 .taken), refl)
