@@ -105,7 +105,7 @@ static unsigned measure(const uint8_t *image, double *fill) {
     return n;
 }
 
-/* How many records are nested in one another below page 1, at most: a call's stack grows with it. */
+/* How many records are nested in one another below page 1, at most. */
 static unsigned nested(const uint8_t *image) {
     unsigned most = 0;
     for (unsigned page = 2; page < PAGES; page++) {

@@ -267,6 +267,6 @@ static const struct {
     const char *name;
     unsigned (*fill)(uint8_t *, unsigned, unsigned);
 } chains[] = {{"6-byte nodes", fill_small}, {"nested nodes", fill_nested}, {"mixed nodes", fill_mixed},
-              {"combs", fill_combs}, {"pairs", fill_pairs}, {"few nodes", fill_few}};
+              {"combs", fill_combs}, {"pairs", fill_pairs}, {"few nodes", fill_few}, {"short literals", fill_short}};
 
 #endif

@@ -47,6 +47,14 @@ static int row(const char *name, const char *where, const uint8_t *image, uint8_
     return 0;
 }
 
+/* Whether the child of the root is an aggregate. */
+static int is_aggregate(const uint8_t *image, uint32_t child) {
+    uint32_t place[NL_PLACE], node[NL_READ];
+    uint8_t path[4];
+    for (int i = 0; i < 4; i++) path[i] = (uint8_t)(child >> (8 * i));
+    return !nl_find(image, LEN, path, sizeof path, place) && !nl_read(image, LEN, place[0], place[1], node) && node[NL_READ_KIND] == NL_AGGREGATE;
+}
+
 int main(void) {
     static const unsigned records[] = {0, 10, 1000, PAGES - 2};
     uint8_t *image = malloc(LEN), *copy = malloc(LEN);
@@ -54,13 +62,17 @@ int main(void) {
     if (!image || !copy) return 2;
     fill_levels = 22; /* what is in a branch begins a level further down */
     puts("microseconds   at    records      check     remove  remove/check  least");
-    for (size_t f = 0; f < sizeof fills / sizeof *fills; f++)
+    for (size_t f = 0; f < sizeof fills / sizeof *fills; f++) {
+        /* behind the eight literals of the first record and the literal of the first fan: an aggregate that names no page, where the fill has one there */
+        make_nested(image, PAGES, 0, 1, 0, fills[f].fill);
+        if (is_aggregate(image, 9)) bad |= row(fills[f].name, "inner", image, copy, 9, 0);
         for (size_t r = 0; r < sizeof records / sizeof *records; r++)
             for (int last = 0; last < 2; last++) {
                 /* a leaf is the second node of a full record; with all records in the branch, the root has no other child */
                 uint32_t child = records[r] ? make_branch(image, PAGES, records[r], last, fills[f].fill) : make_nested(image, PAGES, 0, 1, last, fills[f].fill);
                 if (records[r] < PAGES - 2 || !last) bad |= row(fills[f].name, last ? "end" : "front", image, copy, child, records[r]);
             }
+    }
     free(image);
     free(copy);
     return bad;

@@ -41,8 +41,8 @@
 extern "C" {
 #endif
 
-/* The version of the calls. A call that is changed, or that gives other answers than before, changes the first number; a call that is added changes the
- * second. The format of images has a number of its own, NL_FORM. */
+/* The version of the calls. A call or a name that is changed or gone, and a call that gives other answers than before, change the first number; a call that is
+ * added changes the second. The format of images has a number of its own, NL_FORM. */
 #define NL_VERSION "2.0"
 #define NL_VERSION_MAJOR 2
 #define NL_VERSION_MINOR 0

@@ -44,13 +44,14 @@ awk -v kind="$kind" '/ calls, / { calls += $2; differences += $4 }
             met[name] += substr(part[i], length(name) + 2)
         }
     }
+    match($0, /^deepest nesting of records: [0-9]+/) { split(substr($0, RSTART), word, " "); if (word[5] > deepest) deepest = word[5] }
     match($0, /before the walk: [0-9]+/) { split(substr($0, RSTART), word, " "); before += word[4] }
     match($0, /in the walk: [0-9]+/) { split(substr($0, RSTART), word, " "); walk += word[4] }
     END {
         reached["inserts"] = "; splits at an exact half: " down + 0 " go down, " up + 0 " up"
         helpers = ", helpers replaced by a proxy " by_proxy + 0 ", by another child " by_other + 0
         reached["removals"] = "; removed " removed + 0 ", records freed " freed + 0 helpers
-        reached["hostile"] = "; images refused before the walk " before + 0 ", in the walk " walk + 0
+        reached["hostile"] = "; images refused before the walk " before + 0 ", in the walk " walk + 0 ", records nested " deepest + 0 " deep"
         stores = "; stores full " full + 0 " times, empty " empty + 0 ", full again " again + 0
         text = kind ": " calls " calls compared, " differences " differences" reached[kind] (kind == "removals" ? stores : "")
         missed = !cases
@@ -60,5 +61,5 @@ awk -v kind="$kind" '/ calls, / { calls += $2; differences += $4 }
         }
         print text
         # a run that meets no such case shows less than it says
-        exit missed || kind == "removals" && !(freed && by_proxy && by_other && full && empty && again) || kind == "hostile" && !(before && walk)
+        exit missed || kind == "removals" && !(freed && by_proxy && by_other && full && empty && again) || kind == "hostile" && !(before && walk && deepest == 1022)
     }' "target/$kind.log"

@@ -9,7 +9,8 @@ rt staticlib nichelarder >/dev/null
 flags=(-std=c99 -O2 -Wall -Wextra -Werror)
 "$cc" "${flags[@]}" tests/replay.c target/staticlib/libnichelarder.a -o target/replay
 "$cc" "${flags[@]}" tests/deep.c target/staticlib/libnichelarder.a -o target/deep
-"$cc" "${flags[@]}" tests/stack.c target/staticlib/libnichelarder.a -o target/stack -pthread
+# bound lazily, as programs are by default: a process's first call takes the most then
+"$cc" "${flags[@]}" tests/stack.c target/staticlib/libnichelarder.a -o target/stack -pthread -Wl,-z,lazy
 "$cc" "${flags[@]}" tests/buffers.c target/staticlib/libnichelarder.a -o target/buffers
 "$cc" "${flags[@]}" tests/walk.c target/staticlib/libnichelarder.a -o target/walk
 at 2 "the header alone, in C and in C++, and the example, whose output is stored"

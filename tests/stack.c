@@ -2,9 +2,9 @@
  * call that changes nothing, NL_STACK_CHANGE for any. Records that are nested in one another take nothing: with 1 and with 1,022 of them a call takes as much,
  * but for 64 bytes at most. An insert takes at most 24 KB beside the check of the same image, a removal at most 8 KB.
  * The images: a small tree; one grown by inserts; two whose splits cascade, the second through as many records as can be; one whose split goes down through
- * all levels; aggregates on all levels with a node beside each, since the check goes into those with a call a level; the deepest nesting of records, a chain
- * of helper records through 1,022 pages, in the root's row, in one branch, which is removed whole, and in the last of the aggregates, and the same with a
- * chain of one. Then broken ones: a level too many, alone and with the chain, and the chain broken at its end.
+ * all levels; aggregates on all levels with a node beside each, since the check goes into those with a call a level, in one record and each the root of its
+ * own; the deepest nesting of records, a chain of helper records through 1,022 pages, in the root's row, in one branch, which is removed whole, and in the
+ * last of the aggregates, and the same with a chain of one. Then broken ones: a level too many, alone and with the chain, and the chains broken at their end.
  * `stack save FILE` writes the image whose split goes down through all levels. `stack first CALL FILE` measures the first call of a process, on that image:
  * where the program is bound lazily, the loader looks up memset and memcpy on the caller's stack then. */
 #define _POSIX_C_SOURCE 200809L
@@ -120,36 +120,25 @@ static size_t used(void *(*run)(void *)) {
 
 static size_t base, worst_insert, worst_removal; /* the most that each took beside the check so far */
 
-static size_t two_at(const uint8_t *p) { return p[0] + 256u * p[1]; }
-
-/* How many records stand in one another below page 1, at most; the image passes the check. */
-static size_t nesting(void) {
-    size_t most = 0, page, at, n;
-    for (page = 2; page < image_len / NL_PAGE; page++) {
-        if (!image[NL_PAGE * page + 4080])
-            continue;
-        for (n = 0, at = page; at != 1; n++)
-            at = two_at(image + NL_PAGE * at + 4084);
-        if (n > most)
-            most = n;
-    }
-    return most;
-}
-
-/* What each call takes, at most: on all images, and where one record is nested in the root's, where those of all pages are. */
+/* What each call takes, at most. */
 struct taken {
     const char *name;
     void *(*run)(void *);
     size_t figure; /* the header's, which it must not pass */
-    size_t most, one, all;
+    size_t most;
 };
 
+/* What was measured on the images with a chain of one record and, in the same order, with one of 1,022: how many times so far, and which of the two. */
+static size_t seen[2][512], times;
+static int chain = -1;
+static uint32_t wanted; /* what every call is to answer */
+
 static struct taken reads[] = {
-    {"check", check, NL_STACK_READ, 0, 0, 0},     {"diagnose", diagnose, NL_STACK_READ, 0, 0, 0}, {"walk", walk, NL_STACK_READ, 0, 0, 0},
-    {"find", find, NL_STACK_READ, 0, 0, 0},       {"climb", climb, NL_STACK_READ, 0, 0, 0},       {"read", read_node, NL_STACK_READ, 0, 0, 0},
-    {"next", next_node, NL_STACK_READ, 0, 0, 0}, {"records", records, NL_STACK_READ, 0, 0, 0}};
-static struct taken inserts = {"insert", insert, NL_STACK_CHANGE, 0, 0, 0}, removals = {"remove", removal, NL_STACK_CHANGE, 0, 0, 0};
-static struct taken formats = {"format", format_again, NL_STACK_CHANGE, 0, 0, 0};
+    {"check", check, NL_STACK_READ, 0},     {"diagnose", diagnose, NL_STACK_READ, 0}, {"walk", walk, NL_STACK_READ, 0},
+    {"find", find, NL_STACK_READ, 0},       {"climb", climb, NL_STACK_READ, 0},       {"read", read_node, NL_STACK_READ, 0},
+    {"next", next_node, NL_STACK_READ, 0}, {"records", records, NL_STACK_READ, 0}};
+static struct taken inserts = {"insert", insert, NL_STACK_CHANGE, 0}, removals = {"remove", removal, NL_STACK_CHANGE, 0};
+static struct taken formats = {"format", format_again, NL_STACK_CHANGE, 0};
 
 enum { READS = sizeof reads / sizeof *reads };
 
@@ -158,50 +147,55 @@ static void raise_to(size_t *most, size_t n) {
         *most = n;
 }
 
-/* Runs a call on an image in which so many records are nested. */
-static size_t take(struct taken *t, size_t nested) {
+static size_t take(struct taken *t) {
     size_t n = used(t->run) - base;
+    if (number != wanted || times == sizeof seen[0] / sizeof *seen[0])
+        exit(2);
     raise_to(&t->most, n);
-    if (nested == 1)
-        raise_to(&t->one, n);
-    if (nested == NL_PAGES - 2)
-        raise_to(&t->all, n);
+    if (chain >= 0)
+        seen[chain][times++] = n;
     return n;
 }
 
 /* Runs a call that changes the image, which stays. */
-static size_t beside(struct taken *t, size_t c, size_t *worst, size_t nested) {
-    size_t n = take(t, nested);
+static size_t beside(struct taken *t, size_t c, size_t *worst) {
+    size_t n = take(t);
     memcpy(image, before, image_len);
     raise_to(worst, n > c ? n - c : 0);
     return n;
 }
 
 /* The calls that change nothing, at the place in `place`. */
-static void measure_reads(size_t nested) {
+static void measure_reads(void) {
     int i;
     for (i = 0; i < READS; i++)
-        take(reads + i, nested);
+        take(reads + i);
 }
 
-/* Prints what a call takes; 1 if that is more than the header says, or grows with the records that are nested. */
+/* Prints what a call takes; 1 if that is more than the header says. */
 static int report(const struct taken *t) {
-    int over = t->most > t->figure, grows = t->all > t->one + 64;
-    printf("%-8s %5zu bytes of stack at most; where 1 record is nested in another %5zu, where 1,022 are %5zu\n", t->name, t->most, t->one, t->all);
-    if (over)
+    printf("%-8s %5zu bytes of stack at most\n", t->name, t->most);
+    if (t->most > t->figure)
         printf("stack: %s takes %zu, and the header says %zu\n", t->name, t->most, t->figure);
-    if (grows)
-        printf("stack: %s takes more where records are nested\n", t->name);
-    return over || grows;
+    return t->most > t->figure;
+}
+
+/* 1 if a call takes another amount, by over 64 bytes, where 1,022 records are nested in one another than where one is. */
+static int report_nested(size_t ones) {
+    size_t i, most = 0;
+    for (i = 0; i < times; i++)
+        raise_to(&most, seen[0][i] < seen[1][i] ? seen[1][i] - seen[0][i] : seen[0][i] - seen[1][i]);
+    printf("with 1 and with 1,022 records nested in one another, %zu calls: they differ by %zu bytes at most\n", times, most);
+    return most > 64 || times != ones || !times;
 }
 
 /* All calls on a broken image, which they refuse. */
-static void measure_broken(size_t nested) {
-    if (nl_check(image, image_len) != NL_BROKEN)
-        exit(2);
-    measure_reads(nested);
-    take(&inserts, nested);
-    take(&removals, nested);
+static void measure_broken(void) {
+    wanted = NL_BROKEN;
+    measure_reads();
+    take(&inserts);
+    take(&removals);
+    wanted = NL_OK;
 }
 
 /* The path of a child of the parent. */
@@ -216,31 +210,31 @@ static void put_child(uint32_t k) {
  * parent, and removal of its first and of its last child. */
 static void measure(const char *name) {
     uint32_t parent[6];
-    size_t c = used(check) - base, n, nested = nesting();
+    size_t c = used(check) - base, n;
     int last;
     memset(path, 0, sizeof path);
     place[0] = 1, place[1] = 0;
-    measure_reads(nested);
+    measure_reads();
     nl_find(image, image_len, content, above, place);
     nl_read(image, image_len, place[0], place[1], parent);
-    measure_reads(nested);
+    measure_reads();
     memcpy(before, image, image_len);
     for (last = 0; last < 2 && parent[2]; last++) {
         put_child(last ? parent[2] - 1 : 0);
         nl_find(image, image_len, path, above + 4, place);
-        measure_reads(nested);
+        measure_reads();
     }
-    take(&formats, nested);
+    take(&formats);
     memcpy(image, before, image_len);
     for (last = 0; last < 2; last++) {
         child = last ? parent[2] : 0;
-        n = beside(&inserts, c, &worst_insert, nested);
+        n = beside(&inserts, c, &worst_insert);
         if (name)
             printf("%-8s check %7zu  insert %7zu bytes of stack, answer %u, %u splits\n", name, c, n, number, answer[2]);
     }
     for (last = 0; last < 2 && parent[2]; last++) {
         put_child(last ? parent[2] - 1 : 0);
-        n = beside(&removals, c, &worst_removal, nested);
+        n = beside(&removals, c, &worst_removal);
         if (name)
             printf("%-8s check %7zu  remove %7zu bytes of stack, answer %u\n", name, c, n, number);
     }
@@ -315,29 +309,48 @@ static void make_deep_split(void) {
             exit(2);
 }
 
-/* All images with so many pages in which records are nested, whole and broken. */
+/* Aggregates on all levels, each the root of a record of its own, with a literal behind the proxy of the next. */
+static void make_roots(void) {
+    unsigned page;
+    image_len = 4096u * (NL_LEVELS + 1);
+    memset(image, 0, image_len);
+    put_settings(image, NL_LEVELS + 1);
+    for (page = 1; page <= NL_LEVELS; page++) {
+        uint8_t *p = image + 4096u * page, *at = p + 6;
+        if (page < NL_LEVELS)
+            at = put_node(put_proxy(at, page + 1), 2, 9, 6);
+        put_node(p, 1, 9, (unsigned)(at - p));
+        put_trailer(p, 1, page == 1, (unsigned)(at - p), page - 1);
+    }
+}
+
+/* A chain of records, whole, and broken in its last one: its last node, then a byte past it. */
+static void measure_chain(const char *name, unsigned pages) {
+    uint8_t *last = image + 4096u * (pages - 1u);
+    measure(pages == NL_PAGES ? name : NULL);
+    last[12] = 5;
+    measure_broken();
+    last[12] = 2;
+    last[4079] = 1;
+    measure_broken();
+    last[4079] = 0;
+}
+
+/* All images with so many pages in which helpers' records are nested, whole and broken. */
 static void measure_nested(unsigned pages) {
-    uint8_t *last;
     above = 88;
     make_levels(22, pages);
-    measure(pages == NL_PAGES ? "all" : NULL);
+    measure_chain("all", pages);
     make_levels(23, pages);
-    measure_broken(pages - 2);
+    measure_broken();
     above = 0;
     make_links(pages);
-    measure(pages == NL_PAGES ? "deepest" : NULL);
+    measure_chain("deepest", pages);
     /* the proxy of page 2 in an aggregate of the root */
     memcpy(image + 4096 + 12, image + 4096 + 6, 8);
     two(image + 4096 + 6, 1), two(image + 4096 + 8, 9), two(image + 4096 + 10, 14);
     two(image + 4096 + 4, 20), two(image + 4096 + 4082, 20);
-    measure(pages == NL_PAGES ? "branch" : NULL);
-    /* the last record of the chain: its last node, then a byte past it */
-    last = image + 4096u * (pages - 1u);
-    last[12] = 5;
-    measure_broken(pages - 2);
-    last[12] = 2;
-    last[4079] = 1;
-    measure_broken(pages - 2);
+    measure_chain("branch", pages);
 }
 
 /* The image of a file, as `save` writes it. */
@@ -363,13 +376,14 @@ static int first(const char *name) {
             printf("%-8s %5zu bytes of stack as a process's first call, answer %u\n", name, n, number);
             if (n > all[i]->figure)
                 printf("stack: the header says %zu\n", all[i]->figure);
-            return n > all[i]->figure;
+            return number || n > all[i]->figure;
         }
     return 2;
 }
 
 int main(int argc, char **argv) {
     unsigned k;
+    size_t ones;
     int over;
     base = used(nothing);
     image = malloc(4096u * 1024), before = malloc(4096u * 1024);
@@ -403,17 +417,21 @@ int main(int argc, char **argv) {
     make_levels(22, 2);
     measure("levels");
     make_levels(23, 2);
-    measure_broken(0);
+    measure_broken();
     above = 0;
+    make_roots();
+    measure("roots");
     /* the longest cascade: 511 full records */
     make_chain(image, 512, fill_small);
     memset(image + 4096u * 512, 0, 4096u * 512);
     put16(image, 1024);
     image_len = 4096u * 1024;
     measure("longest");
+    chain = 0;
     measure_nested(3);
+    ones = times, times = 0, chain = 1;
     measure_nested(NL_PAGES);
-    over = report(&formats) + report(&inserts) + report(&removals);
+    over = report(&formats) + report(&inserts) + report(&removals) + report_nested(ones);
     for (k = 0; k < READS; k++)
         over += report(reads + k);
     printf("insert beside the check: at most %zu bytes\n", worst_insert);

@@ -197,7 +197,7 @@ fn row_stop(image: &[u8], i: usize, level: usize, w: Nest, held: &[usize; STACK]
     row_end(image, i / Settings::PAGE)
 }
 
-// Out of the record at whose end the cursor is: behind its proxy,
+// Out of the record at whose end the cursor is, behind its proxy.
 fn behind_record(
     image: &[u8],
     c: Cursor,
@@ -220,7 +220,7 @@ fn behind_record(
     }
 }
 
-// in what is around it.
+// What the walk is in then.
 fn around(c: Cursor, w: Nest, held: &[usize; STACK]) -> Nest
     requires { ⌜ (c .level ≤ mostLevels) × (1 ≤ w .depth) ⌝ }
     ensures { λ r. ⌜ r ≡ outer c w (now (held .entry)) ⌝ }

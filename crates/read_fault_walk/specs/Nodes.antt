@@ -14,11 +14,12 @@ use Rattle.model.specs.Row.{mayStand, standing}
 use Rattle.model.specs.Reading.{usedAt, nameAt}
 use Rattle.model.specs.WalkTests.{wholeSize, passingKind, namesOf, rootFits, tailZero}
 use Rattle.model.specs.Calls.Diagnose.{been, contains, Inside, row, stops, badNode, pastLength, tooDeep, badProxy, inside}
+use Rattle.theory_check.specs.Levels.{recordEnd}
 use Rattle.theory_check.specs.Tests.{isMarked, marked}
 use Rattle.theory_check.specs.Steps.{named, passing, size-long}
 use Rattle.theory_faults.specs.Reached.{Matches, matches-more}
 use Rattle.read_fault_walk.specs.declared.Inner.{Inner}
-use Rattle.read_fault_walk.specs.Rows.{part, Within, Holds, recordEnd, rowAt, stopsAt, Rooted, Opened, Into, proxy, helper, Leads, LeadsTo, recordOn}
+use Rattle.read_fault_walk.specs.Rows.{part, Within, Holds, rowAt, stopsAt, Rooted, Opened, Into, proxy, helper, Leads, LeadsTo, recordOn}
 use Rattle.read_fault_walk.specs.Rows.{proxyTo, insideOf, nextOf, Sized, firstOf}
 
 -- ── parts ──

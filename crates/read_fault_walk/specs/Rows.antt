@@ -12,6 +12,7 @@ use Rattle.model.specs.WalkTests.{wholeSize, namesOf, rootFits}
 use Rattle.model.specs.Calls.Diagnose.{been, Walk, on, stopped, contains, Inside, row, stops, badNode, badProxy, recordRow, inside, into}
 use Rattle.theory_check.specs.Tests.{isMarked, marked}
 use Rattle.theory_check.specs.Marks.{IsMarks}
+use Rattle.theory_check.specs.Levels.{recordEnd}
 use Rattle.theory_faults.specs.Fuel.{walk}
 use Rattle.theory_faults.specs.Reached.{Matches}
 use Rattle.read_fault_walk.specs.declared.Inner.{Inner}
@@ -32,10 +33,6 @@ pub record Holds (img : List ℕ) (p : ℕ) : Type 0 where
   pub few : p < mostPages
   pub on : pageSize * p + pageSize ≤ length img
   pub used : usedAt img (pageSize * p) ≤ capacity
-
--- Where it ends.
-abbrev pub recordEnd : (img : List ℕ) → (p : ℕ) → ℕ
-recordEnd img p = pageSize * p + usedAt img (pageSize * p)
 
 -- ── what a node leads into ──
 

@@ -12,6 +12,7 @@ use borrow.Author.Tests.{eqb-true, eqb-false, eq-eqb, ne-eqb}
 use Rattle.model.specs.Limits.{mostPages, pageSize, mostLevels}
 use Rattle.model.specs.WalkTests.{wholeSize}
 use Rattle.model.specs.Calls.Diagnose.{Been, been, Walk, on, stopped, onward, into}
+use Rattle.theory_check.specs.Levels.{recordEnd}
 use Rattle.theory_check.specs.Steps.{size-long}
 use Rattle.theory_check.specs.Tests.{isMarked, marked}
 use Rattle.theory_check.specs.Marks.{IsMarks, marks-kept, is-marked}
@@ -19,7 +20,7 @@ use Rattle.theory_faults.specs.Fuel.{walk, walk-none, walk-bad, walk-more}
 use Rattle.theory_faults.specs.Reached.{Matches}
 use Rattle.read_fault_walk.specs.declared.Inner.{Inner}
 use Rattle.read_fault_walk.specs.declared.Walked.{Walked}
-use Rattle.read_fault_walk.specs.Rows.{part, Within, Holds, recordEnd, rowAt, Into, proxy, helper, literal, aggregate, Leads, insideOf, nextOf, Sized}
+use Rattle.read_fault_walk.specs.Rows.{part, Within, Holds, rowAt, Into, proxy, helper, literal, aggregate, Leads, insideOf, nextOf, Sized}
 use Rattle.read_fault_walk.specs.Rows.{firstOf, walkedTo, stoppedAt, Ended, walkOf, Ends, Keeps, Stays}
 use Rattle.read_fault_walk.specs.Nodes.{drop-part, take-part, length-part, no-part, same-page, within-rest, within-front, within-long, record-within}
 

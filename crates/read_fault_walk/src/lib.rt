@@ -4,6 +4,7 @@ use base_layout::used_at;
 use model::Settings;
 use read_marks::is_marked;
 use read_marks::names;
+use read_marks::record_end;
 use read_marks::root_fits;
 use read_marks::set_mark;
 use read_marks::tail_zero;
@@ -17,7 +18,7 @@ ghost use Rattle.model.specs.Limits.{mostPages, mostLevels, pageSize};
 ghost use Rattle.model.specs.Reading.{usedAt};
 ghost use Rattle.theory_check.specs.Check.{PassedBefore};
 ghost use Rattle.theory_check.specs.Marks.{IsMarks};
-ghost use Rattle.read_fault_walk.specs.Rows.{Within, Holds, recordEnd, rowAt, stopsAt, Rooted, Opened, Into, Leads, LeadsTo, recordOn, proxyTo};
+ghost use Rattle.read_fault_walk.specs.Rows.{Within, Holds, rowAt, stopsAt, Rooted, Opened, Into, Leads, LeadsTo, recordOn, proxyTo};
 ghost use Rattle.read_fault_walk.specs.Rows.{insideOf, nextOf, Sized, firstOf, walkedTo, stoppedAt, walkOf, recordWalk, Ends, Stays};
 
 // A proxy's bytes.
@@ -207,15 +208,6 @@ fn went(left: usize) -> Walked
         page: 0,
         reason: 0,
     }
-}
-
-// Where the record on page p ends.
-fn record_end(image: &[u8], p: usize) -> usize
-    requires { ⌜ Holds (now image) p ⌝ }
-    ensures { λ r. ⌜ r ≡ recordEnd (now (image .entry)) p ⌝ }
-{
-    let a = Settings::PAGE * p;
-    a + used_at(image, a)
 }
 
 // Whether a row that ends at `end` is the last of the call's own, so that its nodes may take its place.

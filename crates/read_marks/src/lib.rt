@@ -14,6 +14,16 @@ ghost use Rattle.model.specs.WalkTests.{namesOf, rootFits, tailZero};
 ghost use Rattle.theory_check.specs.Tests.{isMarked, marked};
 ghost use Rattle.theory_check.specs.Walk.{state, entersOf};
 ghost use Rattle.theory_check.specs.Check.{PassedBefore};
+ghost use Rattle.theory_check.specs.Levels.{recordEnd};
+
+// Where the record on a page ends.
+pub fn record_end(image: &[u8], page: usize) -> usize
+    requires { ⌜ (page < mostPages) × (pageSize * page + pageSize ≤ length (now image)) ⌝ }
+    ensures { λ r. ⌜ r ≡ recordEnd (now (image .entry)) page ⌝ }
+{
+    let a = Settings::PAGE * page;
+    a + used_at(image, a)
+}
 
 // ── marks: a bit for each page ──
 

@@ -6,20 +6,19 @@ use Prim.Native.Nat.{ℕ, _+_, _-_, _*_, _/_, _≤_, _<_}
 use native.Mathlib.Omega.{arith}
 use lib.ListN.{length, getD, set, take, drop}
 use lib.Dec.{eqb}
-use borrow.Author.Tests.{eqb-true, eqb-false, ne-eqb}
+use borrow.Author.Tests.{eqb-true, eqb-false}
 use Rattle.model.specs.Limits.{mostPages, pageSize, capacity, mostLevels}
 use Rattle.model.specs.Reading.{nameAt}
 use Rattle.model.specs.WalkTests.{wholeSize, passingKind}
-use Rattle.theory_check.specs.Tests.{marked}
 use Rattle.theory_check.specs.Walk.{state, entersOf, nodeOf}
 use Rattle.theory_check.specs.Steps.{Entered}
-use Rattle.theory_check.specs.Levels.{refused, bytes}
+use Rattle.theory_check.specs.Levels.{refused, bytes, recordEnd}
 use Rattle.base_node_kinds.specs.Holders.{kindsIn}
 use Rattle.read_nodes.specs.Leaf.{aggregateOf, literalOf}
 use Rattle.read_nodes.specs.Stand.{kindBy}
 use Rattle.read_leaves.specs.Leafy.{Leafy}
 use Rattle.read_walker.specs.declared.Walker.{Walker}
-use Rattle.read_walker.specs.Turns.{Fits, walker, recordEnd, reachOf, reach-zero, reach-is, markedOf, outOf}
+use Rattle.read_walker.specs.Turns.{Fits, walker, reachOf, reach-zero, reach-is, markedOf, marked-is, outOf}
 use Rattle.read_walk.specs.Going.{PartAt, Ended, Goal, Own}
 use Rattle.read_walk.specs.Turns.{At, at-short, at-in, at-size, at-part, at-empty, at-literal, at-none, at-leaves, at-bad, at-node, at-node-less}
 use Rattle.read_walk.specs.Turns.{at-not-eight, at-not-enter, at-entered, at-record-part, at-no-root, at-root-long, at-helper, at-deep-record}
@@ -166,9 +165,6 @@ module _ {img marks widths back : List ℕ} {g : Goal} {w : Walker} (s : Standin
 
 -- ── the node that stands there ──
 
-pub marks-are : {p : ℕ} (marks : List ℕ) → (p ≡ 0 → ⊥) → markedOf p marks ≡ marked marks p
-marks-are {p} marks z = simp (ne-eqb p 0 z)
-
 module _ {img part marks widths back : List ℕ} {g : Goal} {w : Walker} (s : Standing img g marks widths back w) (n : NodeAt img part w) where
   abbrev x : List ℕ
   x = bytes img (w .at) (w .end)
@@ -263,16 +259,13 @@ module _ {img part marks widths back : List ℕ} {g : Goal} {w : Walker} (s : St
           pub proxy-long : (root ≡ 0 → ⊥) → 6 ≤ length (bytes img (pageSize * p) e)
           proxy-long = at-root-long (s .own) (s .at) (length part) (n .size) (n .some) 3 three refl eight p name enters e ends root is-root
 
-          marked-is : markedOf p marks ≡ marked marks p
-          marked-is = marks-are marks some
-
           -- a helper: the list goes on in its record
           pub turned-helper : root ≡ 4
               → Turned img g (markedOf p marks) (set widths p (w .count)) (set back p (w .at + 8)) w
               (walker (kindsIn 4) (w .left - 1) (w .count) (w .depth + 1) (pageSize * p + 6) e (w .level))
           turned-helper four =
               let t = at-helper (s .own) (s .at) (length part) (n .size) (n .some) 3 three refl eight p name enters e ends root is-root
-              (markedOf p marks) marked-is (kindsIn 4) refl four in
+              (markedOf p marks) (marked-is p marks some) (kindsIn 4) refl four in
               let a = subst (λ (k : ℕ). At img g (markedOf p marks) (set widths p (w .count)) (set back p (w .at + k)) (kindsIn 4) (w .left - 1) (w .count)
               (w .depth + 1) (pageSize * p + 6) e) eight t in
               record {
@@ -302,7 +295,7 @@ module _ {img part marks widths back : List ℕ} {g : Goal} {w : Walker} (s : St
               (walker (w .kinds) (w .left - 1) (w .count + 1) (w .depth) (w .at + 8) (w .end) (w .level))
           turned-literal two l =
               let a = at-literal-record (s .own) (s .at) (length part) (n .size) (n .some) 3 three refl eight p name enters e ends root is-root two
-              (omega (arith, s .level)) (markedOf p marks) marked-is in
+              (omega (arith, s .level)) (markedOf p marks) (marked-is p marks some) in
               turned-root (markedOf p marks) (set widths p 1) back (w .left - 1) (omega arith) (λ z. absurd (omega (arith, a .1))) (λ _. a)
 
           -- an aggregate
@@ -313,7 +306,7 @@ module _ {img part marks widths back : List ℕ} {g : Goal} {w : Walker} (s : St
           turned-aggregate one m₁ same r m t b came =
               let came' = subst (λ (v : ℕ). (h : ℕ) → 1 ≡ passingKind (bytes img (pageSize * p) e) h
               → Ended (nodeOf img (bytes img (pageSize * p) e) (pageSize * p / pageSize) h v (state (w .left - 1) m₁)) r m₁ m widths t back b) (s .level) came in
-              let q = same ∙ marked-is in
+              let q = same ∙ marked-is p marks some in
               turned-root m (set t p 1) b r
               (omega (arith, at-record-less (s .own) (s .at) (length part) (n .size) (n .some) 3 three refl eight p name enters e ends root is-root one m₁ q r m t b came'))
               (at-bad-record (s .own) (s .at) (length part) (n .size) (n .some) 3 three refl eight p name enters e ends root is-root one m₁ q r m t b came')

@@ -2,6 +2,7 @@
 // whatever the bytes: a list goes on into the record of a helper, and comes back out of it, in its own loop.
 use model::Settings;
 use read_leaves::holds_leaves;
+use read_marks::record_end;
 use read_marks::tail_zero;
 use read_nodes::aggregate;
 use read_nodes::head;
@@ -15,7 +16,6 @@ use read_walker::first;
 use read_walker::leave;
 use read_walker::past;
 use read_walker::reach;
-use read_walker::record_end;
 use read_walker::refused;
 ghost use mathlib.Core.Path.{_≡_};
 ghost use mathlib.Core.Bool.{true, false};

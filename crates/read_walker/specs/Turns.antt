@@ -8,10 +8,11 @@ use lib.ListN.{length}
 use lib.Dec.{eqb}
 use borrow.Author.Tests.{eq-eqb, ne-eqb, eqb-true}
 use Rattle.model.specs.Limits.{pageSize}
-use Rattle.model.specs.Reading.{usedAt, nameAt}
+use Rattle.model.specs.Reading.{nameAt}
 use Rattle.theory_check.specs.Tests.{marked}
 use Rattle.theory_check.specs.Walk.{state, entersOf}
 use Rattle.theory_check.specs.Steps.{entered}
+use Rattle.theory_check.specs.Levels.{recordEnd}
 use Rattle.base_node_kinds.specs.declared.Kinds.{Kinds}
 use Rattle.base_node_kinds.specs.Holders.{kindsIn}
 use Rattle.read_walker.specs.declared.Walker.{Walker}
@@ -24,10 +25,6 @@ pub record Fits (w : Walker) : Type 0 where
   pub count : w .count < 16777216
   pub depth : w .depth < 16777216
   pub at : w .at < 16777216
-
--- Where the record on a page ends.
-abbrev pub recordEnd : (img : List ℕ) → (page : ℕ) → ℕ
-recordEnd img p = pageSize * p + usedAt img (pageSize * p)
 
 -- The page that a proxy names, if the walk may enter it, else 0.
 unfoldable pub reachOf : (img proxy : List ℕ) → (page left : ℕ) → (marks : List ℕ) → ℕ
@@ -55,8 +52,8 @@ module _ (img : List ℕ) (w : Walker) (last to : ℕ) where
 
 -- ── the page of a proxy ──
 
-pub marked-is : (p : ℕ) (marks : List ℕ) → (p ≡ 0 → ⊥) → marked marks p ≡ markedOf p marks
-marked-is p marks z = sym (simp (ne-eqb p 0 z))
+pub marked-is : (p : ℕ) (marks : List ℕ) → (p ≡ 0 → ⊥) → markedOf p marks ≡ marked marks p
+marked-is p marks z = simp (ne-eqb p 0 z)
 
 module _ (img s : List ℕ) (page left : ℕ) (marks : List ℕ) where
   pub reach-short : (length s ≡ 8 → ⊥) → 0 ≡ reachOf img s page left marks

@@ -1,11 +1,11 @@
 // Where the check's walk over a logical list is, and its turns: past a node, into a helper's record, and back out of it.
 use base_layout::name_at;
-use base_layout::used_at;
 use base_node_kinds::Kinds;
 use base_node_kinds::in_aggregate;
 use base_node_kinds::in_helper;
 use model::Settings;
 use read_marks::enters;
+use read_marks::record_end;
 use read_marks::set_mark;
 ghost use mathlib.Core.Path.{_≡_};
 ghost use Prim.Native.Nat.{_+_, _-_, _*_, _/_, _≤_, _<_};
@@ -13,7 +13,7 @@ ghost use lib.ListN.{length, getD, set};
 ghost use Rattle.model.specs.Limits.{mostPages, pageSize};
 ghost use Rattle.base_node_kinds.specs.Holders.{kindsIn};
 ghost use Rattle.theory_check.specs.Check.{PassedBefore};
-ghost use Rattle.read_walker.specs.Turns.{Fits, walker, recordEnd, reachOf, markedOf, outOf};
+ghost use Rattle.read_walker.specs.Turns.{Fits, walker, reachOf, markedOf, outOf};
 
 // At byte `at` of the image, in a row that ends at `end` and takes these kinds of nodes, which have the level. `left` is one more than the pages that are to
 // be reached, 0 where the walk is refused; `count` nodes are passed, and the list is in `depth` records of helpers.
@@ -25,15 +25,6 @@ pub struct Walker {
     pub at: usize,
     pub end: usize,
     pub level: usize,
-}
-
-// Where the record on a page ends.
-pub fn record_end(image: &[u8], page: usize) -> usize
-    requires { ⌜ (page < mostPages) × (pageSize * page + pageSize ≤ length (now image)) ⌝ }
-    ensures { λ r. ⌜ r ≡ recordEnd (now (image .entry)) page ⌝ }
-{
-    let a = Settings::PAGE * page;
-    a + used_at(image, a)
 }
 
 // At the start of a list whose own row stands from `start` to `last`.

@@ -126,6 +126,10 @@ module _ (img : List ℕ) (p page level : ℕ) (w : State) where
 
 -- ── where a walk over a list stands ──
 
+-- Where the record on a page ends.
+abbrev pub recordEnd : (img : List ℕ) → (page : ℕ) → ℕ
+recordEnd img p = pageSize * p + usedAt img (pageSize * p)
+
 -- A helper's record that is open: its page, the byte of the image at which the list goes on behind its proxy, and how many nodes were passed before it.
 pub record Frame : Type 0 where
   pub page : ℕ
@@ -148,7 +152,7 @@ module _ (img : List ℕ) (page level last : ℕ) where
 
   abbrev pub endIn : List Frame → ℕ
   endIn [] = last
-  endIn (f ∷ fs) = pageSize * f .page + usedAt img (pageSize * f .page)
+  endIn (f ∷ fs) = recordEnd img (f .page)
 
   -- The rest of that row.
   abbrev pub restOf : (at : ℕ) → State → List Frame → Decoded

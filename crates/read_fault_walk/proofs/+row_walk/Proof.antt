@@ -16,7 +16,7 @@ use Rattle.read_fault_walk.proofs.row_walk.Kinds as row-walk-kinds
 use Rattle.read_fault_walk.proofs.+row_walk.Lts-row_walk as row-walk-lts
 use Rattle.read_fault_walk.proofs.first.Reads as first-reads
 use Rattle.read_fault_walk.proofs.last_own.Reads as last-own-reads
-use Rattle.read_fault_walk.proofs.record_end.Reads as record-end-reads
+use Rattle.read_marks.proofs.record_end.Reads as record-end-reads
 use Rattle.read_fault_walk.proofs.stopped.Reads as stopped-reads
 use Rattle.read_fault_walk.proofs.went.Reads as went-reads
 use Rattle.read_fault_walk.proofs.+row_walk.{statement}
@@ -102,7 +102,7 @@ row-walk-loop-again : (t : ℕ) → row-walk-lts.Need-loop-again (claims t) (row
 row-walk-loop-again t c = out-at t (c .before .before) .own-row (c .if3 .taken)
 
 row-walk-record-end-requires : (t : ℕ) → row-walk-lts.Need-record-end-requires (claims t) (row-walk-at t) row-walk.Post Inv-loop μ-loop
-row-walk-record-end-requires t c κs = out-at t (c .before .before) .outer (c .if3 .left)
+row-walk-record-end-requires t c κs = let h = out-at t (c .before .before) .outer (c .if3 .left) in (h .few, h .on)
 
 row-walk-loop-less-2 : (t : ℕ) → row-walk-lts.Need-loop-less-2 (claims t) (row-walk-at t) row-walk.Post Inv-loop μ-loop
 row-walk-loop-less-2 t c =

@@ -15,7 +15,7 @@ use Rattle.read_nodes.specs.Leaves.{sized}
 use Rattle.read_nodes.specs.Stand.{root-low}
 use Rattle.read_leaves.specs.Leafy.{only-fits}
 use Rattle.read_walker.specs.declared.Walker.{Walker}
-use Rattle.read_walker.specs.Turns.{walker}
+use Rattle.read_walker.specs.Turns.{walker, marked-is}
 use Rattle.read_walk.specs.Going.{Goal, going-done}
 use Rattle.read_walk.specs.Turns.{goalOf, own-of, at-start, at-short, at-size, at-stop, ended-none, part-rest, node-ended, deep-ended}
 use Rattle.read_walk.specs.Steps as step
@@ -44,7 +44,7 @@ use Rattle.read_walker.proofs.first.Reads as first-reads
 use Rattle.read_walker.proofs.leave.Reads as leave-reads
 use Rattle.read_walker.proofs.past.Reads as past-reads
 use Rattle.read_walker.proofs.reach.Reads as reach-reads
-use Rattle.read_walker.proofs.record_end.Reads as record-end-reads
+use Rattle.read_marks.proofs.record_end.Reads as record-end-reads
 use Rattle.read_walker.proofs.refused.Reads as refused-reads
 use Rattle.read_walk.proofs.+list_check+node_check+part_check+proxy_check.{statement}
 use Rattle.read_walk.proofs.+list_check+node_check+part_check+proxy_check.Tie.{close}
@@ -283,7 +283,7 @@ module _ (t : ℕ) where
           omega (arith, x .at .0 .few, x .own .few),
           p,
           s .pre .1 .0,
-          subst IsMarks (sym (r .before .reach .ensures .1 ∙ step.marks-are _ (r .if1 .left))) (marks-kept _ _ (x .at .0 .is-marks) (e .names .low)),
+          subst IsMarks (sym (r .before .reach .ensures .1 ∙ marked-is _ _ (r .if1 .left))) (marks-kept _ _ (x .at .0 .is-marks) (e .names .low)),
           x .at .0 .wide,
           x .at .0 .back-long,
         ),

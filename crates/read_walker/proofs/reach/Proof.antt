@@ -1,4 +1,4 @@
-use mathlib.Core.Path.{refl, _∙_}
+use mathlib.Core.Path.{refl, sym, _∙_}
 use native.Mathlib.Omega.{arith}
 use Rattle.theory_check.specs.Facts.{passes, fails}
 use Rattle.theory_check.specs.Steps.{entered}
@@ -28,7 +28,7 @@ returns-3 c =
     let n = k .before .before .before in
     let e = passes (k .before .enters .ensures) (k .if2 .left) in (
       reach-some _ _ _ _ _ _ (n .name-at .ensures .0) (n .before .if1 .left) e,
-      c .set-mark .ensures ∙ marked-is _ _ (λ z. omega (arith, entered _ _ _ _ e .names .past)),
+      c .set-mark .ensures ∙ sym (marked-is _ _ (λ z. omega (arith, entered _ _ _ _ e .names .past))),
     )
 
 pub reach-spec : {M : Type 1} → statement M
