@@ -1,4 +1,2 @@
-pub mod Rows
-pub mod Nodes
 pub mod Steps
 pub mod Root

@@ -14,10 +14,10 @@ use Rattle.model.specs.WalkTests.{wholeSize, passingKind}
 use Rattle.model.specs.Calls.Diagnose.{Inside, stops, badNode, into}
 use Rattle.theory_check.specs.Steps.{passing}
 use Rattle.theory_faults.specs.Fuel.{walk, walk-none}
-use Rattle.read_fault_walk.specs.declared.Inner.{Inner}
-use Rattle.read_fault_walk.specs.declared.Walked.{Walked}
-use Rattle.read_fault_walk.specs.Rows.{part, Within, Holds, innerOf, Rooted, LeadsTo, recordOn, insideOf, nextOf, firstOf, stoppedAt, walkOf, recordWalk, Ends}
-use Rattle.read_fault_walk.specs.Nodes.{length-part, no-part, within-rest, within-long, record-within, record-root, inside-none, inside-aggregate, first-some}
+use Rattle.read_fault_nodes.specs.declared.Inner.{Inner}
+use Rattle.read_fault_nodes.specs.declared.Walked.{Walked}
+use Rattle.read_fault_nodes.specs.Rows.{part, Within, Holds, innerOf, Rooted, LeadsTo, recordOn, insideOf, nextOf, firstOf, stoppedAt, walkOf, recordWalk, Ends}
+use Rattle.read_fault_nodes.specs.Nodes.{length-part, no-part, within-rest, within-long, record-within, record-root, inside-none, inside-aggregate, first-some}
 use Rattle.read_fault_walk.specs.Steps.{onward-none, walk-first, stop-ends}
 
 -- no aggregate

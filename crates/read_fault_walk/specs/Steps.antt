@@ -18,11 +18,11 @@ use Rattle.theory_check.specs.Tests.{isMarked, marked}
 use Rattle.theory_check.specs.Marks.{IsMarks, marks-kept, is-marked}
 use Rattle.theory_faults.specs.Fuel.{walk, walk-none, walk-bad, walk-more}
 use Rattle.theory_faults.specs.Reached.{Matches}
-use Rattle.read_fault_walk.specs.declared.Inner.{Inner}
-use Rattle.read_fault_walk.specs.declared.Walked.{Walked}
-use Rattle.read_fault_walk.specs.Rows.{part, Within, Holds, rowAt, Into, proxy, helper, literal, aggregate, Leads, insideOf, nextOf, Sized}
-use Rattle.read_fault_walk.specs.Rows.{firstOf, walkedTo, stoppedAt, Ended, walkOf, Ends, Keeps, Stays}
-use Rattle.read_fault_walk.specs.Nodes.{drop-part, take-part, length-part, no-part, same-page, within-rest, within-front, within-long, record-within}
+use Rattle.read_fault_nodes.specs.declared.Inner.{Inner}
+use Rattle.read_fault_nodes.specs.declared.Walked.{Walked}
+use Rattle.read_fault_nodes.specs.Rows.{part, Within, Holds, rowAt, Into, proxy, helper, literal, aggregate, Leads, insideOf, nextOf, Sized}
+use Rattle.read_fault_nodes.specs.Rows.{firstOf, walkedTo, stoppedAt, Ended, walkOf, Ends, Keeps, Stays}
+use Rattle.read_fault_nodes.specs.Nodes.{drop-part, take-part, length-part, no-part, same-page, within-rest, within-front, within-long, record-within}
 
 -- ── one walk after another ──
 

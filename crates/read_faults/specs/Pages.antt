@@ -17,7 +17,7 @@ use Rattle.model.specs.Calls.Diagnose.{fault, noFault, freeNotZero, badTrailer,
 use Rattle.theory_check.specs.Facts.{both, not-else}
 use Rattle.theory_check.specs.Parts.{page-free, page-long as length-page}
 use Rattle.theory_check.specs.Tests.{stateOf}
-use Rattle.read_fault_walk.specs.Rows.{part}
+use Rattle.read_fault_nodes.specs.Rows.{part}
 use Rattle.read_faults.specs.Answer.{freeTrailer}
 
 -- ── one page ──

@@ -24,8 +24,8 @@ use Rattle.theory_faults.specs.Stages.{count-is, pages-stage}
 use Rattle.theory_faults.specs.Tests.{record-some, record-long}
 use Rattle.theory_faults.specs.Exact.{no-fault, some-fault}
 use Rattle.theory_decoding.specs.Length.{length-says}
-use Rattle.read_fault_walk.specs.declared.Walked.{Walked}
-use Rattle.read_fault_walk.specs.Rows.{Holds, recordOn, Ended, recordWalk, Ends}
+use Rattle.read_fault_nodes.specs.declared.Walked.{Walked}
+use Rattle.read_fault_nodes.specs.Rows.{Holds, recordOn, Ended, recordWalk, Ends}
 use Rattle.read_faults.specs.Answer.{answer}
 
 -- ── before the walk ──

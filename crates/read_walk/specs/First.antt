@@ -19,8 +19,8 @@ use Rattle.theory_check.specs.Widths.{widthsAfter}
 use Rattle.theory_check.specs.Steps.{passing}
 use Rattle.theory_check.specs.Levels.{outcome, outcomeOf, bytes}
 use Rattle.theory_check.specs.ByKind.{node-none}
-use Rattle.read_walk.specs.Going.{PartAt, Ended, reaches, left-none}
-use Rattle.read_walk.specs.Turns.{record-is}
+use Rattle.read_turns.specs.Going.{PartAt, Ended, reaches, left-none}
+use Rattle.read_turns.specs.Turns.{record-is}
 
 -- page 1's record ends before its trailer
 pub first-fits : (img : List ℕ) → 2 ≤ pageCount img → beforeWalk img ≡ true → usedAt img pageSize ≤ capacity

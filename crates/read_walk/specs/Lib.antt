@@ -1,4 +1,1 @@
-pub mod Going
-pub mod Turns
-pub mod Steps
 pub mod First

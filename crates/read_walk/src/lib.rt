@@ -32,8 +32,8 @@ ghost use Rattle.theory_check.specs.Widths.{widthsAfter};
 ghost use Rattle.theory_check.specs.Levels.{bytes};
 ghost use Rattle.read_nodes.specs.Leaf.{literalOf};
 ghost use Rattle.read_nodes.specs.Stand.{kindBy};
-ghost use Rattle.read_walk.specs.Going.{PartAt, Ended, Goal};
-ghost use Rattle.read_walk.specs.Steps.{Standing, NodeAt, Turned};
+ghost use Rattle.read_turns.specs.Going.{PartAt, Ended, Goal};
+ghost use Rattle.read_turns.specs.Steps.{Standing, NodeAt, Turned};
 
 // ── nodes and lists: all of it asks for the part before the walk ──
 

@@ -14,11 +14,11 @@ use Rattle.read_fault_walk.specs.Steps.{going-halts, going-aggregate}
 use Rattle.read_fault_walk.proofs.row_walk.Reads as row-walk
 use Rattle.read_fault_walk.proofs.row_walk.Kinds as row-walk-kinds
 use Rattle.read_fault_walk.proofs.+row_walk.Lts-row_walk as row-walk-lts
-use Rattle.read_fault_walk.proofs.first.Reads as first-reads
-use Rattle.read_fault_walk.proofs.last_own.Reads as last-own-reads
+use Rattle.read_fault_nodes.proofs.first.Reads as first-reads
+use Rattle.read_fault_nodes.proofs.last_own.Reads as last-own-reads
 use Rattle.read_marks.proofs.record_end.Reads as record-end-reads
-use Rattle.read_fault_walk.proofs.stopped.Reads as stopped-reads
-use Rattle.read_fault_walk.proofs.went.Reads as went-reads
+use Rattle.read_fault_nodes.proofs.stopped.Reads as stopped-reads
+use Rattle.read_fault_nodes.proofs.went.Reads as went-reads
 use Rattle.read_fault_walk.proofs.+row_walk.{statement}
 use Rattle.read_fault_walk.proofs.+row_walk.Tie.{close}
 

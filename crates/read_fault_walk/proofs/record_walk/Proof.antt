@@ -2,7 +2,7 @@
 use mathlib.Core.Path.{refl}
 use native.Mathlib.Omega.{arith}
 use borrow.Author.Needs.{needs}
-use Rattle.read_fault_walk.specs.Nodes.{within-long}
+use Rattle.read_fault_nodes.specs.Nodes.{within-long}
 use Rattle.read_fault_walk.specs.Root.{root-other, root-stops, root-row, root-bad, root-long, root-inner, root-walks}
 use Rattle.read_fault_walk.proofs.record_walk.Statement.{statement}
 use Rattle.read_fault_walk.proofs.record_walk.Tie as tie

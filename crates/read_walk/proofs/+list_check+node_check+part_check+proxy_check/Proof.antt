@@ -16,10 +16,10 @@ use Rattle.read_nodes.specs.Stand.{root-low}
 use Rattle.read_leaves.specs.Leafy.{only-fits}
 use Rattle.read_walker.specs.declared.Walker.{Walker}
 use Rattle.read_walker.specs.Turns.{walker, marked-is}
-use Rattle.read_walk.specs.Going.{Goal, going-done}
-use Rattle.read_walk.specs.Turns.{goalOf, own-of, at-start, at-short, at-size, at-stop, ended-none, part-rest, node-ended, deep-ended}
-use Rattle.read_walk.specs.Steps as step
-use Rattle.read_walk.specs.Steps.{Standing, Goes, toGo}
+use Rattle.read_turns.specs.Going.{Goal, going-done}
+use Rattle.read_turns.specs.Turns.{goalOf, own-of, at-start, at-short, at-size, at-stop, ended-none, part-rest, node-ended, deep-ended}
+use Rattle.read_turns.specs.Steps as step
+use Rattle.read_turns.specs.Steps.{Standing, Goes, toGo}
 use Rattle.read_walk.proofs.list_check.Reads as list-check
 use Rattle.read_walk.proofs.list_check.Kinds as list-check-kinds
 use Rattle.read_walk.proofs.+list_check+node_check+part_check+proxy_check.Lts-list_check as list-check-lts

@@ -18,9 +18,9 @@ use Rattle.theory_check.specs.Levels.{recordEnd}
 use Rattle.theory_check.specs.Tests.{isMarked, marked}
 use Rattle.theory_check.specs.Steps.{named, passing, size-long}
 use Rattle.theory_faults.specs.Reached.{Matches, matches-more}
-use Rattle.read_fault_walk.specs.declared.Inner.{Inner}
-use Rattle.read_fault_walk.specs.Rows.{part, Within, Holds, rowAt, stopsAt, Rooted, Opened, Into, proxy, helper, Leads, LeadsTo, recordOn}
-use Rattle.read_fault_walk.specs.Rows.{proxyTo, insideOf, nextOf, Sized, firstOf}
+use Rattle.read_fault_nodes.specs.declared.Inner.{Inner}
+use Rattle.read_fault_nodes.specs.Rows.{part, Within, Holds, rowAt, stopsAt, Rooted, Opened, Into, proxy, helper, Leads, LeadsTo, recordOn}
+use Rattle.read_fault_nodes.specs.Rows.{proxyTo, insideOf, nextOf, Sized, firstOf}
 
 -- ── parts ──
 

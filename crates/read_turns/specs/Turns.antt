@@ -27,8 +27,8 @@ use Rattle.theory_check.specs.Levels.{refused, outcome, outcomeOf, bytes, bytes
 use Rattle.read_nodes.specs.Stand.{kindBy, aggregate-by, literal-by, kind-is, no-helper, Holds}
 use Rattle.theory_check.specs.ByKind.{node-none, node-agg, node-lit, node-deep, node-3-bad, node-3-out, node-wide}
 use Rattle.read_leaves.specs.Leafy.{innermost, Leafy}
-use Rattle.read_walk.specs.Going.{PartAt, Ended, reaches, left-none, Goal, Own, Going, Chain, holds, holder, going-page, going-end, first-in, going-bad}
-use Rattle.read_walk.specs.Going.{going-turn, going-in, going-record, Out, going-out}
+use Rattle.read_turns.specs.Going.{PartAt, Ended, reaches, left-none, Goal, Own, Going, Chain, holds, holder, going-page, going-end, first-in, going-bad}
+use Rattle.read_turns.specs.Going.{going-turn, going-in, going-record, Out, going-out}
 
 -- What a list is to come to.
 abbrev pub goalOf : (img part : List ℕ) → (start level left : ℕ) → (marks widths back : List ℕ) → Goal

@@ -15,8 +15,8 @@ use Rattle.theory_check.specs.Marks.{IsMarks}
 use Rattle.theory_check.specs.Levels.{recordEnd}
 use Rattle.theory_faults.specs.Fuel.{walk}
 use Rattle.theory_faults.specs.Reached.{Matches}
-use Rattle.read_fault_walk.specs.declared.Inner.{Inner}
-use Rattle.read_fault_walk.specs.declared.Walked.{Walked}
+use Rattle.read_fault_nodes.specs.declared.Inner.{Inner}
+use Rattle.read_fault_nodes.specs.declared.Walked.{Walked}
 
 abbrev pub part : (img : List ℕ) → (start stop : ℕ) → List ℕ
 part img a e = take (e - a) (drop a img)

@@ -19,10 +19,10 @@ use Rattle.read_nodes.specs.Stand.{kindBy}
 use Rattle.read_leaves.specs.Leafy.{Leafy}
 use Rattle.read_walker.specs.declared.Walker.{Walker}
 use Rattle.read_walker.specs.Turns.{Fits, walker, reachOf, reach-zero, reach-is, markedOf, marked-is, outOf}
-use Rattle.read_walk.specs.Going.{PartAt, Ended, Goal, Own}
-use Rattle.read_walk.specs.Turns.{At, at-short, at-in, at-size, at-part, at-empty, at-literal, at-none, at-leaves, at-bad, at-node, at-node-less}
-use Rattle.read_walk.specs.Turns.{at-not-eight, at-not-enter, at-entered, at-record-part, at-no-root, at-root-long, at-helper, at-deep-record}
-use Rattle.read_walk.specs.Turns.{at-literal-record, at-bad-record, at-record, at-record-less, at-out, at-own, at-outer}
+use Rattle.read_turns.specs.Going.{PartAt, Ended, Goal, Own}
+use Rattle.read_turns.specs.Turns.{At, at-short, at-in, at-size, at-part, at-empty, at-literal, at-none, at-leaves, at-bad, at-node, at-node-less}
+use Rattle.read_turns.specs.Turns.{at-not-eight, at-not-enter, at-entered, at-record-part, at-no-root, at-root-long, at-helper, at-deep-record}
+use Rattle.read_turns.specs.Turns.{at-literal-record, at-bad-record, at-record, at-record-less, at-out, at-own, at-outer}
 
 -- The list, from where the walk is, comes to what the whole is to come to.
 pub record Standing (img : List ℕ) (g : Goal) (marks widths back : List ℕ) (w : Walker) : Type 0 where

@@ -1,9 +1,9 @@
--- `read_fault_walk::first`: a size, then the node. cN is c N places before.
+-- `read_fault_nodes::first`: a size, then the node. cN is c N places before.
 use native.Mathlib.Omega.{arith}
 use borrow.Author.Needs.{needs}
-use Rattle.read_fault_walk.specs.Nodes.{leads-stop, leads-same, within-front, within-long, first-none, first-some, first-sized, first-says}
-use Rattle.read_fault_walk.proofs.first.Statement.{statement}
-use Rattle.read_fault_walk.proofs.first.Tie as tie
+use Rattle.read_fault_nodes.specs.Nodes.{leads-stop, leads-same, within-front, within-long, first-none, first-some, first-sized, first-says}
+use Rattle.read_fault_nodes.proofs.first.Statement.{statement}
+use Rattle.read_fault_nodes.proofs.first.Tie as tie
 
 returns : tie.Need-returns
 returns c =

@@ -1,12 +1,12 @@
--- `read_fault_walk::inside`: by the kind of the node. cN is c N places before.
+-- `read_fault_nodes::inside`: by the kind of the node. cN is c N places before.
 use mathlib.Core.Path.{refl}
 use native.Mathlib.Omega.{arith}
 use borrow.Author.Needs.{needs}
-use Rattle.read_fault_walk.specs.Rows.{literal, aggregate}
-use Rattle.read_fault_walk.specs.Nodes.{leads-stop, leads-row, leads-same, inside-none, inside-size, inside-proxy, into-proxy, inside-helper, into-helper}
-use Rattle.read_fault_walk.specs.Nodes.{inside-deep, inside-literal, inside-aggregate}
-use Rattle.read_fault_walk.proofs.inside.Statement.{statement}
-use Rattle.read_fault_walk.proofs.inside.Tie as tie
+use Rattle.read_fault_nodes.specs.Rows.{literal, aggregate}
+use Rattle.read_fault_nodes.specs.Nodes.{leads-stop, leads-row, leads-same, inside-none, inside-size, inside-proxy, into-proxy, inside-helper, into-helper}
+use Rattle.read_fault_nodes.specs.Nodes.{inside-deep, inside-literal, inside-aggregate}
+use Rattle.read_fault_nodes.proofs.inside.Statement.{statement}
+use Rattle.read_fault_nodes.proofs.inside.Tie as tie
 
 returns : tie.Need-returns
 returns c =

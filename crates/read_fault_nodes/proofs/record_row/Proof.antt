@@ -1,11 +1,11 @@
--- `read_fault_walk::record_row`: test by test. cN is c N places before.
+-- `read_fault_nodes::record_row`: test by test. cN is c N places before.
 use native.Mathlib.Omega.{arith}
 use borrow.Author.Tests.{not-true, not-false}
 use borrow.Author.Needs.{needs}
 use Rattle.theory_check.specs.Facts.{passes, fails}
-use Rattle.read_fault_walk.specs.Nodes.{to-stop, record-root, record-tail, record-part, record-leads}
-use Rattle.read_fault_walk.proofs.record_row.Statement.{statement}
-use Rattle.read_fault_walk.proofs.record_row.Tie as tie
+use Rattle.read_fault_nodes.specs.Nodes.{to-stop, record-root, record-tail, record-part, record-leads}
+use Rattle.read_fault_nodes.proofs.record_row.Statement.{statement}
+use Rattle.read_fault_nodes.proofs.record_row.Tie as tie
 
 returns : tie.Need-returns
 returns c =

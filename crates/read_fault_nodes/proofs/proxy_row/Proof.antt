@@ -1,11 +1,11 @@
--- `read_fault_walk::proxy_row`: test by test; the page that is entered is marked. cN is c N places before.
+-- `read_fault_nodes::proxy_row`: test by test; the page that is entered is marked. cN is c N places before.
 use mathlib.Core.Path.{sym, _∙_}
 use native.Mathlib.Omega.{arith}
 use borrow.Author.Needs.{needs}
 use Rattle.theory_check.specs.Facts.{passes, fails}
-use Rattle.read_fault_walk.specs.Nodes.{leads-stop, holds, proxy-names, proxy-left, proxy-again, proxy-leads}
-use Rattle.read_fault_walk.proofs.proxy_row.Statement.{statement}
-use Rattle.read_fault_walk.proofs.proxy_row.Tie as tie
+use Rattle.read_fault_nodes.specs.Nodes.{leads-stop, holds, proxy-names, proxy-left, proxy-again, proxy-leads}
+use Rattle.read_fault_nodes.proofs.proxy_row.Statement.{statement}
+use Rattle.read_fault_nodes.proofs.proxy_row.Tie as tie
 
 returns : tie.Need-returns
 returns c =
