@@ -4,7 +4,6 @@ use base_layout::used_at;
 use model::Settings;
 use read_marks::is_marked;
 use read_marks::names;
-use read_marks::record_end;
 use read_marks::root_fits;
 use read_marks::set_mark;
 use read_marks::tail_zero;
@@ -13,13 +12,10 @@ use read_nodes::size_of;
 ghost use mathlib.Core.Path.{_≡_};
 ghost use mathlib.Core.Bool.{true};
 ghost use Prim.Native.Nat.{_+_, _≤_};
-ghost use lib.ListN.{length};
-ghost use Rattle.model.specs.Limits.{mostPages, mostLevels, pageSize};
-ghost use Rattle.model.specs.Reading.{usedAt};
+ghost use Rattle.model.specs.Limits.{mostLevels};
 ghost use Rattle.theory_check.specs.Check.{PassedBefore};
-ghost use Rattle.theory_check.specs.Marks.{IsMarks};
 ghost use Rattle.read_fault_nodes.specs.Rows.{Within, Holds, rowAt, stopsAt, Rooted, Opened, Into, Leads, LeadsTo, recordOn, proxyTo};
-ghost use Rattle.read_fault_nodes.specs.Rows.{insideOf, nextOf, Sized, firstOf, walkedTo, stoppedAt, walkOf, recordWalk, Ends, Stays};
+ghost use Rattle.read_fault_nodes.specs.Rows.{insideOf, nextOf, Sized, firstOf, walkedTo, stoppedAt};
 
 // A proxy's bytes.
 pub const PROXY: usize = 8;

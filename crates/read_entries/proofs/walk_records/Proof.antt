@@ -5,7 +5,7 @@ use lib.ListN.{length}
 use borrow.Author.Needs.{needs}
 use Rattle.read_cursor.specs.declared.Cursor.{Cursor}
 use Rattle.read_cursor.specs.Going.{going-as}
-use Rattle.read_entries.specs.declared.Nest.{Nest}
+use Rattle.read_nest.specs.declared.Nest.{Nest}
 use Rattle.read_entries.specs.Nested.{within, at-some, at-inner, at-node, inside, entered, named-inside, named-few, named-level, proxy-stopped}
 use Rattle.read_entries.specs.Records.{Rooted, fresh, turns, closed-less, start, Walking, walking-start, walking-as, walking-on, walking-end, walking-in, walking-out}
 use Rattle.read_entries.specs.Records.{entered-less, entered-deep}

@@ -1,9 +1,9 @@
--- `read_entries::into_record`: by the case.
+-- `read_nest::into_record`: by the case.
 use mathlib.Core.Path.{refl}
 use borrow.Author.Tests.{eq-eqb, ne-eqb}
 use borrow.Author.Needs.{needs}
-use Rattle.read_entries.proofs.into_record.Statement.{statement}
-use Rattle.read_entries.proofs.into_record.Tie as tie
+use Rattle.read_nest.proofs.into_record.Statement.{statement}
+use Rattle.read_nest.proofs.into_record.Tie as tie
 
 add-depth : tie.Need-add-depth
 add-depth c = search needs

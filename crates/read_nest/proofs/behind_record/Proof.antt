@@ -3,8 +3,8 @@ use lib.ListN.{getD}
 use borrow.Author.Needs.{needs}
 use Rattle.model.specs.Limits.{pageSize}
 use Rattle.read_cursor.specs.Going.{cursor}
-use Rattle.read_entries.proofs.behind_record.Statement.{statement}
-use Rattle.read_entries.proofs.behind_record.Tie as tie
+use Rattle.read_nest.proofs.behind_record.Statement.{statement}
+use Rattle.read_nest.proofs.behind_record.Tie as tie
 
 mul-i : tie.Need-mul-i
 mul-i c = search needs

@@ -1,7 +1,7 @@
 use borrow.Author.Needs.{needs}
 use Rattle.read_cursor.specs.Going.{cursor}
-use Rattle.read_entries.proofs.first.Statement.{statement}
-use Rattle.read_entries.proofs.first.Tie as tie
+use Rattle.read_nest.proofs.first.Statement.{statement}
+use Rattle.read_nest.proofs.first.Tie as tie
 
 row-start-requires : tie.Need-row-start-requires
 row-start-requires c κs = search needs

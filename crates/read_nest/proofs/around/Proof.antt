@@ -1,8 +1,8 @@
--- `read_entries::around`: by the case.
+-- `read_nest::around`: by the case.
 use borrow.Author.Tests.{eq-eqb, ne-eqb}
 use borrow.Author.Needs.{needs}
-use Rattle.read_entries.proofs.around.Statement.{statement}
-use Rattle.read_entries.proofs.around.Tie as tie
+use Rattle.read_nest.proofs.around.Statement.{statement}
+use Rattle.read_nest.proofs.around.Tie as tie
 
 sub-depth : tie.Need-sub-depth
 sub-depth c = search needs

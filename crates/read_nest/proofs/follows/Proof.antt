@@ -1,6 +1,6 @@
 use borrow.Author.Tests.{eq-eqb, ne-eqb}
-use Rattle.read_entries.proofs.follows.Statement.{statement}
-use Rattle.read_entries.proofs.follows.Tie as tie
+use Rattle.read_nest.proofs.follows.Statement.{statement}
+use Rattle.read_nest.proofs.follows.Tie as tie
 
 returns : tie.Need-returns
 returns c = rw (eq-eqb _ 0 (c .if1 .taken))

@@ -1,7 +1,7 @@
 use mathlib.Core.Path.{refl}
 use borrow.Author.Needs.{needs}
-use Rattle.read_entries.proofs.behind.Statement.{statement}
-use Rattle.read_entries.proofs.behind.Tie as tie
+use Rattle.read_nest.proofs.behind.Statement.{statement}
+use Rattle.read_nest.proofs.behind.Tie as tie
 
 add-t3 : tie.Need-add-t3
 add-t3 c = search needs

@@ -1,8 +1,8 @@
--- `read_entries::row_stop`: by the case.
+-- `read_nest::row_stop`: by the case.
 use borrow.Author.Tests.{eq-eqb, ne-eqb}
 use borrow.Author.Needs.{needs}
-use Rattle.read_entries.proofs.row_stop.Statement.{statement}
-use Rattle.read_entries.proofs.row_stop.Tie as tie
+use Rattle.read_nest.proofs.row_stop.Statement.{statement}
+use Rattle.read_nest.proofs.row_stop.Tie as tie
 
 mul-result : tie.Need-mul-result
 mul-result c = search needs
