@@ -8,7 +8,6 @@ use lib.ListN.{length, getD, set, length-set}
 use lib.Seq.{getD-set-same, getD-set-other}
 use lib.Dec.{eqb}
 use borrow.Author.Tests.{eq-eqb}
-use Rattle.model.specs.Limits.{mostPages}
 use Rattle.model.specs.Row.{Row, nil, agg, lit, rec, _⊹_, count}
 use Rattle.model.specs.Tree.{width}
 use Rattle.theory_decoding.specs.Valid.{names-own}
@@ -48,18 +47,18 @@ kept (rec p s r rest) c q z =
     kept rest (set (widthsAfter r c) p (width r)) q (omega arith) ∙ getD-set-other (widthsAfter r c) p q (width r) 0 other ∙ kept r c q (omega arith)
 
 -- The table is right for a row that names no page twice.
-pub widths-told : (row : Row) (c : List ℕ) → length c ≡ mostPages → ((q : ℕ) → count q row ≤ 1) → ((q : ℕ) → 1 ≤ count q row → q < mostPages)
+pub widths-told : (row : Row) (c : List ℕ) (n : ℕ) → n ≤ length c → ((q : ℕ) → count q row ≤ 1) → ((q : ℕ) → 1 ≤ count q row → q < n)
     → Told (widthsAfter row c) row
 unfolding widthsAfter
-widths-told nil c l once low = tt
-widths-told (agg h cs rest) c l once low =
+widths-told nil c n l once low = tt
+widths-told (agg h cs rest) c n l once low =
     let a = widthsAfter cs c in (
       told-same a (widthsAfter rest a) cs (λ q g. kept rest a q (omega (arith, once q)))
-          (widths-told cs c l (λ q. omega (arith, once q)) (λ q g. low q (omega arith))),
-      widths-told rest a (widths-length cs c ∙ l) (λ q. omega (arith, once q)) (λ q g. low q (omega arith)),
+          (widths-told cs c n l (λ q. omega (arith, once q)) (λ q g. low q (omega arith))),
+      widths-told rest a n (omega (arith, widths-length cs c)) (λ q. omega (arith, once q)) (λ q g. low q (omega arith)),
     )
-widths-told (lit h b rest) c l once low = widths-told rest c l once low
-widths-told (rec p s r rest) c l once low =
+widths-told (lit h b rest) c n l once low = widths-told rest c n l once low
+widths-told (rec p s r rest) c n l once low =
     let a = widthsAfter r c in
     let b = set a p (width r) in
     let own : eqb p p ≡ true = eq-eqb p p refl in
@@ -68,6 +67,6 @@ widths-told (rec p s r rest) c l once low =
       kept rest b p (omega (arith, alone)) ∙ getD-set-same a p (width r) 0 (omega (arith, widths-length r c, low p (names-own p s r rest))),
       told-same a (widthsAfter rest b) r
           (λ q g. kept rest b q (omega (arith, once q)) ∙ getD-set-other a p q (width r) 0 (other q g))
-          (widths-told r c l (λ q. omega (arith, once q)) (λ q g. low q (omega arith))),
-      widths-told rest b (length-set a p (width r) ∙ widths-length r c ∙ l) (λ q. omega (arith, once q)) (λ q g. low q (omega arith)),
+          (widths-told r c n l (λ q. omega (arith, once q)) (λ q g. low q (omega arith))),
+      widths-told rest b n (omega (arith, length-set a p (width r), widths-length r c)) (λ q. omega (arith, once q)) (λ q g. low q (omega arith)),
     )

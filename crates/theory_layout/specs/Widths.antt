@@ -18,8 +18,9 @@ use Rattle.theory_places.specs.Widths.{Told, Table, either}
 use Rattle.theory_row_bytes.specs.RowAt.{kindOf, sizeOf, restOf, size-first}
 use Rattle.theory_layout.specs.Here.{Here, OnPage, view, root-page, root-here}
 
--- It is right for each record that a proxy in another record names, and it is the table of the store that the image reads as.
+-- It has an entry for each page, is right for each record that a proxy in another record names, and is the table of the store that the image reads as.
 pub record Widths (img c : List ℕ) : Type 0 where
+  pub long : length img ≤ pageSize * length c
   pub told : (p holder : ℕ) (r : Row) → 1 ≤ holder → OnPage img p holder r → getD c p 0 ≡ width r
   pub store : (st : Config) (root : Row) → Reads img st root → Table st root c
 
@@ -132,7 +133,11 @@ told-at img c page pos (rec p s r rest) x t q k =
 
 -- The table of the store that an image reads as is right for the image: there is one such store.
 pub widths : (img c : List ℕ) (st : Config) (root : Row) → Reads img st root → Table st root c → Widths img c
-widths img c st root x t = record { told = told; store = λ a b y. one a b (unique img (st, root) (a, b) x y) }
+widths img c st root x t = record {
+  long = omega (arith, reads-length img st root x, t .long);
+  told = told;
+  store = λ a b y. one a b (unique img (st, root) (a, b) x y);
+}
   where
     one : (a : Config) (b : Row) → _≡_ {A = Config × Row} (st, root) (a, b) → Table a b c
     one a b e = subst (λ (z : Config × Row). Table (z .0) (z .1) c) e t

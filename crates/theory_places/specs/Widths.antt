@@ -7,7 +7,6 @@ use native.Mathlib.Omega.{arith}
 use lib.ListN.{length, getD}
 use lib.Dec.{leb, eqb}
 use borrow.Author.Tests.{eqb-true, leb-true, leb-false}
-use Rattle.model.specs.Limits.{mostPages}
 use Rattle.model.specs.Row.{Row, nil, agg, lit, rec, store, _⊹_, count, Config, size}
 use Rattle.model.specs.Tree.{width}
 use Rattle.theory_rows.specs.Fits.{Fits, RecordFits}
@@ -21,10 +20,14 @@ Told c (agg h cs rest) = Told c cs × Told c rest
 Told c (lit h b rest) = Told c rest
 Told c (rec p s r rest) = (getD c p 0 ≡ width r) × Told c r × Told c rest
 
--- The table of a store: right for all records, and 0 for the free pages.
+-- The table of a store: an entry for each page, right for all records.
 pub record Table (st : Config) (root : Row) (c : List ℕ) : Type 0 where
-  pub long : length c ≡ mostPages
+  pub long : st .pages ≤ length c
   pub told : Told c root
+
+-- The same as the check leaves it: 0 for the free pages.
+pub record Counted (st : Config) (root : Row) (c : List ℕ) : Type 0 where
+  pub table : Table st root c
   pub free : (q : ℕ) → 1 ≤ q → q < st .pages → count q (store root) ≡ 0 → getD c q 0 ≡ 0
 
 -- A table with the same entries on a row's pages is as right for it.

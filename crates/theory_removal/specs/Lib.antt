@@ -3,3 +3,4 @@ pub mod Stand
 pub mod Keeps
 pub mod Found
 pub mod Table
+pub mod Used
