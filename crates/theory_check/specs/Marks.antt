@@ -154,6 +154,12 @@ pub length-unmark : (m : List ℕ) (p : ℕ) → length (unmarked m p) ≡ lengt
 unfolding unmarked
 length-unmark m p = length-set m (p / 8) _
 
+-- All pages of a byte with all bits are marked.
+pub full-byte : (m : List ℕ) (q : ℕ) → getD m (q / 8) 0 ≡ 255 → isMarked m q ≡ true
+unfolding isMarked
+full-byte m q e =
+    ap (λ (n : ℕ). eqb (n / 2 ^ (q % 8) % 2) 1) e ∙ at-below 8 (λ (k : ℕ). eqb (255 / 2 ^ k % 2) 1) refl (q % 8) (omega arith)
+
 -- ── the check's ──
 
 pub marks-kept : (m : List ℕ) (p : ℕ) → IsMarks m → p < mostPages → IsMarks (marked m p)
