@@ -9,6 +9,8 @@ use lib.Dec.{ltb, eqb}
 use lib.ListN.{length, getD}
 use Rattle.model.specs.Row.{Config}
 use Rattle.model.specs.Growth.{freeFrom}
+use Rattle.theory_rows.specs.Laws.{cond-case}
+use Rattle.theory_rows.specs.Pages.{free-found}
 use Rattle.theory_check.specs.Marks.{full-byte}
 use Rattle.grow_map.specs.Map.{usedBy, mostMap, Past}
 
@@ -97,6 +99,36 @@ module _ (st : Config) (used : ℕ → Bool) where
           → freeFrom st k used (cond b (suc from) 2) ≡ 0
       go true z ih = ih (suc from) (omega arith) (all (suc from) (omega arith) (ltb-true (suc from) (st .pages) z))
       go false z ih = ih 2 (omega arith) two
+
+-- It looks only at pages below n, where n is at least 3 and the image has no more pages.
+module _ (st : Config) (n : ℕ) (many : st .pages ≤ n) (some : 3 ≤ n) where
+  next-below : (q : ℕ) → cond (ltb (suc q) (st .pages)) (suc q) 2 < n
+  next-below q =
+      cond-case (λ (i : ℕ). i < n) (ltb (suc q) (st .pages)) (λ f. omega (arith, ltb-true (suc q) (st .pages) f)) (λ f. omega arith)
+
+  pub free-same : (a b : ℕ → Bool) → ((x : ℕ) → x < n → a x ≡ b x) → (k q : ℕ) → q < n → freeFrom st k a q ≡ freeFrom st k b q
+  unfolding freeFrom
+  free-same a b e zero q g = refl
+  free-same a b e (suc k) q g = rw (e q g) (ap (λ (i : ℕ). cond (b q) i q) (free-same a b e k (cond (ltb (suc q) (st .pages)) (suc q) 2) (next-below q)))
+
+  free-below : (used : ℕ → Bool) (k q : ℕ) → q < n → freeFrom st k used q < n
+  unfolding freeFrom
+  free-below used zero q g = omega arith
+  free-below used (suc k) q g =
+      cond-case (λ (i : ℕ). i < n) (used q) (λ _. free-below used k (cond (ltb (suc q) (st .pages)) (suc q) 2) (next-below q)) (λ _. g)
+
+  -- A page is found inside the image, or it is 0.
+  pub free-within : (used : ℕ → Bool) (k q : ℕ) → q < st .pages → ((x : ℕ) → st .pages ≤ x → x < n → used x ≡ true) → freeFrom st k used q < st .pages
+  free-within used k q start past = go (eqb r 0) (ltb r (st .pages)) refl refl
+    where
+      r : ℕ
+      r = freeFrom st k used q
+
+      go : (b d : Bool) → eqb r 0 ≡ b → ltb r (st .pages) ≡ d → r < st .pages
+      go true d z i = omega (arith, eqb-true r 0 z)
+      go false true z i = ltb-true r (st .pages) i
+      go false false z i =
+          absurd (true≢false (sym (past r (ltb-false r (st .pages) i) (free-below used k q (omega arith))) ∙ free-found st k used q z))
 
 -- ── the search ──
 

@@ -1,4 +1,4 @@
-// The page writes of an insert: a free page, a record on its page, a page cleared, back links.
+// The page writes of an insert: a record on its page, a page cleared, back links.
 use base_layout::name_at;
 use base_layout::size_at;
 use base_numbers::clear;
@@ -9,27 +9,8 @@ ghost use mathlib.Core.Path.{_≡_};
 ghost use Prim.Native.Nat.{_+_, _*_, _≤_, _<_};
 ghost use lib.ListN.{length, replicate};
 ghost use Rattle.model.specs.Limits.{mostPages, pageSize, capacity};
-ghost use Rattle.model.specs.Row.{Config};
-ghost use Rattle.model.specs.Growth.{freeFrom};
-ghost use Rattle.grow_pages.specs.Write.{usedBy, setPage, pageBytesOf};
+ghost use Rattle.grow_pages.specs.Write.{setPage, pageBytesOf};
 ghost use Rattle.grow_pages.specs.Links.{Linked, links};
-
-// The first free page counting up from `from`, page 2 following the last; 0 if none is free. A page is used where its number is not 0.
-pub fn first_free(widths: &[u32; Settings::PAGES], pages: usize, from: usize) -> usize
-    requires { ⌜ (1 ≤ from) × ((from < pages) × (pages ≤ mostPages)) ⌝ }
-    ensures { λ r. ⌜ ((st : Config) → st .pages ≡ pages → r ≡ freeFrom st pages (usedBy (now (widths .entry))) from) ⌝ }
-{
-    let mut q = from;
-    let mut left = pages;
-    while 0 < left {
-        if widths[q] == 0 {
-            return q;
-        }
-        q = if q + 1 < pages { q + 1 } else { 2 };
-        left -= 1;
-    }
-    0
-}
 
 // Writes a record with its trailer to a page.
 pub fn put_record(image: &mut [u8], page: usize, content: &[u8], settled: usize, holder: usize)

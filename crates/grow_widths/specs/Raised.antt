@@ -1,35 +1,31 @@
 -- One node more in a record, or one less, and in the helpers that show it through their proxies.
 use mathlib.Core.Path.{_≡_, refl, sym, ap, _∙_}
-use mathlib.Core.Bool.{Bool, true, false, cond, true≢false}
+use mathlib.Core.Bool.{Bool, true, false, cond}
 use mathlib.Core.List.{List}
-use Prim.Native.Nat.{ℕ, zero, suc, _+_, _*_, _-_, _<_, _≤_, max}
+use Prim.Native.Nat.{ℕ, zero, suc, _+_, _*_, _-_, _<_, _≤_}
 use native.Mathlib.Omega.{arith}
-use borrow.Author.Tests.{eqb-true, eq-eqb}
+use borrow.Author.Tests.{eq-eqb}
 use lib.Dec.{eqb}
 use lib.ListN.{length, getD, set, length-set}
 use lib.Seq.{getD-set-same, getD-set-other}
-use Rattle.model.specs.Limits.{mostPages, pageSize}
-use Rattle.model.specs.Row.{Row, agg, rec, _⊹_, store, lone, Config}
+use Rattle.model.specs.Limits.{pageSize}
+use Rattle.model.specs.Row.{Row, agg, rec, _⊹_, Config}
 use Rattle.model.specs.Reading.{Reads, backAt}
 use Rattle.model.specs.Tree.{width}
 use Rattle.model.specs.Spot.{Position, here, inside, fill, Chain, top, below, lastPage, whole, lastHolder}
 use Rattle.theory_rows.specs.Laws.{width-⊹}
-use Rattle.theory_rows.specs.Fits.{Fits, Shape, one, more}
-use Rattle.theory_rows.specs.Shows.{nodes-shown}
 use Rattle.theory_rows.specs.Population.{population, width-population}
-use Rattle.theory_growth.specs.Chain.{chain-fits, proxy-beside, along, hang}
+use Rattle.theory_growth.specs.Chain.{along, hang}
 use Rattle.theory_growth.specs.Told.{ToldAlong, along-own, along-same, along-width, population-whole}
-use Rattle.theory_growth.specs.Stand.{NotAlone}
 use Rattle.theory_layout.specs.Here.{OnPage}
 use Rattle.theory_insert_point.specs.Bytes.{chain-page}
 use Rattle.theory_insert_point.specs.Nesting.{chainLength}
-use Rattle.grow_pages.specs.Write.{usedBy, used-taken}
-use Rattle.grow_widths.specs.Tally.{mostEntry, entryOf, entry-some, entry-is}
+use Rattle.grow_widths.specs.Tally.{mostEntry, entryOf, entry-is}
 
--- An entry for one node more, and for one less: it stays in range, and is not 0, which marks a free page.
+-- An entry for one node more, and for one less: it stays in range.
 abbrev pub entryAnew : (more : Bool) → (entry : ℕ) → ℕ
 entryAnew true n = entryOf (n + 1)
-entryAnew false n = max 1 (n - 1)
+entryAnew false n = n - 1
 
 -- The table with the entries of so many records changed, the last first.
 unfoldable pub changed : (f : ℕ → ℕ) → (n : ℕ) → Chain → (table : List ℕ) → List ℕ
@@ -44,18 +40,6 @@ raised = changed (entryAnew true)
 abbrev pub lowered : (n : ℕ) → Chain → (table : List ℕ) → List ℕ
 lowered = changed (entryAnew false)
 
-pub anew-some : (more : Bool) (n : ℕ) → 1 ≤ entryAnew more n
-anew-some true n = entry-some (n + 1)
-anew-some false n = omega arith
-
--- An entry that is set anew, on a page in use.
-used-again : (u : List ℕ) (q v x : ℕ) → 1 ≤ v → q < length u → usedBy u q ≡ true → usedBy (set u q v) x ≡ usedBy u x
-used-again u q v x h l o = used-taken u q v x h l ∙ go (eqb x q) refl
-  where
-    go : (y : Bool) → eqb x q ≡ y → cond y true (usedBy u x) ≡ usedBy u x
-    go true z = sym (ap (usedBy u) (eqb-true x q z) ∙ o)
-    go false z = refl
-
 module _ (f : ℕ → ℕ) where
   -- What each entry that is set keeps, all of them keep.
   changed-keeps : (P : List ℕ → Type 0) (n : ℕ) (c : Chain) (u : List ℕ)
@@ -68,20 +52,10 @@ module _ (f : ℕ → ℕ) where
   pub changed-long : (n : ℕ) (c : Chain) (u : List ℕ) → length (changed f n c u) ≡ length u
   changed-long n c u = changed-keeps (λ w. length w ≡ length u) n c u (λ q w h e. length-set w q _ ∙ e) refl
 
-  -- Only the chain's pages change,
+  -- Only the chain's pages change.
   pub changed-other : (n : ℕ) (c : Chain) (u : List ℕ) (p : ℕ) → along c p ≡ 0 → getD (changed f n c u) p 0 ≡ getD u p 0
   changed-other n c u p e =
       changed-keeps (λ w. getD w p 0 ≡ getD u p 0) n c u (λ q w h k. getD-set-other w q p _ 0 (λ z. omega (arith, ap (along c) z)) ∙ k) refl
-
-  -- and stay in use.
-  pub changed-used : ((n : ℕ) → 1 ≤ f n) → (n : ℕ) (c : Chain) (u : List ℕ) (p : ℕ)
-      → ((q : ℕ) → 1 ≤ along c q → (q < length u) × (usedBy u q ≡ true)) → usedBy (changed f n c u) p ≡ usedBy u p
-  changed-used some n c u p g =
-      changed-keeps (λ w. (length w ≡ length u) × ((x : ℕ) → usedBy w x ≡ usedBy u x)) n c u
-      (λ q w h k. (
-        length-set w q _ ∙ k .0,
-        λ x. used-again w q _ x (some (getD w q 0)) (omega (arith, g q h .0)) (k .1 q ∙ g q h .1) ∙ k .1 x,
-      )) (refl, λ x. refl) .1 p
 
   -- What the change makes of the number of nodes that a record shows, for each record that shows the position, if a new row takes the old one's place there.
   abbrev Recounted : Chain → Position → (old new : Row) → Type 0
@@ -122,7 +96,7 @@ raised-recounted (below c s q b rest) (here left) old new e few =
     let x = left ⊹ old in
     let w = width-⊹ left old in
     let z = width-⊹ left new in (
-      entry-is (width x + 1) (omega arith) (omega (arith, width-population x, population-whole (below c s q b rest) x)) ∙ omega arith,
+      entry-is (width x + 1) (omega (arith, width-population x, population-whole (below c s q b rest) x)) ∙ omega arith,
       raised-recounted c s (rec q b x rest) (rec q b (left ⊹ new) rest) (omega arith) few,
     )
 
@@ -133,33 +107,19 @@ raised-along c s old new u e few = changed-along (entryAnew true) c s old new u 
 
 -- ── one node less ──
 
--- A record that is not one node alone shows two or more.
-two-shown : {b : Bool} (r : Row) → Shape b r → Fits r → lone r ≡ false → 2 ≤ width r
-two-shown r (one e) f l = absurd (true≢false (sym e ∙ l))
-two-shown r (more _ h) f l = omega (arith, nodes-shown r f)
-
--- A proxy stands in an aggregate or in a record with a helper.
-not-alone-proxy : (s : Position) (q : ℕ) (b : Bool) (r rest : Row) → NotAlone s (rec q b r rest)
-not-alone-proxy (here left) q b r rest = proxy-beside left q b r rest
-not-alone-proxy (inside left h right s) q b r rest = tt
-
-lowered-recounted : (c : Chain) (s : Position) (old new : Row) → width old ≡ width new + 1 → Fits (store (whole c (fill s old))) → NotAlone s old
-    → Recounted (entryAnew false) c s old new
-lowered-recounted top s old new e fit on = tt
-lowered-recounted (below c s q b rest) (inside left h right i) old new e fit on = tt
-lowered-recounted (below c s q b rest) (here left) old new e fit on =
+lowered-recounted : (c : Chain) (s : Position) (old new : Row) → width old ≡ width new + 1 → Recounted (entryAnew false) c s old new
+lowered-recounted top s old new e = tt
+lowered-recounted (below c s q b rest) (inside left h right i) old new e = tt
+lowered-recounted (below c s q b rest) (here left) old new e =
     let x = left ⊹ old in
     let w = width-⊹ left old in
     let z = width-⊹ left new in
-    let g = chain-fits (below c s q b rest) x fit in (
-      omega (arith, two-shown x (g .0 .shape) (g .1) on),
-      lowered-recounted c s (rec q b x rest) (rec q b (left ⊹ new) rest) (omega arith) fit (not-alone-proxy s q b x rest),
-    )
+    (omega arith, lowered-recounted c s (rec q b x rest) (rec q b (left ⊹ new) rest) (omega arith))
 
--- A table that is right on the chain's pages is right on them with one node less at the position, unless it is a record's only node.
-pub lowered-along : (c : Chain) (s : Position) (old new : Row) (u : List ℕ) → width old ≡ width new + 1 → Fits (store (whole c (fill s old))) → NotAlone s old
+-- A table that is right on the chain's pages is right on them with one node less at the position.
+pub lowered-along : (c : Chain) (s : Position) (old new : Row) (u : List ℕ) → width old ≡ width new + 1
     → ((q : ℕ) → along c q ≤ 1) → ((q : ℕ) → 1 ≤ along c q → q < length u) → ToldAlong u c (fill s old) → ToldAlong (lowered (hang c s) c u) c (fill s new)
-lowered-along c s old new u e fit on = changed-along (entryAnew false) c s old new u (lowered-recounted c s old new e fit on)
+lowered-along c s old new u e = changed-along (entryAnew false) c s old new u (lowered-recounted c s old new e)
 
 -- ── the way up ──
 
@@ -173,7 +133,7 @@ pub record Raising (img u : List ℕ) (page deep : ℕ) : Type 0 where
   pub is : whole chain row ≡ root
   pub last : page ≡ lastPage chain
   pub enough : deep ≤ chainLength chain
-  pub long : length u ≡ mostPages
+  pub long : length img ≤ pageSize * length u
 
 pub page-of : {img u : List ℕ} {page deep : ℕ} (w : Raising img u page deep) → OnPage img (lastPage (w .chain)) (lastHolder (w .chain)) (w .row)
 page-of {img} w = chain-page img (w .st) (w .root) (w .reads) (w .chain) (w .row) (w .is)
@@ -208,7 +168,7 @@ change-step {f} {img} {u} {goal} {page} (suc deep) r some h v e n = go (r .now .
             last = e ∙ ap (λ (n : ℕ). backAt img (pageSize * n)) last
                 ∙ chain-page img (r .now .st) (r .now .root) (r .now .reads) (below c s q b rest) (r .now .row) is .back;
             enough = omega arith;
-            long = length-set u q (f (getD u q 0)) ∙ r .now .long;
+            long = omega (arith, length-set u q (f (getD u q 0)), r .now .long);
           };
           goes = goes;
         } in

@@ -1,7 +1,7 @@
 -- How many nodes a row shows by a table that has the number for each record, and the table's entry for a record of that row.
 use mathlib.Core.Path.{_≡_, refl}
 use mathlib.Core.List.{List}
-use Prim.Native.Nat.{ℕ, suc, _+_, _≤_, max, min}
+use Prim.Native.Nat.{ℕ, suc, _+_, _≤_, min}
 use native.Mathlib.Omega.{arith}
 use lib.ListN.{getD}
 use Rattle.model.specs.Row.{Row, nil, agg, lit, rec}
@@ -18,18 +18,15 @@ tallied u (rec p s r rest) = getD u p 0 + tallied u rest
 abbrev pub mostEntry : ℕ
 mostEntry = 4294967295
 
--- The entry of a page in use is not 0, which marks a free page.
+-- No number is larger.
 abbrev pub entryOf : ℕ → ℕ
-entryOf n = max 1 (min n mostEntry)
+entryOf n = min n mostEntry
 
 abbrev pub numberOf : (table : List ℕ) → Row → ℕ
 numberOf u r = entryOf (tallied u r)
 
-pub entry-some : (n : ℕ) → 1 ≤ entryOf n
-entry-some n = omega arith
-
-pub entry-is : (n : ℕ) → 1 ≤ n → n ≤ mostEntry → entryOf n ≡ n
-entry-is n h k = omega arith
+pub entry-is : (n : ℕ) → n ≤ mostEntry → entryOf n ≡ n
+entry-is n h = omega arith
 
 -- A table that is right counts what the row shows.
 pub tallied-told : (u : List ℕ) (row : Row) → Told u row → tallied u row ≡ width row

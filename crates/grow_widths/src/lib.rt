@@ -1,13 +1,12 @@
-// The table by which an insert or a removal knows its pages: 0 is a free page, another number a page in use, whose record shows so many nodes.
+// The table of how many nodes the record on each page shows, as an insert or a removal leaves it.
 use base_layout::back_at;
 use base_layout::name_at;
 use base_layout::size_at;
 use model::Settings;
 ghost use mathlib.Core.Path.{_≡_};
 ghost use Prim.Native.Nat.{_≤_};
-ghost use Rattle.model.specs.Limits.{mostPages};
-ghost use Rattle.grow_pages.specs.Links.{Linked};
 ghost use Rattle.grow_widths.specs.Tally.{tallied, mostEntry, entryOf, numberOf};
+ghost use Rattle.grow_widths.specs.Tallying.{Counting};
 ghost use Rattle.grow_widths.specs.Raised.{entryAnew, changed, raised, lowered, Raising};
 
 // An entry as a number of the machine.
@@ -18,9 +17,9 @@ fn wide(x: u32) -> usize
 }
 
 // How many nodes the row that part is shows, by the table.
-fn sum(part: &[u8], widths: &[u32; Settings::PAGES]) -> usize
-    requires { ⌜ Linked (now part) mostPages ⌝ }
-    ensures { λ r. ⌜ ((w : Linked (now (part .entry)) mostPages) → r ≡ tallied (now (widths .entry)) (w .row)) ⌝ }
+fn sum(part: &[u8], widths: &[u32]) -> usize
+    requires { ⌜ Counting (now part) (now widths) ⌝ }
+    ensures { λ r. ⌜ ((w : Counting (now (part .entry)) (now (widths .entry))) → r ≡ tallied (now (widths .entry)) (w .linked .row)) ⌝ }
 {
     let mut n = 0;
     let mut pos = 0;
@@ -37,13 +36,10 @@ fn sum(part: &[u8], widths: &[u32; Settings::PAGES]) -> usize
     n
 }
 
-// A number as an entry: at least 1, since 0 marks a free page, and at most what an entry takes.
+// A number as an entry: at most what an entry takes.
 fn entry(n: usize) -> u32
     ensures { λ r. ⌜ r ≡ entryOf n ⌝ }
 {
-    if n < 1 {
-        return 1;
-    }
     if 4294967295 < n {
         return 4294967295;
     }
@@ -51,9 +47,9 @@ fn entry(n: usize) -> u32
 }
 
 // The table's entry for a record of the row that part is.
-pub fn number(part: &[u8], widths: &[u32; Settings::PAGES]) -> u32
-    requires { ⌜ Linked (now part) mostPages ⌝ }
-    ensures { λ r. ⌜ ((w : Linked (now (part .entry)) mostPages) → r ≡ numberOf (now (widths .entry)) (w .row)) ⌝ }
+pub fn number(part: &[u8], widths: &[u32]) -> u32
+    requires { ⌜ Counting (now part) (now widths) ⌝ }
+    ensures { λ r. ⌜ ((w : Counting (now (part .entry)) (now (widths .entry))) → r ≡ numberOf (now (widths .entry)) (w .linked .row)) ⌝ }
 {
     entry(sum(part, widths))
 }
@@ -65,14 +61,14 @@ fn entry_anew(x: u32, more: bool) -> u32
     if more {
         return entry(wide(x) + 1);
     }
-    if x < 2 {
-        return 1;
+    if x < 1 {
+        return 0;
     }
     x - 1
 }
 
 // The record on the page and the `deep` - 1 records above it show one node more, or one less.
-fn change(image: &[u8], widths: &mut [u32; Settings::PAGES], page: usize, deep: usize, more: bool)
+fn change(image: &[u8], widths: &mut [u32], page: usize, deep: usize, more: bool)
     requires { ⌜ Raising (now image) (now widths) page deep ⌝ }
     ensures { λ _. ⌜ ((w : Raising (now (image .entry)) (now (widths .entry)) page deep)
         → now (widths .exit) ≡ changed (entryAnew more) deep (w .chain) (now (widths .entry))) ⌝ }
@@ -87,7 +83,7 @@ fn change(image: &[u8], widths: &mut [u32; Settings::PAGES], page: usize, deep: 
 }
 
 // They show one node more.
-pub fn one_more(image: &[u8], widths: &mut [u32; Settings::PAGES], page: usize, deep: usize)
+pub fn one_more(image: &[u8], widths: &mut [u32], page: usize, deep: usize)
     requires { ⌜ Raising (now image) (now widths) page deep ⌝ }
     ensures { λ _. ⌜ ((w : Raising (now (image .entry)) (now (widths .entry)) page deep)
         → now (widths .exit) ≡ raised deep (w .chain) (now (widths .entry))) ⌝ }
@@ -96,7 +92,7 @@ pub fn one_more(image: &[u8], widths: &mut [u32; Settings::PAGES], page: usize, 
 }
 
 // They show one node less.
-pub fn one_less(image: &[u8], widths: &mut [u32; Settings::PAGES], page: usize, deep: usize)
+pub fn one_less(image: &[u8], widths: &mut [u32], page: usize, deep: usize)
     requires { ⌜ Raising (now image) (now widths) page deep ⌝ }
     ensures { λ _. ⌜ ((w : Raising (now (image .entry)) (now (widths .entry)) page deep)
         → now (widths .exit) ≡ lowered deep (w .chain) (now (widths .entry))) ⌝ }

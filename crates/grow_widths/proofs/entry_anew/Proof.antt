@@ -25,11 +25,9 @@ returns c =
 returns-2 : tie.Need-returns-2
 returns-2 c = rw (c .before .if1 .left) (omega arith)
 
-sub-result : tie.Need-sub-result
-sub-result c = search needs
-
 returns-3 : tie.Need-returns-3
 returns-3 c = rw (c .before .if1 .left) (omega arith)
 
 pub entry-anew-spec : {M : Type 1} → statement M
-entry-anew-spec = tie.close (tie.spec wide-requires add-entry entry-requires returns returns-2 sub-result returns-3)
+entry-anew-spec =
+    tie.close (tie.spec wide-requires add-entry entry-requires returns returns-2 returns-3)

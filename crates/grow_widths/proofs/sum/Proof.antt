@@ -2,7 +2,6 @@
 use Prim.Native.Nat.{ℕ, _-_, _*_, _≤_, _<_}
 use native.Mathlib.Omega.{arith}
 use lib.ListN.{length}
-use Rattle.model.specs.Limits.{mostPages}
 use Rattle.grow_widths.specs.Tally.{tallied, mostEntry}
 use Rattle.grow_widths.specs.Tallying.{Tallying, TallyStep, tally-step, tally-end, tally-start}
 use Rattle.grow_widths.proofs.sum.Statement.{statement}
@@ -17,14 +16,14 @@ abbrev μ-loop : tie.MeasureT-loop
 
 loop-holds : tie.Need-loop-holds Inv-loop μ-loop
 loop-holds c =
-    let t = tally-start _ (c .before .args .widths .now) (c .before .pre) in
+    let t = tally-start _ (c .before .before .args .widths .now) (c .before .before .pre) in
     (λ t s. s, (omega arith, omega (arith, t .ends, t .small)))
 
 -- what stands at pos
-seen : (c : tie.In-loop Inv-loop μ-loop) → let s = c .before .before .before in
-    TallyStep (s .args .part .now) (s .args .widths .now) (c .before .loop .pos) (c .before .loop .n) (tallied (s .args .widths .now) (s .pre .row))
+seen : (c : tie.In-loop Inv-loop μ-loop) → let s = c .before .before .before .before in
+    TallyStep (s .args .part .now) (s .args .widths .now) (c .before .loop .pos) (c .before .loop .n) (tallied (s .args .widths .now) (s .pre .linked .row))
 seen c =
-    let s = c .before .before .before in
+    let s = c .before .before .before .before in
     tally-step _ _ _ _ _ (c .before .loop .inv .0 _ (tally-start _ _ (s .pre))) (c .loop-test .taken)
 
 size-at-requires : tie.Need-size-at-requires Inv-loop μ-loop
@@ -40,14 +39,15 @@ name-at-requires : tie.Need-name-at-requires Inv-loop μ-loop
 name-at-requires c κs = let v = seen (c .before .before .before) in omega (arith, v .within, v .proxy (c .if1 .taken) .0)
 
 -- the page that the proxy names is one of the table's
-named : (c : tie.After-name-at Inv-loop μ-loop) → c .name-at .result < mostPages
+named : (c : tie.After-name-at Inv-loop μ-loop) → let s = c .before .before .before .before .before .before .before .before in
+    c .name-at .result < length (s .args .widths .now)
 named c = let v = seen (c .before .before .before .before) in omega (arith, v .proxy (c .before .if1 .taken) .1 .0, c .name-at .ensures .0)
 
 mul-wide : tie.Need-mul-wide Inv-loop μ-loop
 mul-wide c = omega (arith, named c)
 
-element-copy-out-wide : tie.Need-element-copy-out-wide Inv-loop μ-loop
-element-copy-out-wide c = named c
+shared-slice-read-wide : tie.Need-shared-slice-read-wide Inv-loop μ-loop
+shared-slice-read-wide c = named (c .before)
 
 wide-requires : tie.Need-wide-requires Inv-loop μ-loop
 wide-requires c κs = tt
@@ -101,5 +101,22 @@ returns c = λ w. tally-end _ _ _ _ _ (c .before .loop .inv .0 _ (tally-start _ 
 
 pub sum-spec : {M : Type 1} → statement M
 sum-spec =
-    tie.close (tie.spec Inv-loop μ-loop loop-holds size-at-requires add-next shared-slice-read-if1 name-at-requires mul-wide element-copy-out-wide
-    wide-requires add-n add-n-2 loop-less loop-again loop-less-2 loop-again-2 returns)
+    tie.close
+    (tie.spec
+    Inv-loop
+    μ-loop
+    loop-holds
+    size-at-requires
+    add-next
+    shared-slice-read-if1
+    name-at-requires
+    mul-wide
+    shared-slice-read-wide
+    wide-requires
+    add-n
+    add-n-2
+    loop-less
+    loop-again
+    loop-less-2
+    loop-again-2
+    returns)
