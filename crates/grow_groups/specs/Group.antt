@@ -1,8 +1,8 @@
 -- A group that a split sets apart: what the code of its record and of its proxy needs.
-use mathlib.Core.Path.{_≡_, refl, sym, ap, _∙_}
+use mathlib.Core.Path.{_≡_, refl, sym, ap, subst, _∙_}
 use mathlib.Core.Bool.{Bool, true, false, cond, not, _||_, or-false, false≢true, true≢false}
 use mathlib.Core.List.{List, _∷_, _++_}
-use Prim.Native.Nat.{ℕ, _+_, _<_, _≤_}
+use Prim.Native.Nat.{ℕ, _+_, _*_, _<_, _≤_}
 use native.Mathlib.Omega.{arith}
 use native.Mathlib.Nat.{zero-add}
 use lib.Dec.{eqb}
@@ -13,7 +13,7 @@ use Rattle.model.specs.Limits.{mostPages, capacity}
 use Rattle.model.specs.Row.{Row, nil, agg, lit, rec, size, isNil, lone, loneRec, recordSize, two, header, recordBytes, Config, noHead}
 use Rattle.model.specs.Reading.{twoAt}
 use Rattle.model.specs.Growth.{freeFrom, taken, grouped}
-use Rattle.theory_rows.specs.Laws.{isNil-nil, size-some, size-nil}
+use Rattle.theory_rows.specs.Laws.{cond-case, isNil-nil, size-some, size-nil}
 use Rattle.theory_rows.specs.Fits.{Fits}
 use Rattle.theory_rows.specs.Pages.{or-left, free-found}
 use Rattle.theory_page_memory.specs.Memory.{WorkMem, OutMem, putMem, groupM}
@@ -21,14 +21,18 @@ use Rattle.base_numbers.specs.Over.{over, over-right, over-then}
 use Rattle.base_layout.specs.declared.Growing.{Growing}
 use Rattle.base_layout.specs.Setup.{setupOf}
 use Rattle.base_layout.specs.Growing.{pages-of}
-use Rattle.grow_pages.specs.Write.{usedBy, setPage, pageBytesOf, used-taken, free-same}
+use Rattle.theory_check.specs.Tests.{marked}
+use Rattle.theory_check.specs.Marks.{length-mark}
+use Rattle.grow_map.specs.Map.{used-marked}
+use Rattle.grow_map.specs.Search.{free-same}
+use Rattle.grow_pages.specs.Write.{setPage, pageBytesOf}
 use Rattle.grow_pages.specs.Links.{Below, Linked}
 use Rattle.grow_pages.specs.Relinked.{written, after-written}
-use Rattle.grow_widths.specs.Tally.{numberOf, entry-some}
-use Rattle.grow_widths.specs.Tallying.{linked-most}
+use Rattle.grow_widths.specs.Tally.{numberOf}
+use Rattle.grow_widths.specs.Tallying.{Counting, counting}
 use Rattle.grow_split_point.specs.Kids.{Node, node, sizeOf}
-use Rattle.grow_groups.specs.Used.{Env, free-within, set-past}
-use Rattle.grow_groups.specs.Tells.{keeps-row, own-keeps}
+use Rattle.grow_groups.specs.Used.{Tables, tables, usedBy, Env, Searched, found-is, found-inside, past-marked}
+use Rattle.grow_groups.specs.Tells.{Keeps, keeps-row, own-keeps}
 use Rattle.grow_groups.specs.Step.{InStep, Step}
 
 -- ── a proxy ──
@@ -111,73 +115,74 @@ module _ (l : List ℕ) (n : ℕ) (w : NewRecord l n) where
   abbrev pub part-linked : Linked l n
   part-linked = record { row = w .row; is = w .is; below = w .below; small = omega (arith, part-length, part-fits) }
 
+  -- Its nodes can be counted by a table of n entries.
+  abbrev pub part-counting : (u : List ℕ) → n ≤ mostPages → n ≤ length u → Counting l u
+  part-counting u few h = counting few h part-linked
+
 -- Other content, the same.
 pub page-with : (q : ℕ) (x y img out : List ℕ) → out ≡ setPage q (pageBytesOf x 0 0) img → x ≡ y → out ≡ setPage q (pageBytesOf y 0 0) img
 page-with q x y img out e k = e ∙ ap (λ (z : List ℕ). setPage q (pageBytesOf z 0 0) img) k
 
 -- ── a record of its own ──
 
--- A row becomes a record on the first free page, and its proxy stands at `at`.
-pub own-step : {g : Growing} {u img : List ℕ} → Env g u img → (st : Config) → setupOf st ≡ g .setup → (settled : Bool) (holder : ℕ) (row : Row)
-    → Below (g .setup .pages) row → recordSize row ≤ capacity → isNil row ≡ false → (s : WorkMem) → InStep g u img s
-    → (k n at : ℕ) (b out o : List ℕ) → k ≡ freeFrom st (g .setup .pages) (usedBy u) (g .near) → n ≡ numberOf u row
+-- A row becomes a record on the first free page, which the map m has, and its proxy stands at `at`. The widths v and the image b are as before in a dry run.
+pub own-step : {g : Growing} {u : Tables} {img : List ℕ} → Env g u img → (st : Config) → setupOf st ≡ g .setup → (settled : Bool) (holder : ℕ) (row : Row)
+    → Below (g .setup .pages) row → recordSize row ≤ capacity → (s : WorkMem) → InStep g u img s
+    → (k at : ℕ) (v m b out o : List ℕ) → Searched g (u .map) k → m ≡ marked (u .map) k
+    → v ≡ cond (g .dry) (u .widths) (set (u .widths) k (numberOf (u .widths) row))
     → b ≡ cond (g .dry) img (written k settled holder row img) → o ≡ over at (proxyBytes k) out
     → let q = freeFrom st (st .pages) (s .0 .used) (g .near) in
-    Step g row s (rec q settled row nil, (taken st q (s .0), putMem q settled holder row (s .1))) at (at + 8) (eqb k 0) u img out (set u k n) b o
-own-step {g} {u} {img} env st setup settled holder row below small some s same k n at b out o e en pb po =
+    Step g row s (rec q settled row nil, (taken st q (s .0), putMem q settled holder row (s .1))) at (at + 8) (eqb k 0) u img out (tables v m) b o
+own-step {g} {u} {img} env st setup settled holder row below small s same k at v m b out o found em ev pb po =
     let pages = pages-of setup in
-    let many : st .pages ≤ mostPages = omega (arith, pages, env .few) in
-    let at-k : k ≡ freeFrom st (st .pages) (usedBy u) (g .near) = e ∙ ap (λ (i : ℕ). freeFrom st i (usedBy u) (g .near)) (sym pages) in
+    let at-k = found-is env k found st pages in
     let z : k ≡ freeFrom st (st .pages) (s .0 .used) (g .near) =
-    at-k ∙ free-same st many (usedBy u) (s .0 .used) (same .used .same) (st .pages) (g .near) (omega (arith, env .start)) in
-    let inside : k < g .setup .pages =
-    omega (arith, at-k, free-within st (g .setup .pages) (g .near) (usedBy u) pages (env .few) (env .start) (env .past) (st .pages)) in
-    let low : k < length u = omega (arith, same .used .long, env .few) in
+    at-k ∙ free-same st (8 * length (u .map)) (omega (arith, pages, env .holds .map)) (omega (arith, env .holds .map, env .low, env .start))
+    (usedBy u) (s .0 .used) (same .used .same) (st .pages) (g .near) (omega (arith, env .start, env .holds .map)) in
+    let inside = found-inside env k found in
+    let low : k < 8 * length (u .map) = omega (arith, env .holds .map) in
     let put = after-written (g .setup .pages) k holder settled row img below small (env .image) inside (g .dry) in
-    rw (← z, en, pb) (record {
+    rw (← z, pb, em) (record {
       used = record {
-        long = length-set u k (numberOf u row) ∙ same .used .long;
-        same = λ x i. used-taken u k (numberOf u row) x (entry-some _) low ∙ ap (λ (y : Bool). cond (eqb x k) true y) (same .used .same x i);
+        same = λ x i. used-marked (u .map) k low x ∙ ap (λ (y : Bool). cond (eqb x k) true y) (same .used .same x (omega (arith, length-mark (u .map) k)));
       };
       full = refl;
-      past = set-past (g .setup .pages) k (numberOf u row) u inside (env .past);
+      past = past-marked (g .setup .pages) k (u .map) low (env .past);
+      as-long = record { widths = ap length ev ∙ cond-case (λ (l : List ℕ). length l ≡ length (u .widths)) (g .dry) (λ _. refl) (λ _. length-set (u .widths) k _);
+        map = length-mark (u .map) k };
       after = record { long = put .long; same = put .same; pages = λ d. put .pages d ∙ ap (putMem k settled holder row) (same .pages d) };
       below = (inside, tt);
       written = po;
       next = omega arith;
-      tells = λ t f.
-          own-keeps settled u k row low
-          (ap (usedBy u) at-k ∙ free-found st (st .pages) (usedBy u) (g .near) (ap (λ (i : ℕ). eqb i 0) (sym at-k) ∙ f)) some t;
+      tells = λ d t f.
+          let is : set (u .widths) k (numberOf (u .widths) row) ≡ v = sym (rw d at ev) in
+          subst (λ (l : List ℕ). Keeps u (tables l (marked (u .map) k)) (rec k settled row nil)) is
+          (own-keeps settled u k row (omega (arith, env .holds .widths)) low
+          (ap (usedBy u) at-k ∙ free-found st (st .pages) (usedBy u) (g .near) (ap (λ (i : ℕ). eqb i 0) (sym at-k) ∙ f)) t);
+      rests = λ d. rw d at ev;
     })
 
 -- ── a row that stays ──
 
-pub stay-step : {g : Growing} {u img : List ℕ} → Env g u img → (row : Row) → Below (g .setup .pages) row → (s : WorkMem) → InStep g u img s
+pub stay-step : {g : Growing} {u : Tables} {img : List ℕ} → Env g u img → (row : Row) → Below (g .setup .pages) row → (s : WorkMem) → InStep g u img s
     → (at end : ℕ) (l out o : List ℕ) → RowIs l row → o ≡ over at l out → end ≡ at + length l → Step g row s (row, s) at end false u img out u img o
 stay-step env row below s same at end l out o is e z = record {
   used = same .used;
   full = or-false (s .0 .full);
   past = env .past;
+  as-long = record { widths = refl; map = refl };
   after = record { long = refl; same = λ _. refl; pages = same .pages };
   below = below;
   written = e ∙ ap (λ (v : List ℕ). over at v out) is;
   next = omega (arith, row-long row is);
-  tells = λ t _. keeps-row (λ _ _. refl) refl row t;
+  tells = λ _ t _. keeps-row (λ _ h. (refl, h)) row t;
+  rests = λ _. refl;
 }
 
 -- ── a group ──
 
--- The image of a run that writes, and of a dry one.
-pub wet : (dry : Bool) (b img x : List ℕ) → not dry ≡ true → b ≡ x → b ≡ cond dry img x
-wet true b img x e q = absurd (false≢true e)
-wet false b img x e q = q
-
-pub still : (dry : Bool) (b img x : List ℕ) → not dry ≡ false → b ≡ img → b ≡ cond dry img x
-still true b img x e q = q
-still false b img x e q = absurd (true≢false e)
-
 -- The bytes l are a group, whose record fits a page, and for whose row or proxy there is room in the separator; `state` is what the model carries along.
-pub record Grouping (g : Growing) (l u img : List ℕ) (room : ℕ) : Type 0 where
+pub record Grouping (g : Growing) (l : List ℕ) (u : Tables) (img : List ℕ) (room : ℕ) : Type 0 where
   pub st : Config
   pub setup : setupOf st ≡ g .setup
   pub row : Row
@@ -188,7 +193,7 @@ pub record Grouping (g : Growing) (l u img : List ℕ) (room : ℕ) : Type 0 whe
   pub fits : Fits (groupM st (g .near) row state .0)
   pub within : size (groupM st (g .near) row state .0) ≤ room
 
-module _ {g : Growing} {l u img : List ℕ} {room : ℕ} (env : Env g u img) (w : Grouping g l u img room) where
+module _ {g : Growing} {l : List ℕ} {u : Tables} {img : List ℕ} {room : ℕ} (env : Env g u img) (w : Grouping g l u img room) where
   abbrev q : ℕ
   q = freeFrom (w .st) (w .st .pages) (w .state .0 .used) (g .near)
 
@@ -219,13 +224,10 @@ module _ {g : Growing} {l u img : List ℕ} {room : ℕ} (env : Env g u img) (w 
     unfolding grouped
     proxy-room = let z : 8 + 0 ≤ room = rw (sym h) at (w .within) in omega arith
 
-    abbrev pub group-linked : Linked l mostPages
-    group-linked = linked-most (env .few) (part-linked l (g .setup .pages) group-record)
-
-    pub group-moved : (k n at : ℕ) (b out o : List ℕ) → k ≡ freeFrom (w .st) (g .setup .pages) (usedBy u) (g .near) → n ≡ numberOf u (w .row)
+    pub group-moved : (k at : ℕ) (v m b out o : List ℕ) → Searched g (u .map) k → m ≡ marked (u .map) k
+        → v ≡ cond (g .dry) (u .widths) (set (u .widths) k (numberOf (u .widths) (w .row)))
         → b ≡ cond (g .dry) img (written k false 0 (w .row) img) → o ≡ over at (proxyBytes k) out
-        → Step g (w .row) (w .state) put at (at + 8) (eqb k 0) u img out (set u k n) b o
+        → Step g (w .row) (w .state) put at (at + 8) (eqb k 0) u img out (tables v m) b o
     unfolding grouped
-    group-moved k n at b out o e en pb po =
-        rw (sym h) (own-step env (w .st) (w .setup) false 0 (w .row) (w .below) (fits-own .0 .fits) (or-left (isNil (w .row)) (loneRec (w .row)) (sym h))
-        (w .state) (w .same) k n at b out o e en pb po)
+    group-moved k at v m b out o e em ev pb po =
+        rw (sym h) (own-step env (w .st) (w .setup) false 0 (w .row) (w .below) (fits-own .0 .fits) (w .state) (w .same) k at v m b out o e em ev pb po)

@@ -1,6 +1,6 @@
 -- A step of a split in its bytes, beside the model's: what the code leaves for a row is what the model puts in the row's place.
 use mathlib.Core.Path.{_≡_, refl, sym, ap, _∙_}
-use mathlib.Core.Bool.{Bool, false, _||_, or-assoc}
+use mathlib.Core.Bool.{Bool, true, false, _||_, or-assoc}
 use mathlib.Core.List.{List, _++_, append-nil}
 use Prim.Native.Nat.{ℕ, _+_, _≤_}
 use native.Mathlib.Omega.{arith}
@@ -14,34 +14,36 @@ use Rattle.base_numbers.specs.Over.{over, over-then, over-inside, take-over, le
 use Rattle.base_layout.specs.declared.Growing.{Growing}
 use Rattle.grow_pages.specs.Links.{Below, below-parted}
 use Rattle.grow_pages.specs.Relinked.{After, after-then}
-use Rattle.grow_groups.specs.Used.{InUse, Past}
+use Rattle.grow_groups.specs.Used.{Tables, InUse, Past, AsLong}
 use Rattle.grow_groups.specs.Tells.{Tabled, Keeps, tabled-parts, tabled-same, keeps-both}
 
--- The table and the image say what the model carries along; in a dry run the image does not.
-pub record InStep (g : Growing) (u img : List ℕ) (s : WorkMem) : Type 0 where
+-- The map and the image say what the model carries along; in a dry run the image does not.
+pub record InStep (g : Growing) (u : Tables) (img : List ℕ) (s : WorkMem) : Type 0 where
   pub used : InUse u (s .0)
   pub pages : g .dry ≡ false → pageOf img ≡ s .1
 
--- From s the model makes o of a row. The code takes the table u, the image and `out` to u′, img′ and out′: what comes of the row stands in out′ from `at` to
--- `end`, `filled` says whether a page was taken where none was free, and a table that was right is right again.
-pub record Step (g : Growing) (row : Row) (s : WorkMem) (o : OutMem) (at end : ℕ) (filled : Bool) (u img out u′ img′ out′ : List ℕ)
+-- From s the model makes o of a row. The code takes the tables u, the image and `out` to u′, img′ and out′: what comes of the row stands in out′ from `at` to
+-- `end`, `filled` says whether a page was taken where none was free, and tables that were right are right again. A dry run leaves the table of widths.
+pub record Step (g : Growing) (row : Row) (s : WorkMem) (o : OutMem) (at end : ℕ) (filled : Bool) (u : Tables) (img out : List ℕ) (u′ : Tables) (img′ out′ : List ℕ)
     : Type 0 where
   pub used : InUse u′ (o .1 .0)
   pub full : (s .0 .full || filled) ≡ o .1 .0 .full
   pub past : Past (g .setup .pages) u′
+  pub as-long : AsLong u u′
   pub after : After (g .dry) img′ img (o .1 .1)
   pub below : Below (g .setup .pages) (o .0)
   pub written : out′ ≡ over at (bytes (o .0)) out
   pub next : end ≡ at + size (o .0)
-  pub tells : Tabled u row → filled ≡ false → Keeps u u′ (o .0)
+  pub tells : g .dry ≡ false → Tabled u row → filled ≡ false → Keeps u u′ (o .0)
+  pub rests : g .dry ≡ true → u′ .widths ≡ u .widths
 
-module _ {g : Growing} {s : WorkMem} {at end : ℕ} {filled : Bool} {u img out u′ img′ out′ : List ℕ} where
+module _ {g : Growing} {s : WorkMem} {at end : ℕ} {filled : Bool} {u u′ : Tables} {img out img′ out′ : List ℕ} where
   -- The code and the model are in step again.
   pub in-step : {row : Row} {o : OutMem} → Step g row s o at end filled u img out u′ img′ out′ → InStep g u′ img′ (o .1)
   in-step k = record { used = k .used; pages = k .after .pages }
 
   -- A step, and another after it.
-  pub both-steps : (a b : Row) {x y : OutMem} {end₂ : ℕ} {filled₂ : Bool} {u″ img″ out″ : List ℕ}
+  pub both-steps : (a b : Row) {x y : OutMem} {end₂ : ℕ} {filled₂ : Bool} {u″ : Tables} {img″ out″ : List ℕ}
       → Step g a s x at end filled u img out u′ img′ out′ → Step g b (x .1) y end end₂ filled₂ u′ img′ out′ u″ img″ out″ → at + size (x .0 ⊹ y .0) ≤ length out
       → Step g (a ⊹ b) s (x .0 ⊹ y .0, y .1) at end₂ (filled || filled₂) u img out u″ img″ out″
   both-steps a b {x} {y} {filled₂ = filled₂} {out″ = out″} i j room =
@@ -51,20 +53,22 @@ module _ {g : Growing} {s : WorkMem} {at end : ℕ} {filled : Bool} {u img out u
         used = j .used;
         full = sym (or-assoc (s .0 .full) filled filled₂) ∙ ap (λ (z : Bool). z || filled₂) (i .full) ∙ j .full;
         past = j .past;
+        as-long = record { widths = j .as-long .widths ∙ i .as-long .widths; map = j .as-long .map ∙ i .as-long .map };
         after = after-then (λ _. y .1 .1) (i .after) (j .after);
         below = below-parted (g .setup .pages) .join (x .0) (y .0) (i .below) (j .below);
         written =
             over-then at end (bytes (x .0)) (bytes (y .0)) out out′ out″ (i .written) (j .written) (omega (arith, i .next))
             (omega (arith, z, length-bytes (y .0))) ∙ ap (λ (v : List ℕ). over at v out) (sym (bytes-⊹ (x .0) (y .0)));
         next = omega (arith, j .next, i .next, z);
-        tells = λ t f.
+        tells = λ d t f.
             let k = tabled-parts u a b t in
-            let l = i .tells (k .0) (or-left filled filled₂ f) in
-            keeps-both (x .0) (y .0) l (j .tells (tabled-same b (λ q h. l .frame q (k .1 .named q h)) (k .1)) (or-right filled filled₂ f));
+            let l = i .tells d (k .0) (or-left filled filled₂ f) in
+            keeps-both (x .0) (y .0) l (j .tells d (tabled-same b (l .frame) (k .1)) (or-right filled filled₂ f));
+        rests = λ d. j .rests d ∙ i .rests d;
       }
 
 -- What stands at the front of out after a step there.
-module _ {g : Growing} {row : Row} {s : WorkMem} {o : OutMem} {end : ℕ} {filled : Bool} {u img out u′ img′ out′ : List ℕ}
+module _ {g : Growing} {row : Row} {s : WorkMem} {o : OutMem} {end : ℕ} {filled : Bool} {u u′ : Tables} {img out img′ out′ : List ℕ}
     (k : Step g row s o 0 end filled u img out u′ img′ out′) where
   pub front-is : take end out′ ≡ bytes (o .0)
   front-is = (λ i. take (k .next i) (k .written i)) ∙ take-over (0 + size (o .0)) (bytes (o .0)) out (omega (arith, length-bytes (o .0)))
@@ -80,7 +84,7 @@ unfolding over
 resized h k v b = refl
 
 -- A step on the children of a node: its header is written before it, and its size after it.
-pub under-step : {g : Growing} {s : WorkMem} {at end : ℕ} {filled : Bool} {u img out u′ img′ out₁ out₂ out₃ : List ℕ} (h : Head) (row : Row)
+pub under-step : {g : Growing} {s : WorkMem} {at end : ℕ} {filled : Bool} {u u′ : Tables} {img out img′ out₁ out₂ out₃ : List ℕ} (h : Head) (row : Row)
     {o : OutMem} (n v : ℕ) → out₁ ≡ over at (header 1 h n) out → Step g row s o (at + 6) end filled u img out₁ u′ img′ out₂ → end ≡ at + v
     → out₃ ≡ over (at + 4) (two v) out₂ → at + (6 + size (o .0)) ≤ length out
     → Step g (agg h row nil) s (agg h (o .0) nil, o .1) at end filled u img out u′ img′ out₃
@@ -97,11 +101,13 @@ under-step {at = at} {out = out} {out₁ = out₁} {out₂ = out₂} {out₃ = o
       used = k .used;
       full = k .full;
       past = k .past;
+      as-long = k .as-long;
       after = k .after;
       below = (k .below, tt);
       written = w3 ∙ ap (λ (y : List ℕ). over at (header 1 h (6 + size C) ++ y) out) (sym (append-nil (bytes C)));
       next = omega (arith, k .next);
-      tells = λ t f.
-          let l = k .tells (record { told = t .told .0; named = λ q c. t .named q (omega arith); few = omega (arith, t .few) }) f in
-          record { told = (l .told, tt); named = λ q c. l .named q (omega arith); frame = l .frame; long = l .long };
+      tells = λ d t f.
+          let l = k .tells d (record { told = t .told .0; named = λ q c. t .named q (omega arith); few = omega (arith, t .few) }) f in
+          record { told = (l .told, tt); named = λ q c. l .named q (omega arith); frame = l .frame };
+      rests = k .rests;
     }

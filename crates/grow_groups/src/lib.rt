@@ -3,23 +3,25 @@ use base_layout::Growing;
 use base_layout::size_at;
 use base_numbers::copy_in;
 use base_numbers::put16;
-use grow_pages::first_free;
+use grow_map::first_free;
+use grow_map::set_used;
 use grow_pages::put_record;
 use grow_pages::relink;
 use grow_split_point::stays;
 use grow_widths::number;
 use model::Settings;
 ghost use mathlib.Core.Path.{_≡_};
-ghost use mathlib.Core.Bool.{false};
+ghost use mathlib.Core.Bool.{false, cond};
 ghost use Prim.Native.Nat.{_+_, _-_, _*_, _≤_, _<_};
-ghost use lib.ListN.{length};
+ghost use lib.ListN.{length, set};
 ghost use Rattle.model.specs.Limits.{mostPages, pageSize};
 ghost use Rattle.model.specs.Row.{recordBytes};
 ghost use Rattle.base_numbers.specs.Over.{over};
 ghost use Rattle.grow_pages.specs.Write.{setPage, pageBytesOf};
 ghost use Rattle.grow_pages.specs.Relinked.{written};
 ghost use Rattle.theory_page_memory.specs.Memory.{groupM};
-ghost use Rattle.grow_groups.specs.Used.{Env};
+ghost use Rattle.grow_widths.specs.Tally.{numberOf};
+ghost use Rattle.grow_groups.specs.Used.{tables, Env};
 ghost use Rattle.grow_groups.specs.Step.{Step};
 ghost use Rattle.grow_groups.specs.Group.{proxyBytes, NewRecord, Grouping};
 
@@ -67,20 +69,38 @@ pub fn put_nodes(image: &mut [u8], pages: usize, q: usize, part: &[u8])
     relink(part, image, pages, q);
 }
 
+// Unless the run is dry, writes a group's record to page q, and to the table how many nodes it shows.
+fn put_new(image: &mut [u8], widths: &mut [u32], pages: usize, q: usize, part: &[u8], dry: bool)
+    requires { ⌜ (pages ≤ mostPages) × (pageSize * pages ≤ length (now image)) × (q < pages) × (pages ≤ length (now widths)) × NewRecord (now part) pages ⌝ }
+    ensures image { λ _. ⌜ ((w : NewRecord (now (part .entry)) pages)
+        → now (image .exit) ≡ cond dry (now (image .entry)) (written q false 0 (w .row) (now (image .entry)))) ⌝ }
+    ensures widths { λ _. ⌜ ((w : NewRecord (now (part .entry)) pages)
+        → now (widths .exit) ≡ cond dry (now (widths .entry)) (set (now (widths .entry)) q (numberOf (now (widths .entry)) (w .row)))) ⌝ }
+{
+    if dry {
+        return;
+    }
+    let n = number(part, widths);
+    widths[q] = n;
+    put_nodes(image, pages, q, part);
+}
+
 // Writes what stands for a group to out at `at`: the group, or the proxy of its new record.
 pub fn put_group(
     part: &[u8],
     image: &mut [u8],
-    widths: &mut [u32; Settings::PAGES],
+    widths: &mut [u32],
+    map: &mut [u8],
     g: Growing,
     out: &mut [u8],
     at: usize,
 ) -> Output
-    requires { ⌜ Env g (now widths) (now image)
-        × ((at ≤ length (now out)) × Grouping g (now part) (now widths) (now image) (length (now out) - at)) ⌝ }
-    ensures { λ r. ⌜ ((w : Grouping g (now (part .entry)) (now (widths .entry)) (now (image .entry)) (length (now (out .entry)) - at))
+    requires { ⌜ Env g (tables (now widths) (now map)) (now image)
+        × ((at ≤ length (now out)) × Grouping g (now part) (tables (now widths) (now map)) (now image) (length (now out) - at)) ⌝ }
+    ensures { λ r. ⌜ ((w : Grouping g (now (part .entry)) (tables (now (widths .entry)) (now (map .entry))) (now (image .entry)) (length (now (out .entry)) - at))
         → Step g (w .row) (w .state) (groupM (w .st) (g .near) (w .row) (w .state)) at (r .end) (r .full)
-        (now (widths .entry)) (now (image .entry)) (now (out .entry)) (now (widths .exit)) (now (image .exit)) (now (out .exit))) ⌝ }
+        (tables (now (widths .entry)) (now (map .entry))) (now (image .entry)) (now (out .entry))
+        (tables (now (widths .exit)) (now (map .exit))) (now (image .exit)) (now (out .exit))) ⌝ }
 {
     if stays(part) {
         copy_in(part, out, at);
@@ -89,13 +109,9 @@ pub fn put_group(
             full: false,
         };
     }
-    let pages = g.setup.pages;
-    let dry = g.dry;
-    let q = first_free(widths, pages, g.near);
-    widths[q] = number(part, widths);
-    if !dry {
-        put_nodes(image, pages, q, part);
-    }
+    let q = first_free(map, g.near);
+    set_used(map, q);
+    put_new(image, widths, g.setup.pages, q, part, g.dry);
     put_proxy(out, at, q);
     Output {
         end: at + 8,

@@ -46,6 +46,13 @@ module _ (m : List ℕ) (p : ℕ) (low : p < 8 * length m) where
       go true e = absurd (f (eqb-true q p e))
       go false e = refl
 
+  pub unmarked-other : (q : ℕ) → (q ≡ p → ⊥) → usedBy (unmarked m p) q ≡ usedBy m q
+  unmarked-other q f = used-unmarked q ∙ go (eqb q p) refl
+    where
+      go : (b : Bool) → eqb q p ≡ b → cond b false (usedBy m q) ≡ usedBy m q
+      go true e = absurd (f (eqb-true q p e))
+      go false e = refl
+
 -- ── the pages that growth never takes ──
 
 -- Pages 0, 1 and those from n on are marked, the others as they were.
