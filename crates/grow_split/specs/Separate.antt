@@ -22,14 +22,14 @@ use Rattle.grow_split_point.specs.Level.{kids-bytes, chosen, left-bytes, inner,
 use Rattle.base_layout.specs.declared.Growing.{Growing}
 use Rattle.base_layout.specs.Setup.{setupOf}
 use Rattle.grow_groups.specs.declared.Output.{Output}
-use Rattle.grow_groups.specs.Used.{Env, env-with}
+use Rattle.grow_groups.specs.Used.{Tables, Env, env-with}
 use Rattle.grow_groups.specs.Step.{InStep, Step, in-step, both-steps, under-step}
 use Rattle.grow_groups.specs.Group.{Grouping}
 use Rattle.grow_split.specs.declared.Children.{Children}
 use Rattle.grow_split.specs.declared.Split.{Split}
 
 -- A row to split, that stands in l from pos to end; the groups' records fit, and for the separator's row there is room.
-pub record Sep (g : Growing) (ch : Children) (l u img : List ℕ) (room : ℕ) : Type 0 where
+pub record Sep (g : Growing) (ch : Children) (l : List ℕ) (u : Tables) (img : List ℕ) (room : ℕ) : Type 0 where
   pub st : Config
   pub setup : setupOf st ≡ g .setup
   pub kids : Kids l (ch .pos) (ch .end)
@@ -39,7 +39,7 @@ pub record Sep (g : Growing) (ch : Children) (l u img : List ℕ) (room : ℕ) :
   pub fits : Fits (separate (groupM st (g .near)) (cutFrom st (ch .p) (ch .pos) nil (kids .row)) state .0)
   pub within : size (separate (groupM st (g .near)) (cutFrom st (ch .p) (ch .pos) nil (kids .row)) state .0) ≤ room
 
-module _ {g : Growing} {ch : Children} {l u img : List ℕ} {room : ℕ} (w : Sep g ch l u img room) where
+module _ {g : Growing} {ch : Children} {l : List ℕ} {u : Tables} {img : List ℕ} {room : ℕ} (w : Sep g ch l u img room) where
   -- Its cut, and what the model makes of it.
   abbrev pub levelCut : Cut
   levelCut = cutFrom (w .st) (ch .p) (ch .pos) nil (w .kids .row)
@@ -48,17 +48,17 @@ module _ {g : Growing} {ch : Children} {l u img : List ℕ} {room : ℕ} (w : Se
   put = groupM (w .st) (g .near)
 
   -- What the code leaves of the level, and where d starts.
-  abbrev pub Separated : (at : ℕ) → Split → (out u′ img′ out′ : List ℕ) → Type 0
+  abbrev pub Separated : (at : ℕ) → Split → (out : List ℕ) → (u′ : Tables) → (img′ out′ : List ℕ) → Type 0
   Separated at r out u′ img′ out′ =
       Step g (w .kids .row) (w .state) (separate put levelCut (w .state)) at (r .end) (r .full) u img out u′ img′ out′ × (r .d ≡ startOf (ch .pos) levelCut)
 
   -- A group of it, whose bytes are a part of l.
-  abbrev pub grouping : {u′ img′ part : List ℕ} {room′ : ℕ} (s : WorkMem) (row : Row) → InStep g u′ img′ s → RowIs part row → Below (g .setup .pages) row
+  abbrev pub grouping : {u′ : Tables} {img′ part : List ℕ} {room′ : ℕ} (s : WorkMem) (row : Row) → InStep g u′ img′ s → RowIs part row → Below (g .setup .pages) row
       → Fits (put row s .0) × (size (put row s .0) ≤ room′) → Grouping g part u′ img′ room′
   grouping s row same is below k =
       record { st = w .st; setup = w .setup; row = row; is = is; below = below; state = s; same = same; fits = k .0; within = k .1 }
 
-module _ {g : Growing} {ch : Children} {l u img : List ℕ} {room x : ℕ} (w : Sep g ch l u img room) (c : Chosen (w .st) (ch .p) (ch .pos) (w .kids .row) x) where
+module _ {g : Growing} {ch : Children} {l : List ℕ} {u : Tables} {img : List ℕ} {room x : ℕ} (w : Sep g ch l u img room) (c : Chosen (w .st) (ch .p) (ch .pos) (w .kids .row) x) where
   -- What the model makes of the group before the chosen child, and of that child and those after it.
   abbrev pub A : OutMem
   A = put w (c .left) (w .state)
@@ -94,14 +94,14 @@ module _ {g : Growing} {ch : Children} {l u img : List ℕ} {room x : ℕ} (w : 
   left-group = grouping w (w .state) (c .left) (w .same) (left-bytes (w .kids) c) (belows .0) (rooms .0, omega (arith, rooms .2))
 
 -- After the left group, in an out of the same length.
-pub record Left {g : Growing} {ch : Children} {l u img : List ℕ} {room : ℕ} (w : Sep g ch l u img room) (at x : ℕ) (r : Output) (u₁ i₁ o₁ o₀ : List ℕ)
-    : Type 0 where
+pub record Left {g : Growing} {ch : Children} {l : List ℕ} {u : Tables} {img : List ℕ} {room : ℕ} (w : Sep g ch l u img room) (at x : ℕ) (r : Output)
+    (u₁ : Tables) (i₁ o₁ o₀ : List ℕ) : Type 0 where
   pub is : Chosen (w .st) (ch .p) (ch .pos) (w .kids .row) x
   pub enough : at + room ≤ length o₀
   pub done : Step g (is .left) (w .state) (A w is) at (r .end) (r .full) u img o₀ u₁ i₁ o₁
   pub same : length o₁ ≡ length o₀
 
-module _ {g : Growing} {ch : Children} {l u img : List ℕ} {room at x : ℕ} {r : Output} {u₁ i₁ o₁ o₀ : List ℕ} {w : Sep g ch l u img room}
+module _ {g : Growing} {ch : Children} {l : List ℕ} {u u₁ : Tables} {img : List ℕ} {room at x : ℕ} {r : Output} {i₁ o₁ o₀ : List ℕ} {w : Sep g ch l u img room}
     (v : Left w at x r u₁ i₁ o₁ o₀) where
   -- The child that is chosen and those after it.
   abbrev pub F : Row
@@ -114,13 +114,13 @@ module _ {g : Growing} {ch : Children} {l u img : List ℕ} {room at x : ℕ} {r
   left-end = omega (arith, v .enough, v .same, rooms w (v .is) .2, v .done .next)
 
   pub env-left : Env g u img → Env g u₁ i₁
-  env-left env = env-with env (v .done .after .long) (v .done .past)
+  env-left env = env-with env (v .done .after .long) (v .done .as-long) (v .done .past)
 
   -- What comes of them, and the level that is then done.
   pub from-room : Fits (T w (v .is) .0) × (size (T w (v .is) .0) ≤ length o₁ - r .end)
   from-room = (rooms w (v .is) .1, omega (arith, v .enough, v .same, rooms w (v .is) .2, v .done .next))
 
-  done-from : (row : Row) (o : OutMem) {e : ℕ} {f : Bool} {u₂ i₂ o₂ : List ℕ} → F ≡ row → T w (v .is) ≡ o
+  done-from : (row : Row) (o : OutMem) {e : ℕ} {f : Bool} {u₂ : Tables} {i₂ o₂ : List ℕ} → F ≡ row → T w (v .is) ≡ o
       → Step g row s₁ o (r .end) e f u₁ i₁ o₁ u₂ i₂ o₂
       → Step g (w .kids .row) (w .state) (separate (put w) (levelCut w) (w .state)) at e (r .full || f) u img o₀ u₂ i₂ o₂
   done-from row o {e} {f} {u₂} {i₂} {o₂} k t rt =
@@ -142,7 +142,7 @@ module _ {g : Growing} {ch : Children} {l u img : List ℕ} {room at x : ℕ} {r
         grouping w s₁ F (in-step (v .done)) (kids-bytes (at-x w (v .is))) (belows w (v .is) .1)
         (subst (λ (o : OutMem). Fits (o .0) × (size (o .0) ≤ length o₁ - r .end)) apart-is from-room)
 
-    pub done-apart : {s : Output} {u₂ i₂ o₂ : List ℕ} → Step g F s₁ (put w F s₁) (r .end) (s .end) (s .full) u₁ i₁ o₁ u₂ i₂ o₂
+    pub done-apart : {s : Output} {u₂ : Tables} {i₂ o₂ : List ℕ} → Step g F s₁ (put w F s₁) (r .end) (s .end) (s .full) u₁ i₁ o₁ u₂ i₂ o₂
         → Separated w at (record { end = s .end; full = r .full || s .full; d = x }) o₀ u₂ i₂ o₂
     done-apart rt =
         let start : startOf (ch .pos) (cutAt (w .st) (ch .p) x (v .is .left) F) ≡ ch .pos + size (v .is .left) = rw e refl in
@@ -191,19 +191,19 @@ module _ {g : Growing} {ch : Children} {l u img : List ℕ} {room at x : ℕ} {r
       }
 
   -- After the level inside it, which leaves b.
-  pub record Inside (k : ℕ) (b : Split) (o₂ u₂ i₂ o₃ : List ℕ) : Type 0 where
+  pub record Inside (k : ℕ) (b : Split) (o₂ : List ℕ) (u₂ : Tables) (i₂ o₃ : List ℕ) : Type 0 where
     pub into : goesInto (w .st) F ≡ true
     pub is : k ≡ sizeAt l x
     pub head : o₂ ≡ over (r .end) (take (x + 6 - x) (drop x l)) o₁
     pub done : Separated (inner-sep into is head) (r .end + 6) b o₂ u₂ i₂ o₃
     pub same : length o₃ ≡ length o₁
 
-  module _ {k : ℕ} {b : Split} {o₂ u₂ i₂ o₃ : List ℕ} (i : Inside k b o₂ u₂ i₂ o₃) where
+  module _ {k : ℕ} {b : Split} {u₂ : Tables} {o₂ i₂ o₃ : List ℕ} (i : Inside k b o₂ u₂ i₂ o₃) where
     pub inner-room : (r .end + 6 ≤ b .end) × (b .end ≤ length o₁)
     inner-room = omega (arith, i .done .0 .next, into-room (i .into) .2)
 
     pub env-inner : Env g u img → Env g u₂ i₂
-    env-inner env = env-with (env-left env) (i .done .0 .after .long) (i .done .0 .past)
+    env-inner env = env-with (env-left env) (i .done .0 .after .long) (i .done .0 .as-long) (i .done .0 .past)
 
     -- The group after it.
     abbrev pub rest-group : {m : ℕ} → m ≡ length o₃ → Grouping g (take (ch .end - (x + k)) (drop (x + k) l)) u₂ i₂ (m - b .end)
@@ -213,7 +213,7 @@ module _ {g : Growing} {ch : Children} {l u img : List ℕ} {room at x : ℕ} {r
         (into-room (i .into) .1, omega (arith, into-room (i .into) .2, i .done .0 .next, i .same))
 
     -- The node, once its size is put right, and the group after it.
-    pub done-inside : {f : Output} {o₄ u₃ i₃ o₅ : List ℕ} → o₄ ≡ over (r .end + 4) (two (b .end - r .end)) o₃
+    pub done-inside : {f : Output} {u₃ : Tables} {o₄ i₃ o₅ : List ℕ} → o₄ ≡ over (r .end + 4) (two (b .end - r .end)) o₃
         → Step g (restOf F) (B .1) C (b .end) (f .end) (f .full) u₂ i₂ o₄ u₃ i₃ o₅
         → Separated w at (record { end = f .end; full = (r .full || b .full) || f .full; d = b .d }) o₀ u₃ i₃ o₅
     done-inside {f} p4 rl =

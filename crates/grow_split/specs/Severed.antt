@@ -19,7 +19,7 @@ use Rattle.base_layout.specs.Growing.{separatorSize}
 use Rattle.theory_page_memory.specs.Memory.{WorkMem, OutMem, groupM, separatorM}
 use Rattle.theory_page_memory.specs.Steps.{split-same}
 use Rattle.grow_pages.specs.Links.{Below}
-use Rattle.grow_groups.specs.Used.{InUse}
+use Rattle.grow_groups.specs.Used.{Tables, InUse}
 use Rattle.grow_groups.specs.Step.{Step}
 use Rattle.grow_split.specs.declared.Split.{Split}
 use Rattle.grow_split.specs.Separate.{Sep, Separated}
@@ -34,8 +34,8 @@ pub record Oversize (g : Growing) (l : List ℕ) (st : Config) (row : Row) (work
   pub good : Fits (separator st (g .near) row work .0)
   pub most : size (separator st (g .near) row work .0) ≤ separatorSize
 
--- The same, with its split point and the table.
-pub record Large (g : Growing) (p : ℕ) (l u : List ℕ) : Type 0 where
+-- The same, with its split point and the tables.
+pub record Large (g : Growing) (p : ℕ) (l : List ℕ) (u : Tables) : Type 0 where
   pub st : Config
   pub row : Row
   pub work : Work
@@ -43,13 +43,13 @@ pub record Large (g : Growing) (p : ℕ) (l u : List ℕ) : Type 0 where
   pub point : p ≡ splitPoint st (recordSize row)
   pub marked : InUse u work
 
--- What the split leaves of the table, of the image and of out: what the model's separator and its memory say.
-abbrev pub Severed : (st : Config) → (g : Growing) → (row : Row) → (work : Work) → (end : ℕ) → (full : Bool) → (table used before image old new : List ℕ) → Type 0
+-- What the split leaves of the tables, of the image and of out: what the model's separator and its memory say.
+abbrev pub Severed : (st : Config) → (g : Growing) → (row : Row) → (work : Work) → (end : ℕ) → (full : Bool) → (before after : Tables) → (was image old new : List ℕ) → Type 0
 Severed st g row work end full u u′ img img′ out out′ =
     let s : WorkMem = (work, pageOf img) in
     Step g row s (separatorM st (g .near) row s) 0 end full u img out u′ img′ out′
 
-module _ {g : Growing} {p : ℕ} {l u : List ℕ} (w : Large g p l u) where
+module _ {g : Growing} {p : ℕ} {l : List ℕ} {u : Tables} (w : Large g p l u) where
   pub large-long : (1 ≤ length l) × (length l < 65536)
   large-long = omega (arith, record-long (w .row) (w .over .is), w .over .big, w .over .small)
 
@@ -84,7 +84,7 @@ module _ {g : Growing} {p : ℕ} {l u : List ℕ} (w : Large g p l u) where
     }
 
     -- What the code leaves of it, and where d starts.
-    pub severed : {n : ℕ} (long : n ≡ separatorSize) {r : Split} {u′ i′ o₀ o₁ : List ℕ} → Separated (large-sep long) 0 r o₀ u′ i′ o₁
+    pub severed : {n : ℕ} (long : n ≡ separatorSize) {r : Split} {u′ : Tables} {i′ o₀ o₁ : List ℕ} → Separated (large-sep long) 0 r o₀ u′ i′ o₁
         → Severed (w .st) g (w .row) (w .work) (r .end) (r .full) u u′ img i′ o₀ o₁ × (r .d ≡ startOfD (w .st) (w .row))
     severed long {r} {u′} {i′} {o₀} {o₁} k = (
       subst (λ (o : OutMem). Step g (w .row) s o 0 (r .end) (r .full) u img o₀ u′ i′ o₁) model-is (k .0),
