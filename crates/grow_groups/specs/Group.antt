@@ -181,6 +181,15 @@ stay-step env row below s same at end l out o is e z = record {
 
 -- ── a group ──
 
+-- The image of a run that writes, and of a dry one.
+pub wet : (dry : Bool) (b img x : List ℕ) → not dry ≡ true → b ≡ x → b ≡ cond dry img x
+wet true b img x e q = absurd (false≢true e)
+wet false b img x e q = q
+
+pub still : (dry : Bool) (b img x : List ℕ) → not dry ≡ false → b ≡ img → b ≡ cond dry img x
+still true b img x e q = q
+still false b img x e q = absurd (true≢false e)
+
 -- The bytes l are a group, whose record fits a page, and for whose row or proxy there is room in the separator; `state` is what the model carries along.
 pub record Grouping (g : Growing) (l : List ℕ) (u : Tables) (img : List ℕ) (room : ℕ) : Type 0 where
   pub st : Config

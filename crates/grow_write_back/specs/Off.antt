@@ -6,7 +6,7 @@ use Prim.Native.Nat.{ℕ, _+_, _*_, _<_, _≤_}
 use native.Mathlib.Omega.{arith}
 use lib.Dec.{eqb}
 use lib.IntN.{ℤ, subℕ}
-use lib.ListN.{length, set, length-set, length-replicate}
+use lib.ListN.{length, length-replicate}
 use Rattle.model.specs.Limits.{mostPages, pageSize}
 use Rattle.model.specs.Row.{Row, recordSize, Config}
 use Rattle.model.specs.Growth.{Work, counted, freed, splitPoint, startOfD, leanOf}
@@ -15,11 +15,15 @@ use Rattle.grow_split_point.specs.Lean.{lean-bounds}
 use Rattle.theory_rows.specs.Laws.{cond-case}
 use Rattle.theory_row_bytes.specs.RowAt.{record-long}
 use Rattle.theory_page_memory.specs.Memory.{blank}
-use Rattle.grow_pages.specs.Write.{setPage, used-set}
+use Rattle.theory_check.specs.Tests.{unmarked}
+use Rattle.theory_check.specs.Marks.{length-unmark}
+use Rattle.grow_map.specs.Map as map
+use Rattle.grow_map.specs.Map.{used-unmarked}
+use Rattle.grow_pages.specs.Write.{setPage}
 use Rattle.grow_pages.specs.Paged.{length-setPage}
 use Rattle.base_layout.specs.declared.Growing.{Growing}
 use Rattle.base_layout.specs.Growing.{bufferSize}
-use Rattle.grow_groups.specs.Used.{InUse, Past, Env, env-with, set-past}
+use Rattle.grow_groups.specs.Used.{Tables, tables, InUse, Past, AsLong, Env, env-with, past-unmarked}
 use Rattle.grow_split.specs.Severed.{Oversize, Large, Severed}
 
 -- What growth carries along when the record on page q is split: one split more, and page q free unless the record stays there.
@@ -30,12 +34,16 @@ leaves st stays q r w = cond stays (counted st r w) (freed st q (counted st r w)
 abbrev pub leftImage : (g : Growing) → (stays : Bool) → (image : List ℕ) → List ℕ
 leftImage g stays img = cond (g .dry || stays) img (setPage (g .near) blank img)
 
--- The table, with the page free.
-abbrev pub leftTable : (g : Growing) → (stays : Bool) → (table : List ℕ) → List ℕ
-leftTable g stays u = cond stays u (set u (g .near) 0)
+-- The map, with the page free.
+abbrev pub leftMap : (g : Growing) → (stays : Bool) → (map : List ℕ) → List ℕ
+leftMap g stays m = cond stays m (unmarked m (g .near))
+
+-- The tables with it.
+abbrev pub leftTables : (g : Growing) → (stays : Bool) → Tables → Tables
+leftTables g stays u = tables (u .widths) (leftMap g stays (u .map))
 
 -- The bytes l are a record that is too large, and its separator has room once the page is left.
-pub record Off (g : Growing) (settled : ℕ) (l u : List ℕ) : Type 0 where
+pub record Off (g : Growing) (settled : ℕ) (l : List ℕ) (u : Tables) : Type 0 where
   pub st : Config
   pub row : Row
   pub stays : Bool
@@ -50,57 +58,74 @@ pub record Off (g : Growing) (settled : ℕ) (l u : List ℕ) : Type 0 where
 
 -- What the split leaves of a record, which stays on its page or not.
 abbrev pub SplitOff : (st : Config) → (g : Growing) → (row : Row) → (work : Work) → (stays : Bool) → (end : ℕ) → (full : Bool)
-    → (table u img img₁ out₀ out₁ : List ℕ) → Type 0
-SplitOff st g row work stays end full table u img img₁ out₀ out₁ =
-    Severed st g row (leaves st stays (g .near) row work) end full (leftTable g stays table) u (leftImage g stays img) img₁ out₀ out₁
+    → (before u : Tables) → (img img₁ out₀ out₁ : List ℕ) → Type 0
+SplitOff st g row work stays end full before u img img₁ out₀ out₁ =
+    Severed st g row (leaves st stays (g .near) row work) end full (leftTables g stays before) u (leftImage g stays img) img₁ out₀ out₁
 
 -- ── the page that is left ──
 
-pub left-settled : (settled : ℕ) (g : Growing) (u img : List ℕ) → (settled ≡ 0 → ⊥) → (stays : Bool) → settled ≡ cond stays 1 0
-    → (u ≡ leftTable g stays u) × (img ≡ leftImage g stays img)
-left-settled settled g u img h true e = (refl, rw or-true refl)
-left-settled settled g u img h false e = absurd (h e)
+pub left-settled : (settled : ℕ) (g : Growing) (m img : List ℕ) → (settled ≡ 0 → ⊥) → (stays : Bool) → settled ≡ cond stays 1 0
+    → (m ≡ leftMap g stays m) × (img ≡ leftImage g stays img)
+left-settled settled g m img h true e = (refl, rw or-true refl)
+left-settled settled g m img h false e = absurd (h e)
 
-pub left-marked : (settled : ℕ) (g : Growing) (u img b : List ℕ) → settled ≡ 0 → b ≡ cond (g .dry) img (setPage (g .near) blank img)
-    → (stays : Bool) → settled ≡ cond stays 1 0
-    → (set u (g .near) 0 ≡ leftTable g stays u) × (b ≡ leftImage g stays img)
-left-marked settled g u img b h pb true e = absurd (omega arith)
-left-marked settled g u img b h pb false e = (refl, rw or-false pb)
+pub left-marked : (settled : ℕ) (g : Growing) (m k img b : List ℕ) → settled ≡ 0 → k ≡ unmarked m (g .near) → b ≡ cond (g .dry) img (setPage (g .near) blank img)
+    → (stays : Bool) → settled ≡ cond stays 1 0 → (k ≡ leftMap g stays m) × (b ≡ leftImage g stays img)
+left-marked settled g m k img b h pk pb true e = absurd (omega arith)
+left-marked settled g m k img b h pk pb false e = (pk, rw or-false pb)
 
 pub length-left : (g : Growing) (stays : Bool) (img : List ℕ) → pageSize * g .near + pageSize ≤ length img → length (leftImage g stays img) ≡ length img
 length-left g stays img h =
     cond-case (λ (i : List ℕ). length i ≡ length img) (g .dry || stays) (λ _. refl)
     (λ _. length-setPage (g .near) blank img (length-replicate {A = ℕ} pageSize 0) h)
 
-marked-left : (st : Config) (q : ℕ) (stays : Bool) (u : List ℕ) (r : Row) (w : Work) → q < mostPages → InUse u w
-    → InUse (cond stays u (set u q 0)) (leaves st stays q r w)
-marked-left st q true u r w h m = record { long = m .long; same = m .same }
-marked-left st q false u r w h m = record {
-  long = length-set u q 0 ∙ m .long;
-  same = λ x k. used-set u q 0 x (omega (arith, m .long)) ∙ ap (λ (b : Bool). cond (eqb x q) false b) (m .same x k);
+-- What is left of the map, by whether the page stays in use.
+left-case : (P : List ℕ → Type 0) (g : Growing) (stays : Bool) (m : List ℕ) → (stays ≡ true → P m) → (stays ≡ false → P (unmarked m (g .near)))
+    → P (leftMap g stays m)
+left-case P g stays m = cond-case P stays
+
+marked-left : (st : Config) (g : Growing) (stays : Bool) (u : Tables) (r : Row) (w : Work) → g .near < 8 * length (u .map) → InUse u w
+    → InUse (leftTables g stays u) (leaves st stays (g .near) r w)
+marked-left st g true u r w h m = record { same = m .same }
+marked-left st g false u r w h m = record {
+  same = λ x k. used-unmarked (u .map) (g .near) h x ∙ ap (λ (b : Bool). cond (eqb x (g .near)) false b) (m .same x (omega (arith, length-unmark (u .map) (g .near))));
 }
 
 -- ── the split ──
 
-module _ {g : Growing} {settled : ℕ} {l u img : List ℕ} (w : Off g settled l u) (env : Env g u img) where
+module _ {g : Growing} {settled : ℕ} {l : List ℕ} {u : Tables} {img : List ℕ} (w : Off g settled l u) (env : Env g u img) where
   abbrev W : Work
   W = leaves (w .st) (w .stays) (g .near) (w .row) (w .work)
 
   pub off-sizes : (g .setup .target ≤ 192) × (length l ≤ bufferSize)
   off-sizes = (w .range, omega (arith, record-long (w .row) (w .over .is)))
 
-  off-page : (g .near < mostPages) × (pageSize * g .near + pageSize ≤ length img)
+  pub off-page : (g .near < mostPages) × (pageSize * g .near + pageSize ≤ length img)
   off-page = omega arith
 
-  module _ {u′ i′ : List ℕ} (left : (u′ ≡ leftTable g (w .stays) u) × (i′ ≡ leftImage g (w .stays) img)) where
+  module _ {m i′ : List ℕ} (left : (m ≡ leftMap g (w .stays) (u .map)) × (i′ ≡ leftImage g (w .stays) img)) where
+    abbrev u′ : Tables
+    u′ = tables (u .widths) m
+
+    near-low : g .near < 8 * length (u .map)
+    near-low = omega (arith, env .start, env .holds .map)
+
     pub marks : InUse u′ W
-    marks = rw (left .0) (marked-left (w .st) (g .near) (w .stays) u (w .row) (w .work) (off-page .0) (w .marked))
+    marks = rw (left .0) (marked-left (w .st) g (w .stays) u (w .row) (w .work) near-low (w .marked))
 
     past : Past (g .setup .pages) u′
-    past = rw (left .0) (cond-case (Past (g .setup .pages)) (w .stays) (λ _. env .past) (λ _. set-past (g .setup .pages) (g .near) 0 u (env .start) (env .past)))
+    past =
+        rw (left .0) (left-case (map.Past (g .setup .pages)) g (w .stays) (u .map) (λ _. env .past)
+        (λ _. past-unmarked (g .setup .pages) (g .near) (u .map) (env .start) near-low (env .past)))
+
+    as-long : AsLong u u′
+    as-long = record {
+      widths = refl;
+      map = ap length (left .0) ∙ left-case (λ k. length k ≡ length (u .map)) g (w .stays) (u .map) (λ _. refl) (λ _. length-unmark (u .map) (g .near));
+    }
 
     pub off-env : Env g u′ i′
-    off-env = env-with env (ap length (left .1) ∙ length-left g (w .stays) img (off-page .1)) past
+    off-env = env-with env (ap length (left .1) ∙ length-left g (w .stays) img (off-page .1)) as-long past
 
     module _ {p : ℕ} (pe : p ≡ splitPoint (w .st) (length l)) where
       pub point-is : p ≡ splitPoint (w .st) (recordSize (w .row))
@@ -115,6 +140,6 @@ module _ {g : Growing} {settled : ℕ} {l u img : List ℕ} (w : Off g settled l
             let b = lean-bounds (startOfD (w .st) (w .row)) (splitPoint (w .st) (recordSize (w .row))) (w .leans) in
             (omega (arith, point-is), (omega (arith, point-is), omega (arith, point-is)))
 
-        pub off-done : {e : ℕ} {f : Bool} {z : ℤ} {u″ i″ o₀ o₁ : List ℕ} → Severed (w .st) g (w .row) W e f u′ u″ i′ i″ o₀ o₁ → z ≡ subℕ d p
+        pub off-done : {e : ℕ} {f : Bool} {z : ℤ} {u″ : Tables} {i″ o₀ o₁ : List ℕ} → Severed (w .st) g (w .row) W e f u′ u″ i′ i″ o₀ o₁ → z ≡ subℕ d p
             → SplitOff (w .st) g (w .row) (w .work) (w .stays) e f u u″ img i″ o₀ o₁ × (z ≡ leanOf (w .st) (w .row))
         off-done s z = (rw (← left .0, ← left .1) s, z ∙ (λ i. subℕ (de i) (point-is i)))

@@ -11,21 +11,46 @@ use Rattle.grow_write_back.proofs.leave.Tie as tie
 
 returns : tie.Need-returns
 returns c =
-    let a = c .before .before .args in
-    λ stays e. left-settled (a .settled) (a .g) (a .widths .now) (a .image .now) (c .if1 .taken) stays e
+    let a = c .before .before .before .args in
+    λ stays e. left-settled (a .settled) (a .g) (a .map .now) (a .image .now) (c .if1 .taken) stays e
+
+set-free-requires : tie.Need-set-free-requires
+set-free-requires c κs = search needs
+
+same-length : tie.Need-same-length
+same-length c = search needs
 
 returns-2 : tie.Need-returns-2
 returns-2 c =
-    let a = c .before .before .before .args in
-    λ stays e. left-marked (a .settled) (a .g) (a .widths .now) (a .image .now) _ (c .before .if1 .left)
+    let a = c .before .before .before .before .before .before .before .before .args in
+    λ stays e. left-marked (a .settled) (a .g) (a .map .now) _ (a .image .now) _ (c .before .before .before .before .before .if1 .left) (c .before .before .before .set-free .ensures)
     (still (a .g .dry) (a .image .now) (a .image .now) (setPage (a .g .near) blank (a .image .now)) (ap not (c .if2 .taken)) refl) stays e
+
+clear-page-requires : tie.Need-clear-page-requires
+clear-page-requires c κs = search needs
+
+same-length-2 : tie.Need-same-length-2
+same-length-2 c = search needs
+
+same-length-3 : tie.Need-same-length-3
+same-length-3 c = search needs
 
 returns-3 : tie.Need-returns-3
 returns-3 c =
-    let a = c .before .before .before .before .before .before .before .args in
-    λ stays e. left-marked (a .settled) (a .g) (a .widths .now) (a .image .now) _ (c .before .before .before .before .before .if1 .left)
+    let a = c .before .before .before .before .before .before .before .before .before .before .before .before .args in
+    λ stays e. left-marked (a .settled) (a .g) (a .map .now) _ (a .image .now) _ (c .before .before .before .before .before .before .before .before .before .if1 .left) (c .before .before .before .before .before .before .before .set-free .ensures)
     (wet (a .g .dry) _ (a .image .now) (setPage (a .g .near) blank (a .image .now)) (ap not (c .before .before .before .before .if2 .left))
     (c .before .before .clear-page .ensures)) stays e
 
 pub leave-spec : {M : Type 1} → statement M
-leave-spec = tie.close (tie.spec returns (λ c. search needs) (λ c. search needs) returns-2 (λ c κs. search needs) (λ c. search needs) returns-3)
+leave-spec =
+    tie.close
+    (tie.spec
+    returns
+    set-free-requires
+    same-length
+    returns-2
+    clear-page-requires
+    same-length-2
+    same-length-3
+    returns-3)
