@@ -22,15 +22,21 @@ same-length-2 c = search needs
 
 returns : tie.Need-returns
 returns c =
-    let f = c .before .before .before .before in
-    let i = f .before .before .before .before in
-    let s = i .before .before .before .before .before .before .before in
+    let f = c .before .before .before .before .before .before .before .before in
+    let i = f .before .before .before .before .before in
+    let s = i .before .before .before .before .before .before .before .before .before in
     λ st root r e w t x h eh ex b.
-    placed-apart st x h (s .args .out .now) e (s .pre .0) t (s .args .node .now) b _ _ _ _ (s .pre .1 .1 .0)
-    (sym (i .before .is-apart .ensures st root r e h (x .head) eh ex) ∙ i .if1 .taken) (f .place-apart .ensures st e (asRow st x nil) (asRow-lone st x) b)
+    placed-apart st x h (s .args .out .now) e (s .pre .0) t (s .args .node .now) b _ _ _ _ _ (s .pre .1 .1 .0)
+    (sym (i .before .is-apart .ensures st root r e h (x .head) eh ex) ∙ i .if1 .taken) (f .place-apart .ensures (asRow st x nil) (asRow-lone st x) b)
 
 copy-in-requires : tie.Need-copy-in-requires
 copy-in-requires c κs = search needs
+
+same-length-5 : tie.Need-same-length-5
+same-length-5 c = search needs
+
+same-length-6 : tie.Need-same-length-6
+same-length-6 c = search needs
 
 same-length-3 : tie.Need-same-length-3
 same-length-3 c = search needs
@@ -41,12 +47,23 @@ same-length-4 c = search needs
 returns-2 : tie.Need-returns-2
 returns-2 c =
     let i = c .before .before .before .before in
-    let s = i .before .before .before .before .before .before .before in
+    let s = i .before .before .before .before .before .before .before .before .before in
     λ st root r e w t x h eh ex b.
     placed-within st x h (s .args .out .now) e (s .pre .0) t (s .args .node .now) b _
     (sym (i .before .is-apart .ensures st root r e h (x .head) eh ex) ∙ i .if1 .left) (c .before .before .copy-in .ensures)
 
 pub place-node-spec : {M : Type 1} → statement M
 place-node-spec =
-    tie.close (tie.spec is-apart-requires place-apart-requires same-length same-length-2 returns copy-in-requires same-length-3 same-length-4
+    tie.close
+    (tie.spec
+    is-apart-requires
+    place-apart-requires
+    same-length
+    same-length-2
+    same-length-3
+    same-length-4
+    returns
+    copy-in-requires
+    same-length-5
+    same-length-6
     returns-2)
