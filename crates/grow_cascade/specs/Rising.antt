@@ -36,29 +36,28 @@ use Rattle.theory_page_memory.specs.Links.{not-bit}
 use Rattle.theory_page_memory.specs.Steps.{bit-le}
 use Rattle.theory_page_memory.specs.Kept.{Ready}
 use Rattle.grow_pages.specs.Links.{Below}
-use Rattle.grow_pages.specs.Write.{usedBy}
 use Rattle.base_layout.specs.declared.Growing.{Growing}
 use Rattle.base_layout.specs.Setup.{setupOf}
 use Rattle.base_layout.specs.Growing.{pages-of, target-of}
-use Rattle.grow_groups.specs.Used.{InUse, Past, Env}
+use Rattle.grow_groups.specs.Used.{Tables, usedBy, InUse, Past, AsLong, Holds, Env}
 use Rattle.grow_groups.specs.Tells.{Tabled}
 use Rattle.grow_write_back.specs.Off.{Off, leaves}
 use Rattle.grow_cascade.specs.declared.Grown.{Grown}
 
 -- A run that writes: no page is missing in the end, what stands around the last record stands on its pages, and its own page is as it was; the table is right
 -- for the store with the new row.
-pub record Wet (st : Config) (c : Chain) (old row : Row) (work : Work) (u : List ℕ) (m : Mem) : Type 0 where
+pub record Wet (st : Config) (c : Chain) (old row : Row) (work : Work) (u : Tables) (m : Mem) : Type 0 where
   pub room : rise st c (row, work) .1 .full ≡ false
   pub first : List ℕ
   pub ready : Ready st first c old row work m
   pub own : m (lastPage c) ≡ recordPage (lastHeld c old)
-  pub told : Told u (whole c row)
+  pub told : Told (u .widths) (whole c row)
   pub few : population (rise st c (row, work) .0) ≤ mostEntry
 
 -- The store read as `root` from the image `was`; its record at the end of the chain c held `old` and is to hold `row`, with `work` done so far.
--- The rest are the code's: the record's length, what was counted, the buffer l, the table u, and the image.
+-- The rest are the code's: the record's length, what was counted, the buffer l, the tables u, and the image.
 pub record Rising (st : Config) (was : List ℕ) (root : Row) (c : Chain) (old row : Row) (work : Work)
-    (g : Growing) (len : ℕ) (filled : Bool) (count : ℕ) (leans : ℤ) (l u img : List ℕ) : Type 0 where
+    (g : Growing) (len : ℕ) (filled : Bool) (count : ℕ) (leans : ℤ) (l : List ℕ) (u : Tables) (img : List ℕ) : Type 0 where
   pub setup : setupOf st ≡ g .setup
   pub reads : Reads was st root
   pub held : whole c old ≡ root
@@ -69,6 +68,7 @@ pub record Rising (st : Config) (was : List ℕ) (root : Row) (c : Chain) (old r
   pub below : Below (g .setup .pages) row
   pub marked : InUse u work
   pub past : Past (g .setup .pages) u
+  pub holds : Holds (g .setup .pages) u
   pub full : filled ≡ work .full
   pub splits : count ≡ work .splits
   pub lean : leans ≡ work .lean
@@ -77,23 +77,26 @@ pub record Rising (st : Config) (was : List ℕ) (root : Row) (c : Chain) (old r
   pub still : g .dry ≡ true → img ≡ was
   pub wet : g .dry ≡ false → Wet st c old row work u (pageOf img)
 
--- What growth leaves of the table: it is right, and has the pages in use.
-pub record LeftTable (goal : Out) (u : List ℕ) : Type 0 where
-  pub told : Told u (goal .0)
+-- What growth leaves of the tables: the widths are right, and the map has the pages in use.
+pub record LeftTables (goal : Out) (u : Tables) : Type 0 where
+  pub told : Told (u .widths) (goal .0)
   pub marked : InUse u (goal .1)
 
--- What growth gives in the end: what was counted, the image, and the table.
-pub record Risen (goal : Out) (mem : Mem) (dry : Bool) (r : Grown) (img new u : List ℕ) : Type 0 where
+-- What growth gives in the end: what was counted, the image, and the tables, of which a dry run leaves the widths.
+pub record Risen (goal : Out) (mem : Mem) (dry : Bool) (r : Grown) (img new : List ℕ) (u₀ u : Tables) : Type 0 where
   pub full : r .full ≡ goal .1 .full
   pub splits : r .splits ≡ goal .1 .splits
   pub lean : r .lean ≡ goal .1 .lean
   pub same : length new ≡ length img
   pub still : dry ≡ true → new ≡ img
   pub pages : dry ≡ false → pageOf new ≡ mem
-  pub table : dry ≡ false → LeftTable goal u
+  pub table : dry ≡ false → LeftTables goal u
+  pub as-long : AsLong u₀ u
+  pub rests : dry ≡ true → u .widths ≡ u₀ .widths
 
-pub risen-by : {o o′ : Out} {mem : Mem} {dry : Bool} {r : Grown} {img new u : List ℕ} → o ≡ o′ → Risen o mem dry r img new u → Risen o′ mem dry r img new u
-risen-by {mem = mem} {dry} {r} {img} {new} {u} = subst (λ (o : Out). Risen o mem dry r img new u)
+pub risen-by : {o o′ : Out} {mem : Mem} {dry : Bool} {r : Grown} {img new : List ℕ} {u₀ u : Tables} → o ≡ o′ → Risen o mem dry r img new u₀ u
+    → Risen o′ mem dry r img new u₀ u
+risen-by {mem = mem} {dry} {r} {img} {new} {u₀} {u} = subst (λ (o : Out). Risen o mem dry r img new u₀ u)
 
 is-bit : (b : Bool) → 1 ≤ bit b → b ≡ true
 is-bit true h = refl
@@ -109,7 +112,7 @@ bit-other true q e = absurd (e q)
 bit-other false q e = refl
 
 module _ {st : Config} {was : List ℕ} {root : Row} {c : Chain} {old row : Row} {work : Work}
-    {g : Growing} {len : ℕ} {filled : Bool} {counts : ℕ} {leans : ℤ} {l u img : List ℕ}
+    {g : Growing} {len : ℕ} {filled : Bool} {counts : ℕ} {leans : ℤ} {l : List ℕ} {u : Tables} {img : List ℕ}
     (w : Rising st was root c old row work g len filled counts leans l u img) where
   -- ── the record and its page ──
 
@@ -168,13 +171,13 @@ module _ {st : Config} {was : List ℕ} {root : Row} {c : Chain} {old row : Row}
   pub range : InLean leans
   range = subst InLean (sym (w .lean)) (w .grows .lean .0)
 
-  -- The marks and the image for a split, in a dry run or not.
+  -- The tables and the image for a split, in a dry run or not.
   module _ (d : Bool) where
     abbrev pub at-page : Growing
     at-page = record { setup = g .setup; near = g .near; dry = d }
 
     abbrev pub env : Env at-page u img
-    env = record { few = inside .1 .1 .0; image = omega (arith, long-image); low = inside .0; start = inside .1 .0; past = w .past }
+    env = record { few = inside .1 .1 .0; image = omega (arith, long-image); low = inside .0; start = inside .1 .0; holds = w .holds; past = w .past }
 
   module _ (big : capacity < recordSize row) where
     pub good : (v : Work) → SplitGood (separator st (g .near) row v .0) (leanOf st row)
@@ -221,12 +224,12 @@ module _ {st : Config} {was : List ℕ} {root : Row} {c : Chain} {old row : Row}
     named-used q h =
         let out : outside (st .pages) q ≡ false = not-bit _ (omega (arith, tally q, bit-le (work .used q))) in
         let low : q < st .pages = leb-false (st .pages) q (or-right (leb q 1) (leb (st .pages) q) out) in
-        w .marked .same q (omega (arith, low, valid .ranges .many)) ∙ is-bit (work .used q) (omega (arith, tally q))
+        w .marked .same q (omega (arith, low, pages-of (w .setup), w .holds .map)) ∙ is-bit (work .used q) (omega (arith, tally q))
 
     -- The table is right for the row.
     pub tabled : Tabled u row
     tabled = record {
-      told = told-chain u c row (w .wet wet .told) .1;
+      told = told-chain (u .widths) c row (w .wet wet .told) .1;
       named = λ q h. named-used q (omega (arith, count-chain q c row));
       few = omega (arith, population-whole c row, population-rise st c (row, work), w .wet wet .few);
     }

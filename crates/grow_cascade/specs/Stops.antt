@@ -1,5 +1,5 @@
 -- The record stays on its page, because it fits or is settled: its new row, or the separator of it, is written there, and growth stops.
-use mathlib.Core.Path.{_≡_, sym, ap, subst, _∙_}
+use mathlib.Core.Path.{_≡_, refl, sym, ap, subst, _∙_}
 use mathlib.Core.Bool.{Bool, true, false, cond, _||_, or-true}
 use mathlib.Core.List.{List}
 use Prim.Native.Nat.{ℕ, suc, _+_, _<_, _≤_}
@@ -33,6 +33,7 @@ use Rattle.grow_split_point.specs.Lean.{leanNow}
 use Rattle.grow_write_back.specs.Content.{Content}
 use Rattle.grow_write_back.specs.Off.{leftImage, SplitOff}
 use Rattle.theory_rows.specs.Pages.{or-right}
+use Rattle.grow_groups.specs.Used.{Tables}
 use Rattle.grow_groups.specs.Tells.{Keeps}
 use Rattle.grow_groups.specs.Step.{front-is}
 use Rattle.grow_cascade.specs.Rising.{Rising, Risen, risen-by, valid, inside, long-image, some, good, named-used, tabled}
@@ -52,7 +53,7 @@ unfolding kept
 kept-big st q o k = rw (lt-leb (recordSize (o .0)) capacity k)
 
 module _ {st : Config} {was : List ℕ} {root : Row} {c : Chain} {old row : Row} {work : Work}
-    {g : Growing} {len : ℕ} {filled : Bool} {count : ℕ} {leans : ℤ} {l u img : List ℕ}
+    {g : Growing} {len : ℕ} {filled : Bool} {count : ℕ} {leans : ℤ} {l : List ℕ} {u : Tables} {img : List ℕ}
     (w : Rising st was root c old row work g len filled count leans l u img) where
   -- ── it fits ──
 
@@ -73,7 +74,7 @@ module _ {st : Config} {was : List ℕ} {root : Row} {c : Chain} {old row : Row}
 
     pub low-done : {holder : ℕ} {new : List ℕ} → holder ≡ lastHolder c → new ≡ cond (g .dry) img (written (g .near) (lastSettled c) holder row img)
         → Risen (rise st c (row, work)) (riseMem st c row work (pageOf img)) (g .dry)
-        (record { full = filled; splits = count; lean = leans }) img new u
+        (record { full = filled; splits = count; lean = leans }) img new u u
     low-done {holder} {new} h e =
         let p : After (g .dry) new img (putMem (g .near) (lastSettled c) (lastHolder c) row (pageOf img)) =
         rw (e, h)
@@ -86,6 +87,8 @@ module _ {st : Config} {was : List ℕ} {root : Row} {c : Chain} {old row : Row}
           still = p .same;
           pages = λ z. p .pages z ∙ low-mem (pageOf img);
           table = λ z. record { told = w .wet z .told; marked = w .marked };
+          as-long = record { widths = refl; map = refl };
+          rests = λ _. refl;
         })
 
   -- ── it is settled, and split ──
@@ -113,7 +116,7 @@ module _ {st : Config} {was : List ℕ} {root : Row} {c : Chain} {old row : Row}
         ap (λ (q : ℕ). putMem q (lastSettled c) (lastHolder c) (separator st q row v .0) (separatorMem st q row v m)) (w .at)
         ∙ rw (mem-stays st c row work m (ap (λ (b : Bool). b || leb (recordSize row) capacity) settled), lt-leb (recordSize row) capacity big)
 
-    module _ {end : ℕ} {full : Bool} {u′ img₁ out₀ out₁ : List ℕ}
+    module _ {end : ℕ} {full : Bool} {u′ : Tables} {img₁ out₀ out₁ : List ℕ}
         (sev : SplitOff st g row work (lastSettled c) end full u u′ img img₁ out₀ out₁) where
       cut : Severed st g row v end full u u′ img img₁ out₀ out₁
       cut =
@@ -139,12 +142,12 @@ module _ {st : Config} {was : List ℕ} {root : Row} {c : Chain} {old row : Row}
       -- The table is right for the separator.
       kept-table : g .dry ≡ false → Keeps u u′ (S .0)
       kept-table z =
-          cut .tells (tabled w z) (or-right (v .full) full (cut .full ∙ ap (λ (o : Out). o .1 .full) (sym goal-is) ∙ w .wet z .room))
+          cut .tells z (tabled w z) (or-right (v .full) full (cut .full ∙ ap (λ (o : Out). o .1 .full) (sym goal-is) ∙ w .wet z .room))
 
       pub settled-done : {leans′ : ℤ} {holder : ℕ} {new : List ℕ} → leans′ ≡ leanNow count leans (leanOf st row) → holder ≡ lastHolder c
           → new ≡ cond (g .dry) img₁ (written (g .near) (lastSettled c) holder (severed-content .row) img₁)
           → Risen (rise st c (row, work)) (riseMem st c row work (pageOf img)) (g .dry)
-          (record { full = filled || full; splits = count + 1; lean = leans′ }) img new u′
+          (record { full = filled || full; splits = count + 1; lean = leans′ }) img new u u′
       settled-done {leans′} {holder} {new} le h e =
           let put : After (g .dry) new img₁ (putMem (g .near) (lastSettled c) (lastHolder c) (S .0) (pageOf img₁)) =
           rw (e, h) (after-written (g .setup .pages) (g .near) (lastHolder c) (lastSettled c) (S .0) img₁ severed-below severed-small
@@ -159,6 +162,8 @@ module _ {st : Config} {was : List ℕ} {root : Row} {c : Chain} {old row : Row}
             pages = λ z. p .pages z ∙ mem-is (pageOf img);
             table = λ z.
                 let k = kept-table z in
-                let same = told-same u u′ (whole c row) (λ q h. k .frame q (named-used w z q h)) (w .wet z .told) in
-                record { told = told-swap u′ c row (S .0) (separator-width st (g .near) row v) same (k .told); marked = cut .used };
+                let same = told-same (u .widths) (u′ .widths) (whole c row) (λ q h. k .frame q (named-used w z q h) .0) (w .wet z .told) in
+                record { told = told-swap (u′ .widths) c row (S .0) (separator-width st (g .near) row v) same (k .told); marked = cut .used };
+            as-long = cut .as-long;
+            rests = cut .rests;
           })

@@ -7,8 +7,7 @@ use native.Mathlib.Omega.{arith}
 use native.Mathlib.Numerals.{add-one}
 use borrow.Author.Tests.{eq-eqb, lt-leb}
 use lib.Dec.{eqb, leb}
-use lib.ListN.{length, getD, set, take}
-use lib.Seq.{getD-set-other}
+use lib.ListN.{length, getD, take}
 use lib.IntN.{ℤ}
 use Rattle.model.specs.Limits.{pageSize, capacity}
 use Rattle.model.specs.Row.{Row, rec, _⊹_, size, bytes, recordSize, recordBytes, recordPage, count, Config}
@@ -40,12 +39,14 @@ use Rattle.grow_splice.specs.Splice.{KeepsRoot}
 use Rattle.grow_replace_proxy.specs.Above.{above-stands, above-once}
 use Rattle.grow_replace_proxy.specs.Keeps.{shape-keeps}
 use Rattle.grow_replace_proxy.specs.Lift.{Lift}
-use Rattle.grow_write_back.specs.Off.{leftImage, length-left, SplitOff}
+use Rattle.grow_map.specs.Map.{unmarked-other}
+use Rattle.grow_write_back.specs.Off.{leftImage, length-left, leftTables, left-as-long, SplitOff}
 use Rattle.theory_rows.specs.Population.{population}
 use Rattle.theory_places.specs.Widths.{Told, told-same}
 use Rattle.theory_growth.specs.Told.{told-parted, told-chain, told-swap, width-fill, along-own}
 use Rattle.grow_widths.specs.Tally.{mostEntry}
-use Rattle.grow_groups.specs.Tells.{Keeps, same-mark, tabled-set}
+use Rattle.grow_groups.specs.Used.{Tables, usedBy, AsLong, holds-still}
+use Rattle.grow_groups.specs.Tells.{Keeps}
 use Rattle.grow_groups.specs.Step.{front-is}
 use Rattle.grow_cascade.specs.Rising.{Rising, valid, inside as page-inside, long-image, good, named-once, named-used, tabled}
 
@@ -59,9 +60,9 @@ left-after g img h = record { long = length-left g false img h; same = λ e. rw 
 
 -- The record is on page q, whose proxy stands in the record above.
 module _ {st : Config} {was : List ℕ} {root : Row} {c : Chain} {s : Position} {q : ℕ} {rest old row : Row} {work : Work}
-    (g : Growing) {len : ℕ} {filled : Bool} {counts : ℕ} {leans : ℤ} {l u img : List ℕ}
+    (g : Growing) {len : ℕ} {filled : Bool} {counts : ℕ} {leans : ℤ} {l : List ℕ} {u : Tables} {img : List ℕ}
     (w : Rising st was root (below c s q false rest) old row work (nearTo g q) len filled counts leans l u img) (big : capacity < recordSize row)
-    {end : ℕ} {full : Bool} {u′ img₁ out₀ out₁ : List ℕ}
+    {end : ℕ} {full : Bool} {u′ : Tables} {img₁ out₀ out₁ : List ℕ}
     (cut : SplitOff st (nearTo g q) row work false end full u u′ img img₁ out₀ out₁) where
   abbrev v : Work
   v = freed st q (counted st row work)
@@ -123,9 +124,22 @@ module _ {st : Config} {was : List ℕ} {root : Row} {c : Chain} {s : Position} 
     left-unnamed = omega (arith, named-once w z q, count-chain q (below c s q false rest) row, along-own c s q false rest)
 
     -- the table is right for the separator,
-    sep-table : Keeps (set u q 0) u′ (S .0)
+    left : Tables
+    left = leftTables (nearTo g q) false u
+
+    low : q < 8 * length (u .map)
+    low = omega (arith, page-inside w, w .holds .map)
+
+    -- the other pages are as they were
+    kept : (p : ℕ) → (p ≡ q → ⊥) → usedBy u p ≡ true → usedBy left p ≡ true
+    unfolding left
+    kept p h e = unmarked-other (u .map) q low p h ∙ e
+
+    sep-table : Keeps left u′ (S .0)
+    unfolding left
     sep-table =
-        cut .tells (tabled-set u q 0 row left-unnamed (tabled w z))
+        let t = tabled w z in
+        cut .tells z (record { told = t .told; named = λ p h. kept p (λ e. omega (arith, left-unnamed, ap (λ (i : ℕ). count i row) e)) (t .named p h); few = t .few })
         (or-right (v .full) full (cut .full ∙ full-rise st c (next, S .1) (full-goal z)))
 
     -- and as it was for the store with the record's nodes in place of its proxy, which shows as many,
@@ -143,30 +157,35 @@ module _ {st : Config} {was : List ℕ} {root : Row} {c : Chain} {s : Position} 
           count-⊹ p row rest,
         )
 
-    inlined-told : Told u (whole c inlined)
+    inlined-told : Told (u .widths) (whole c inlined)
     unfolding inlined
     inlined-told =
-        let k = told-chain u (below c s q false rest) row (w .wet z .told) in
-        told-swap u c (fill s (rec q false row rest)) inlined (width-fill s (rec q false row rest) (row ⊹ rest) (sym (width-⊹ row rest))) (w .wet z .told)
-        (fill-more (told-parted u) s row rest (k .0 .0) (k .1))
+        let k = told-chain (u .widths) (below c s q false rest) row (w .wet z .told) in
+        told-swap (u .widths) c (fill s (rec q false row rest)) inlined (width-fill s (rec q false row rest) (row ⊹ rest) (sym (width-⊹ row rest))) (w .wet z .told)
+        (fill-more (told-parted (u .widths)) s row rest (k .0 .0) (k .1))
 
-    inlined-same : Told u′ (whole c inlined)
-    inlined-same = told-same u u′ (whole c inlined) same inlined-told
+    inlined-same : Told (u′ .widths) (whole c inlined)
+    unfolding left
+    inlined-same = told-same (u .widths) (u′ .widths) (whole c inlined) (λ p h. same p h) inlined-told
       where
-        same : (p : ℕ) → 1 ≤ count p (whole c inlined) → getD u′ p 0 ≡ getD u p 0
+        same : (p : ℕ) → 1 ≤ count p (whole c inlined) → getD (u′ .widths) p 0 ≡ getD (u .widths) p 0
         same p h =
             let other : p ≡ q → ⊥ = λ e. omega (arith, inlined-names p, named-once w z p, ap {B = ℕ} (λ b. cond b 1 0) (eq-eqb p q e)) in
-            let e = getD-set-other u q p 0 0 other in
-            sep-table .frame p (same-mark u (set u q 0) p e (named-used w z p (omega (arith, inlined-names p)))) ∙ e
+            sep-table .frame p (kept p other (named-used w z p (omega (arith, inlined-names p)))) .0
 
     -- and so for the store with the separator there.
-    next-told : Told u′ (whole c next)
+    next-told : Told (u′ .widths) (whole c next)
     unfolding inlined
     next-told =
-        let k = told-chain u′ c inlined inlined-same .1 in
+        let k = told-chain (u′ .widths) c inlined inlined-same .1 in
         let n : width (row ⊹ rest) ≡ width (S .0 ⊹ rest) = omega (arith, width-⊹ row rest, width-⊹ (S .0) rest, separator-width st q row v) in
-        told-swap u′ c inlined next (width-fill s (row ⊹ rest) (S .0 ⊹ rest) n) inlined-same
-        (fill-more (told-parted u′) s (S .0) rest (fill-less (told-parted u′) s row rest k .0) (sep-table .told))
+        told-swap (u′ .widths) c inlined next (width-fill s (row ⊹ rest) (S .0 ⊹ rest) n) inlined-same
+        (fill-more (told-parted (u′ .widths)) s (S .0) rest (fill-less (told-parted (u′ .widths)) s row rest k .0) (sep-table .told))
+
+  pub split-long : AsLong u u′
+  split-long =
+      let l = left-as-long (nearTo g q) false u in
+      record { widths = cut .as-long .widths ∙ l .widths; map = cut .as-long .map ∙ l .map }
 
   -- ── the record above ──
 
@@ -228,6 +247,7 @@ module _ {st : Config} {was : List ℕ} {root : Row} {c : Chain} {s : Position} 
         below = next-below;
         marked = cut .used;
         past = cut .past;
+        holds = holds-still (w .holds) split-long;
         full = ap (λ (b : Bool). b || full) (w .full) ∙ cut .full;
         splits = add-one counts ∙ ap suc (w .splits) ∙ sym (split-counts st q row v .0);
         lean = le ∙ (λ i. leanNow (w .splits i) (w .lean i) (leanOf st row)) ∙ sym (split-counts st q row v .1);

@@ -11,6 +11,7 @@ ghost use mathlib.Core.Path.{_≡_};
 ghost use lib.ListN.{length};
 ghost use lib.IntN.{pos};
 ghost use Rattle.base_layout.specs.Growing.{bufferSize};
+ghost use Rattle.grow_groups.specs.Used.{tables};
 ghost use Rattle.grow_cascade.specs.Rising.{Risen};
 ghost use Rattle.grow_cascade.specs.Cascade.{Cascade, goalOf, memOf};
 
@@ -24,15 +25,17 @@ pub struct Grown {
 // The record on the page that `start` is near has the new content buf[..len]; `full` says whether a page was missing before.
 pub fn cascade(
     image: &mut [u8],
-    widths: &mut [u32; Settings::PAGES],
+    widths: &mut [u32],
+    map: &mut [u8],
     start: Growing,
     buf: &mut [u8],
     mut len: usize,
     mut full: bool,
 ) -> Grown
-    requires { ⌜ (length (now buf) ≡ bufferSize) × Cascade start len full 0 (pos 0) (now buf) (now widths) (now image) ⌝ }
-    ensures { λ r. ⌜ ((w : Cascade start len full 0 (pos 0) (now (buf .entry)) (now (widths .entry)) (now (image .entry)))
-        → Risen (goalOf w) (memOf w) (start .dry) r (now (image .entry)) (now (image .exit)) (now (widths .exit))) ⌝ }
+    requires { ⌜ (length (now buf) ≡ bufferSize) × Cascade start len full 0 (pos 0) (now buf) (tables (now widths) (now map)) (now image) ⌝ }
+    ensures { λ r. ⌜ ((w : Cascade start len full 0 (pos 0) (now (buf .entry)) (tables (now (widths .entry)) (now (map .entry))) (now (image .entry)))
+        → Risen (goalOf w) (memOf w) (start .dry) r (now (image .entry)) (now (image .exit))
+        (tables (now (widths .entry)) (now (map .entry))) (tables (now (widths .exit)) (now (map .exit)))) ⌝ }
 {
     let setup = start.setup;
     let dry = start.dry;
@@ -48,7 +51,7 @@ pub fn cascade(
             return Grown { full, splits, lean };
         }
         let mut sep = [0u8; Growing::SEPARATOR];
-        let s = split_off(&buf[..len], image, widths, g, settled, &mut sep);
+        let s = split_off(&buf[..len], image, widths, map, g, settled, &mut sep);
         lean = lean_now(splits, lean, s.lean);
         splits = splits + 1;
         full = full | s.full;

@@ -79,10 +79,11 @@ length-left g stays img h =
     cond-case (λ (i : List ℕ). length i ≡ length img) (g .dry || stays) (λ _. refl)
     (λ _. length-setPage (g .near) blank img (length-replicate {A = ℕ} pageSize 0) h)
 
--- What is left of the map, by whether the page stays in use.
-left-case : (P : List ℕ → Type 0) (g : Growing) (stays : Bool) (m : List ℕ) → (stays ≡ true → P m) → (stays ≡ false → P (unmarked m (g .near)))
-    → P (leftMap g stays m)
-left-case P g stays m = cond-case P stays
+pub left-as-long : (g : Growing) (stays : Bool) (u : Tables) → AsLong u (leftTables g stays u)
+left-as-long g stays u = record {
+  widths = refl;
+  map = cond-case (λ k. length k ≡ length (u .map)) stays (λ _. refl) (λ _. length-unmark (u .map) (g .near));
+}
 
 marked-left : (st : Config) (g : Growing) (stays : Bool) (u : Tables) (r : Row) (w : Work) → g .near < 8 * length (u .map) → InUse u w
     → InUse (leftTables g stays u) (leaves st stays (g .near) r w)
@@ -115,14 +116,11 @@ module _ {g : Growing} {settled : ℕ} {l : List ℕ} {u : Tables} {img : List �
 
     past : Past (g .setup .pages) u′
     past =
-        rw (left .0) (left-case (map.Past (g .setup .pages)) g (w .stays) (u .map) (λ _. env .past)
+        rw (left .0) (cond-case (map.Past (g .setup .pages)) (w .stays) (λ _. env .past)
         (λ _. past-unmarked (g .setup .pages) (g .near) (u .map) (env .start) near-low (env .past)))
 
     as-long : AsLong u u′
-    as-long = record {
-      widths = refl;
-      map = ap length (left .0) ∙ left-case (λ k. length k ≡ length (u .map)) g (w .stays) (u .map) (λ _. refl) (λ _. length-unmark (u .map) (g .near));
-    }
+    as-long = let l = left-as-long g (w .stays) u in record { widths = refl; map = ap length (left .0) ∙ l .map }
 
     pub off-env : Env g u′ i′
     off-env = env-with env (ap length (left .1) ∙ length-left g (w .stays) img (off-page .1)) as-long past

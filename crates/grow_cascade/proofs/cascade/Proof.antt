@@ -22,36 +22,37 @@ use Rattle.model.specs.Growth.{leanOf}
 use Rattle.grow_write_back.specs.Off.{leaves, SplitOff}
 use Rattle.grow_cascade.specs.Rising.{inside, long-image, settled-is, settled-most, holder-is, holder-high, able, range, env, good, off, bit-one, bit-other}
 use Rattle.grow_cascade.specs.Stops.{content, low-done, severed-long, severed-content, settled-done}
+use Rattle.grow_groups.specs.Used.{tables}
 use Rattle.grow_cascade.specs.Cascade.{Cascade, goalOf, memOf, Onward, onward-start, onward-end, Upward, upward}
 use Rattle.grow_cascade.proofs.cascade.Statement.{statement}
 use Rattle.grow_cascade.proofs.cascade.Tie as tie
 
 abbrev Inv-loop : tie.InvT-loop
-Inv-loop image₀ widths₀ buf₀ len₀ full₀ setup dry near₀ splits₀ lean₀ image widths buf len full near splits lean =
-    ((w : Cascade (record { setup = setup; near = near₀; dry = dry }) len₀ full₀ 0 (pos 0) buf₀ widths₀ image₀)
-    → Onward (goalOf w) (memOf w) image₀ (record { setup = setup; near = near; dry = dry }) len full splits (toZ w32 lean) buf widths image)
+Inv-loop image₀ widths₀ map₀ buf₀ len₀ full₀ setup dry near₀ splits₀ lean₀ image widths map buf len full near splits lean =
+    ((w : Cascade (record { setup = setup; near = near₀; dry = dry }) len₀ full₀ 0 (pos 0) buf₀ (tables widths₀ map₀) image₀)
+    → Onward (goalOf w) (memOf w) image₀ (tables widths₀ map₀) (record { setup = setup; near = near; dry = dry }) len full splits (toZ w32 lean) buf (tables widths map) image)
     × (length buf ≡ bufferSize)
 
 abbrev μ-loop : tie.MeasureT-loop
-μ-loop image₀ widths₀ buf₀ len₀ full₀ setup dry near₀ splits₀ lean₀ image widths buf len full near splits lean = mostPages - splits
+μ-loop image₀ widths₀ map₀ buf₀ len₀ full₀ setup dry near₀ splits₀ lean₀ image widths map buf len full near splits lean = mostPages - splits
 
 loop-holds : tie.Need-loop-holds Inv-loop μ-loop
-loop-holds c = (λ w. onward-start w, c .before .before .before .pre .0)
+loop-holds c = (λ w. onward-start w, c .before .before .before .before .before .pre .0)
 
 -- what cascade requires
 abbrev Given : tie.Start Inv-loop μ-loop → Type 0
 Given s =
     let a = s .args in
-    Cascade (a .start) (a .len) (a .full) 0 (pos 0) (a .buf .now) (a .widths .now) (a .image .now)
+    Cascade (a .start) (a .len) (a .full) 0 (pos 0) (a .buf .now) (tables (a .widths .now) (a .map .now)) (a .image .now)
 
 abbrev at-start : tie.At-loop Inv-loop μ-loop → tie.Start Inv-loop μ-loop
-at-start c = c .before .before .before .before
+at-start c = c .before .before .before .before .before .before
 
 -- the record that the loop is at
-here : (c : tie.At-loop Inv-loop μ-loop) → let s = c .before .before .before .before in let w = s .pre .1 in let l = c .loop in
-    Onward (goalOf w) (memOf w) (s .args .image .now) (nearTo (s .args .start) (l .near)) (l .len) (l .full) (l .splits) (toZ w32 (l .lean))
-    (l .buf) (l .widths) (l .image)
-here c = c .loop .inv .0 (c .before .before .before .before .pre .1)
+here : (c : tie.At-loop Inv-loop μ-loop) → let s = c .before .before .before .before .before .before in let w = s .pre .1 in let l = c .loop in
+    Onward (goalOf w) (memOf w) (s .args .image .now) (tables (s .args .widths .now) (s .args .map .now)) (nearTo (s .args .start) (l .near)) (l .len) (l .full) (l .splits) (toZ w32 (l .lean))
+    (l .buf) (tables (l .widths) (l .map)) (l .image)
+here c = c .loop .inv .0 (c .before .before .before .before .before .before .pre .1)
 
 mul-settled-at : tie.Need-mul-settled-at Inv-loop μ-loop
 mul-settled-at c = omega (arith, inside (here (c .before) .now .rising))
@@ -107,7 +108,13 @@ same-length : tie.Need-same-length Inv-loop μ-loop
 same-length c = c .before .before .keep .kept .0 ∙ here (c .before .before .before .before .before .before .before .before .before .before) .same
 
 same-length-2 : tie.Need-same-length-2 Inv-loop μ-loop
-same-length-2 c = search needs
+same-length-2 c = here (c .before .before .before .before .before .before .before .before .before .before) .as-long .widths
+
+same-length-3 : tie.Need-same-length-3 Inv-loop μ-loop
+same-length-3 c = here (c .before .before .before .before .before .before .before .before .before .before) .as-long .map
+
+same-length-4 : tie.Need-same-length-4 Inv-loop μ-loop
+same-length-4 c = search needs
 
 returns : tie.Need-returns Inv-loop μ-loop
 returns c =
@@ -130,26 +137,26 @@ slice-aggregate-split-off-2 c = refl
 
 split-off-requires : tie.Need-split-off-requires Inv-loop μ-loop
 split-off-requires c κs =
-    let b = c .before .before .before .before .before in
-    let s = b .before .before .before .before .before .before .before .before in
+    let b = c .before .before .before .before .before .before in
+    let s = b .before .before .before .before .before .before .before .before .before .before in
     let d = s .args .start .dry in
     let r = b .before .before .before .before .loop .inv .0 (s .pre .1) .now .rising in
-    (env r d, (refl, off r (omega (arith, r .long, c .before .before .before .before .if1 .left)) d _ (bit-of b (s .pre .1))))
+    (env r d, (refl, off r (omega (arith, r .long, c .before .before .before .before .before .if1 .left)) d _ (bit-of b (s .pre .1))))
 
 -- the record is split
 abbrev at-loop : tie.After-split-off Inv-loop μ-loop → tie.At-loop Inv-loop μ-loop
-at-loop x = x .before .before .before .before .before .before .before .before .before .before
+at-loop x = x .before .before .before .before .before .before .before .before .before .before .before
 
 large : (x : tie.After-split-off Inv-loop μ-loop) → let l = at-loop x in (w : Given (at-start l)) → capacity < recordSize (l .loop .inv .0 w .now .row)
-large x w = omega (arith, at-loop x .loop .inv .0 w .now .rising .long, x .before .before .before .before .before .if1 .left)
+large x w = omega (arith, at-loop x .loop .inv .0 w .now .rising .long, x .before .before .before .before .before .before .if1 .left)
 
 cut-of : (x : tie.After-split-off Inv-loop μ-loop) → let l = at-loop x in let s = at-start l in (w : Given s)
     → let k = l .loop .inv .0 w .now in let z = x .split-off .last .1 in let r = x .split-off .result in
     SplitOff (k .st) (nearTo (s .args .start) (l .loop .near)) (k .row) (k .work) (lastSettled (k .chain)) (r .end) (r .full)
-    (l .loop .widths) (z .1 .0) (l .loop .image) (z .0) (replicate separatorSize 0) (z .1 .1 .1 .1 .0) × (r .lean ≡ leanOf (k .st) (k .row))
+    (tables (l .loop .widths) (l .loop .map)) (tables (z .1 .0) (z .1 .1 .0)) (l .loop .image) (z .0) (replicate separatorSize 0) (z .1 .1 .1 .1 .1 .0) × (r .lean ≡ leanOf (k .st) (k .row))
 cut-of x w =
     let l = at-loop x in
-    x .split-off .ensures (off (l .loop .inv .0 w .now .rising) (large x w) (at-start l .args .start .dry) _ (bit-of (x .before .before .before .before .before .before) w))
+    x .split-off .ensures (off (l .loop .inv .0 w .now .rising) (large x w) (at-start l .args .start .dry) _ (bit-of (x .before .before .before .before .before .before .before) w))
 
 -- its lean
 lean-last : (x : tie.After-split-off Inv-loop μ-loop) → let z = x .split-off .result .lean in InLean z × (toZ w32 (ofZ w32 z) ≡ z)
@@ -161,11 +168,11 @@ lean-last x =
 
 lean-now-requires : tie.Need-lean-now-requires Inv-loop μ-loop
 lean-now-requires c κs =
-    let x = c .before .before .before .before in
+    let x = c .before .before .before .before .before .before .before .before in
     (range (here (at-loop x) .now .rising), subst InLean (sym (lean-last x .1)) (lean-last x .0))
 
 abbrev at-split : tie.After-lean-now Inv-loop μ-loop → tie.After-split-off Inv-loop μ-loop
-at-split y = y .before .before .before .before .before
+at-split y = y .before .before .before .before .before .before .before .before .before
 
 lean-of : (y : tie.After-lean-now Inv-loop μ-loop) → let u = at-loop (at-split y) in let l = u .loop in (w : Given (at-start u))
     → let k = l .inv .0 w .now in toZ w32 (ofZ w32 (y .lean-now .result)) ≡ leanNow (l .splits) (toZ w32 (l .lean)) (leanOf (k .st) (k .row))
@@ -181,7 +188,7 @@ add-splits : tie.Need-add-splits Inv-loop μ-loop
 add-splits c = omega (arith, here (at-loop (at-split c)) .now .rising .short)
 
 -- the separator is within its array
-ends : (x : tie.After-split-off Inv-loop μ-loop) → x .split-off .result .end ≤ length (x .split-off .last .1 .1 .1 .1 .1 .0)
+ends : (x : tie.After-split-off Inv-loop μ-loop) → x .split-off .result .end ≤ length (x .split-off .last .1 .1 .1 .1 .1 .1 .0)
 ends x =
     let l = at-loop x in
     let w = at-start l .pre .1 in
@@ -189,24 +196,24 @@ ends x =
     let v = leaves (k .st) (lastSettled (k .chain)) (l .loop .near) (k .row) (k .work) in
     front-end (cut-of x w .0) (omega (arith, good (k .rising) (large x w) v .small))
 
-taken-end : (x : tie.After-split-off Inv-loop μ-loop) → let r = x .split-off .result .end in r ≡ length (take r (x .split-off .last .1 .1 .1 .1 .1 .0))
+taken-end : (x : tie.After-split-off Inv-loop μ-loop) → let r = x .split-off .result .end in r ≡ length (take r (x .split-off .last .1 .1 .1 .1 .1 .1 .0))
 taken-end x = sym (length-take-le _ _ (ends x))
 
 array-share-prefix-sep : tie.Need-array-share-prefix-sep Inv-loop μ-loop
-array-share-prefix-sep c = ends (c .before .before .before .before .before .before .before .before)
+array-share-prefix-sep c = ends (c .before .before .before .before .before .before .before .before .before .before .before .before)
 
 slice-aggregate-keep-2 : tie.Need-slice-aggregate-keep-2 Inv-loop μ-loop
-slice-aggregate-keep-2 c = taken-end (c .before .before .before .before .before .before .before .before .before)
+slice-aggregate-keep-2 c = taken-end (c .before .before .before .before .before .before .before .before .before .before .before .before .before)
 
 -- the split record is settled
-stays-of : (x : tie.After-split-off Inv-loop μ-loop) → let l = at-loop x in x .before .before .before .before .before .before .before .before .settled-at .result ≡ 1 → (w : Given (at-start l))
+stays-of : (x : tie.After-split-off Inv-loop μ-loop) → let l = at-loop x in x .before .before .before .before .before .before .before .before .before .settled-at .result ≡ 1 → (w : Given (at-start l))
     → lastSettled (l .loop .inv .0 w .now .chain) ≡ true
-stays-of x e w = bit-one (lastSettled (at-loop x .loop .inv .0 w .now .chain)) (bit-of (x .before .before .before .before .before .before) w) e
+stays-of x e w = bit-one (lastSettled (at-loop x .loop .inv .0 w .now .chain)) (bit-of (x .before .before .before .before .before .before .before) w) e
 
 keep-requires-2 : tie.Need-keep-requires-2 Inv-loop μ-loop
 keep-requires-2 c κs =
-    let x = c .before .before .before .before .before .before .before .before .before in
-    let b = x .before .before .before .before .before .before in
+    let x = c .before .before .before .before .before .before .before .before .before .before .before .before .before in
+    let b = x .before .before .before .before .before .before .before in
     let w = at-start (at-loop x) .pre .1 in
     let r = at-loop x .loop .inv .0 w .now .rising in
     let i = inside r in
@@ -216,20 +223,26 @@ keep-requires-2 c κs =
       (omega (arith, long-image r, severed-long r (large x w) y v), (i .1 .0, (settled-in b .0, (settled-in b .1, severed-content r (large x w) y v)))),
     )
 
-same-length-3 : tie.Need-same-length-3 Inv-loop μ-loop
-same-length-3 c =
-    let x = c .before .before .before .before .before .before .before .before .before .before .before .before in
+same-length-5 : tie.Need-same-length-5 Inv-loop μ-loop
+same-length-5 c =
+    let x = c .before .before .before .before .before .before .before .before .before .before .before .before .before .before .before .before in
     c .before .before .keep2 .kept .0 ∙ x .split-off .kept .1 .0 ∙ here (at-loop x) .same
 
-same-length-4 : tie.Need-same-length-4 Inv-loop μ-loop
-same-length-4 c = search needs
+same-length-6 : tie.Need-same-length-6 Inv-loop μ-loop
+same-length-6 c = let x = c .before .before .before .before .before .before .before .before .before .before .before .before .before .before .before .before in x .split-off .kept .1 .1 .0 ∙ here (at-loop x) .as-long .widths
+
+same-length-7 : tie.Need-same-length-7 Inv-loop μ-loop
+same-length-7 c = let x = c .before .before .before .before .before .before .before .before .before .before .before .before .before .before .before .before in x .split-off .kept .1 .1 .1 .0 ∙ here (at-loop x) .as-long .map
+
+same-length-8 : tie.Need-same-length-8 Inv-loop μ-loop
+same-length-8 c = let l = at-loop (c .before .before .before .before .before .before .before .before .before .before .before .before .before .before .before .before) in l .loop .inv .1 ∙ sym (at-start l .pre .0)
 
 returns-2 : tie.Need-returns-2 Inv-loop μ-loop
 returns-2 c =
     λ w.
     let z = c .before .before .before .before .before .before .before in
     let x = at-split z in
-    let b = x .before .before .before .before .before .before in
+    let b = x .before .before .before .before .before .before .before in
     let o = at-loop x .loop .inv .0 w in
     let r = o .now .rising in
     let y = stays-of x (c .before .before .before .before .before .if2 .taken) w in
@@ -238,20 +251,20 @@ returns-2 c =
     (c .before .before .keep2 .ensures (severed-content r (large x w) y v) (lastSettled (o .now .chain)) (bit-of b w)))
 
 array-share-prefix-sep-2 : tie.Need-array-share-prefix-sep-2 Inv-loop μ-loop
-array-share-prefix-sep-2 c = ends (c .before .before .before .before .before .before .before .before)
+array-share-prefix-sep-2 c = ends (c .before .before .before .before .before .before .before .before .before .before .before .before)
 
 slice-aggregate-lift : tie.Need-slice-aggregate-lift Inv-loop μ-loop
-slice-aggregate-lift c = taken-end (c .before .before .before .before .before .before .before .before .before)
+slice-aggregate-lift c = taken-end (c .before .before .before .before .before .before .before .before .before .before .before .before .before)
 
 -- the record above
 above : (y : tie.After-lean-now Inv-loop μ-loop) → let x = at-split y in
-    let b = x .before .before .before .before .before .before in let u = at-loop x in let l = u .loop in let s = at-start u in
+    let b = x .before .before .before .before .before .before .before in let u = at-loop x in let l = u .loop in let s = at-start u in
     let z = x .split-off .last .1 in let q = x .split-off .result in (b .before .before .settled-at .result ≡ 1 → ⊥) → (w : Given s)
-    → Upward (goalOf w) (memOf w) (s .args .image .now) (nearTo (s .args .start) (l .near)) (b .back-at .result) (q .end) (l .full || q .full) (l .splits + 1)
-    (toZ w32 (ofZ w32 (y .lean-now .result))) (l .buf) (z .1 .0) (z .0) (z .1 .1 .1 .1 .0)
+    → Upward (goalOf w) (memOf w) (s .args .image .now) (tables (s .args .widths .now) (s .args .map .now)) (nearTo (s .args .start) (l .near)) (b .back-at .result) (q .end) (l .full || q .full) (l .splits + 1)
+    (toZ w32 (ofZ w32 (y .lean-now .result))) (l .buf) (tables (z .1 .0) (z .1 .1 .0)) (z .0) (z .1 .1 .1 .1 .1 .0)
 above y e w =
     let x = at-split y in
-    let b = x .before .before .before .before .before .before in
+    let b = x .before .before .before .before .before .before .before in
     let o = at-loop x .loop .inv .0 w in
     upward o (large x w) (bit-other (lastSettled (o .now .chain)) (bit-of b w) e) (b .back-at .ensures .0 ∙ holder-is (o .now .rising))
     (cut-of x w .0) (lean-of y w)
@@ -279,6 +292,6 @@ loop-again c =
 pub cascade-spec : {M : Type 1} → statement M
 cascade-spec =
     tie.close (tie.spec Inv-loop μ-loop loop-holds mul-settled-at settled-at-requires mul-back-at back-at-requires slice-reshare-prefix-keep
-    slice-aggregate-keep keep-requires same-length same-length-2 returns slice-reshare-prefix-split-off slice-aggregate-split-off
+    slice-aggregate-keep keep-requires same-length same-length-2 same-length-3 same-length-4 returns slice-reshare-prefix-split-off slice-aggregate-split-off
     slice-aggregate-split-off-2 split-off-requires lean-now-requires add-splits array-share-prefix-sep slice-aggregate-keep-2 keep-requires-2
-    same-length-3 same-length-4 returns-2 array-share-prefix-sep-2 slice-aggregate-lift lift-requires loop-less loop-again)
+    same-length-5 same-length-6 same-length-7 same-length-8 returns-2 array-share-prefix-sep-2 slice-aggregate-lift lift-requires loop-less loop-again)
