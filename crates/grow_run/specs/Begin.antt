@@ -4,8 +4,8 @@ use mathlib.Core.Bool.{Bool, true, false, or-true}
 use mathlib.Core.List.{List}
 use Prim.Native.Nat.{ℕ, _+_, _*_, _<_, _≤_}
 use native.Mathlib.Omega.{arith}
-use borrow.Author.Tests.{lt-ltb}
-use lib.Dec.{eqb}
+use borrow.Author.Tests.{lt-ltb, le-leb}
+use lib.Dec.{eqb, leb}
 use lib.ListN.{length, getD, take}
 use lib.IntN.{pos}
 use Rattle.theory_row_bytes.specs.RowAt.{RowIs}
@@ -43,7 +43,7 @@ use Rattle.base_layout.specs.declared.Setup.{Setup}
 use Rattle.base_layout.specs.declared.Growing.{Growing}
 use Rattle.base_layout.specs.Setup.{setupOn, setupOf, reads-setup}
 use Rattle.base_layout.specs.Growing.{nearTo, pages-of}
-use Rattle.grow_groups.specs.Used.{InUse, Past, Env}
+use Rattle.grow_groups.specs.Used.{Tables, InUse, Past, AsLong, Holds, holds-still, Env}
 use Rattle.grow_locate.specs.declared.Receiver.{Receiver}
 use Rattle.grow_new_node.specs.declared.Fresh.{Fresh}
 use Rattle.grow_cascade.specs.declared.Grown.{Grown}
@@ -52,14 +52,13 @@ use Rattle.grow_locate.specs.Parent.{at-before}
 use Rattle.grow_new_node.specs.Placed.{NodePlaced, node-tabled}
 use Rattle.grow_groups.specs.Step.{front-is}
 use Rattle.grow_groups.specs.Tells.{Keeps}
-use Rattle.grow_new_node.specs.Marks.{rest-past}
-use Rattle.grow_cascade.specs.Rising.{Rising, LeftTable, Risen}
+use Rattle.grow_cascade.specs.Rising.{Rising, LeftTables, Risen}
 use Rattle.grow_cascade.specs.Cascade.{Cascade, goalOf, memOf}
 use Rattle.grow_run.specs.Taken as into
 
--- The node x, whose bytes are `node`, is to be child k of the aggregate at the byte `above`, and t is where it goes; the table u₀ has the pages in use. A run
--- that writes finds all its pages, and the table is right with one node more.
-pub record Begin (dry : Bool) (img u₀ : List ℕ) (above : ℕ) (t : Receiver) (label : ℕ) (node : List ℕ) : Type 0 where
+-- The node x, whose bytes are `node`, is to be child k of the aggregate at the byte `above`, and t is where it goes; the map of u₀ has the pages in
+-- use. A run that writes finds all its pages, and the table is right with one node more.
+pub record Begin (dry : Bool) (img : List ℕ) (u₀ : Tables) (above : ℕ) (t : Receiver) (label : ℕ) (node : List ℕ) : Type 0 where
   pub k : ℕ
   pub aim : Aimed img above k
   pub receiver : t ≡ receiverOf (aim .t)
@@ -68,9 +67,10 @@ pub record Begin (dry : Bool) (img u₀ : List ℕ) (above : ℕ) (t : Receiver)
   pub named : x .head .label ≡ label
   pub is : RowIs node (asRow (aim .st) x nil)
   pub short : length (aim .path) ≤ 22
+  pub holds : Holds (aim .st .pages) u₀
   pub marked : InUse u₀ (atRest (aim .st) (aim .root))
   pub room : dry ≡ false → grow (aim .st) (aim .root) (aim .path) k x .1 .full ≡ false
-  pub told : dry ≡ false → Awaits u₀ (aim .t)
+  pub told : dry ≡ false → Awaits (u₀ .widths) (aim .t)
 
 -- ── the new node ──
 
@@ -91,7 +91,7 @@ module _ (st : Config) (x : New) (fits : NewFits x) where
 
 -- ── the store and the record that takes the node ──
 
-module _ {dry : Bool} {img u₀ : List ℕ} {above : ℕ} {t : Receiver} {label : ℕ} {node : List ℕ} (w : Begin dry img u₀ above t label node) where
+module _ {dry : Bool} {img : List ℕ} {u₀ : Tables} {above : ℕ} {t : Receiver} {label : ℕ} {node : List ℕ} (w : Begin dry img u₀ above t label node) where
   abbrev pub st : Config
   st = w .aim .st
 
@@ -118,14 +118,16 @@ module _ {dry : Bool} {img u₀ : List ℕ} {above : ℕ} {t : Receiver} {label 
   abbrev pub new : Out
   new = grow st root (w .aim .path) (w .k) (w .x)
 
-  -- What a run gives: what growth counted; a dry run leaves the image, another one leaves the image of what growth made, and its table.
-  pub record Inserted (r : Grown) (after u : List ℕ) : Type 0 where
+  -- What a run gives: what growth counted; a dry run leaves the image and the widths, another one leaves the image of what growth made, and its tables.
+  pub record Inserted (r : Grown) (after : List ℕ) (u : Tables) : Type 0 where
     pub full : r .full ≡ new .1 .full
     pub splits : r .splits ≡ new .1 .splits
     pub lean : r .lean ≡ new .1 .lean
     pub still : dry ≡ true → after ≡ img
     pub writes : dry ≡ false → after ≡ image st (new .0)
-    pub table : dry ≡ false → LeftTable new u
+    pub table : dry ≡ false → LeftTables new u
+    pub as-long : AsLong u₀ u
+    pub rests : dry ≡ true → u .widths ≡ u₀ .widths
 
   pub valid : Valid st root
   valid = reads-valid img st root (w .aim .reads)
@@ -191,10 +193,11 @@ module _ {dry : Bool} {img u₀ : List ℕ} {above : ℕ} {t : Receiver} {label 
       image = omega (arith, long, pages-of setup);
       low = omega (arith, inside, at-page);
       start = omega (arith, inside, at-page, pages-of setup);
-      past = subst (λ (i : ℕ). Past i u₀) (pages-of setup) (rest-past st root u₀ (w .marked));
+      holds = subst (λ (i : ℕ). Holds i u₀) (pages-of setup) (w .holds);
+      past = subst (λ (i : ℕ). Past i u₀) (pages-of setup) (λ q a b. w .marked .same q b ∙ rw (le-leb (st .pages) q a, or-true (leb q 1)));
     }
 
-    module _ {o₀ u img₁ out : List ℕ} {f : Fresh} (placed : NodePlaced st (w .x) h g W u₀ img o₀ f u img₁ out) where
+    module _ {o₀ : List ℕ} {u : Tables} {img₁ out : List ℕ} {f : Fresh} (placed : NodePlaced st (w .x) h g W u₀ img o₀ f u img₁ out) where
       pub put : NodePlaced st (w .x) h (nearTo g (lastPage c)) W u₀ img o₀ f u img₁ out
       put = subst (λ (i : ℕ). NodePlaced st (w .x) h (nearTo g i) W u₀ img o₀ f u img₁ out) at-page placed
 
@@ -231,25 +234,27 @@ module _ {dry : Bool} {img u₀ : List ℕ} {above : ℕ} {t : Receiver} {label 
         not-full = put .full ∙ ap (λ (v : Work). v .full) (sym work-is) ∙ full-rise st c (row, O .1) (wet-room e)
 
         kept : Keeps u₀ u P
-        kept = put .tells (node-tabled st (w .x) u₀) not-full
+        kept = put .tells e (node-tabled st (w .x) u₀) not-full
 
         -- The pages that the store names are in use, so their entries stay.
-        named-same : (q : ℕ) → 1 ≤ beside c q + along c q + count q (fill s rest) → getD u q 0 ≡ getD u₀ q 0
+        named-same : (q : ℕ) → 1 ≤ beside c q + along c q + count q (fill s rest) → getD (u .widths) q 0 ≡ getD (u₀ .widths) q 0
         named-same q z =
             let k : 1 ≤ count q root = omega (arith, ap (count q) held, count-chain q c (fill s rest)) in
             let i = named-inside st root valid q (omega arith) in
-            let e = w .marked .same q (omega (arith, i .1, valid .ranges .many)) in
-            kept .frame q (e ∙ rw (lt-ltb 0 (count q root) k) (or-true (outside (st .pages) q)))
+            let e = w .marked .same q (omega (arith, i .1, w .holds .map)) in
+            kept .frame q (e ∙ rw (lt-ltb 0 (count q root) k) (or-true (outside (st .pages) q))) .0
 
         -- So the table is right for the store with the node in it.
-        row-told : Told u (whole c row)
+        row-told : Told (u .widths) (whole c row)
         row-told =
             let a = w .told e in
+            let v₀ = u₀ .widths in
+            let v = u .widths in
             let n : width (P ⊹ rest) ≡ width rest + 1 = omega (arith, width-⊹ P rest, placed-width st (w .x) h (lastPage c) W) in
-            let old = told-same u₀ u (fill s rest) (λ q z. named-same q (omega arith)) (a .told) in
-            told-whole u c row (around-same u₀ u c (λ q z. named-same q (omega arith)) (a .around))
-            (subst (Told u) (sym row-is) (fill-more (told-parted u) s P rest old (kept .told)))
-            (along-same u₀ u c row (λ q z. named-same q (omega arith)) (subst (ToldAlong u₀ c) (sym row-is) (a .along (P ⊹ rest) n)))
+            let old = told-same v₀ v (fill s rest) (λ q z. named-same q (omega arith)) (a .told) in
+            told-whole v c row (around-same v₀ v c (λ q z. named-same q (omega arith)) (a .around))
+            (subst (Told v) (sym row-is) (fill-more (told-parted v) s P rest old (kept .told)))
+            (along-same v₀ v c row (λ q z. named-same q (omega arith)) (subst (ToldAlong v₀ c) (sym row-is) (a .along (P ⊹ rest) n)))
 
       -- ── the node goes into the record ──
 
@@ -293,6 +298,7 @@ module _ {dry : Bool} {img u₀ : List ℕ} {above : ℕ} {t : Receiver} {label 
           below = below-row;
           marked = subst (InUse u) (sym work-is) (put .used);
           past = put .past;
+          holds = holds-still (start-env .holds) (put .as-long);
           full = put .full ∙ ap (λ (v : Work). v .full) (sym work-is);
           splits = sym (place-counts st (w .x) (w .fits) h (lastPage c) W rest .0);
           lean = sym (place-counts st (w .x) (w .fits) h (lastPage c) W rest .1);
@@ -313,7 +319,7 @@ module _ {dry : Bool} {img u₀ : List ℕ} {above : ℕ} {t : Receiver} {label 
         abbrev pub cascade-ready : Cascade g len (f .full) 0 (pos 0) l u img₁
         cascade-ready = record { st = st; was = img; root = root; chain = c; old = fill s rest; row = row; work = O .1; rising = begun }
 
-        pub once-done : {r : Grown} {img₂ u₂ : List ℕ} → Risen (goalOf cascade-ready) (memOf cascade-ready) dry r img₁ img₂ u₂ → Inserted r img₂ u₂
+        pub once-done : {r : Grown} {img₂ : List ℕ} {u₂ : Tables} → Risen (goalOf cascade-ready) (memOf cascade-ready) dry r img₁ img₂ u u₂ → Inserted r img₂ u₂
         once-done {img₂ = img₂} {u₂ = u₂} r = record {
           full = r .full ∙ ap (λ (o : Out). o .1 .full) goal-is;
           splits = r .splits ∙ ap (λ (o : Out). o .1 .splits) goal-is;
@@ -324,5 +330,7 @@ module _ {dry : Bool} {img u₀ : List ℕ} {above : ℕ} {t : Receiver} {label 
               (r .pages d ∙ ap (riseMem st c row (O .1)) (put .after .pages d ∙ ap (λ (l : List ℕ). placeMem st (w .x) h (lastPage c) W (pageOf l)) (w .aim .reads .same)))
               (wet-room d)
               ∙ ap (λ (o : Out). image st (o .0)) goal-is;
-          table = λ d. subst (λ (o : Out). LeftTable o u₂) goal-is (r .table d);
+          table = λ d. subst (λ (o : Out). LeftTables o u₂) goal-is (r .table d);
+          as-long = record { widths = r .as-long .widths ∙ put .as-long .widths; map = r .as-long .map ∙ put .as-long .map };
+          rests = λ d. r .rests d ∙ put .rests d;
         }
