@@ -54,7 +54,7 @@ fn kind_bad(kind: usize, len: usize) -> bool
 // The search for the new node's spot is the test, so that the children are passed one time.
 fn try_parent(
     image: &[u8],
-    widths: &[u32; Settings::PAGES],
+    widths: &[u32],
     parent: usize,
     child: usize,
 ) -> Admitted
@@ -81,7 +81,7 @@ fn try_parent(
 // The tests of an insert in the order of the refusal table, 13 directly after 5.
 pub fn admit(
     image: &[u8],
-    widths: &[u32; Settings::PAGES],
+    widths: &[u32],
     path: &[u8],
     child: usize,
     kind: usize,

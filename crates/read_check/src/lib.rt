@@ -10,7 +10,7 @@ ghost use Rattle.theory_check.specs.Check.{trailersOf, walkOf, checkBy};
 ghost use Rattle.theory_check.specs.Widths.{widthsAfter};
 
 // The check, which leaves in a table how many nodes the record on each page shows.
-pub fn check_widths(image: &[u8], widths: &mut [u32; Settings::PAGES]) -> u32
+pub fn check_widths(image: &[u8], widths: &mut [u32]) -> u32
     requires { ⌜ length (now widths) ≡ mostPages ⌝ }
     ensures { λ r. ⌜ (r ≡ checkBy (now (image .entry)))
         × (r ≡ 0 → now (widths .exit) ≡ widthsAfter (walkOf (now (image .entry)) (trailersOf (now (image .entry))) .row) (now (widths .entry))) ⌝ }

@@ -118,7 +118,7 @@ fn run(
 // A walk over the record on page 1 and all records below it, each where its proxy stands; once the walk has stopped, `widths` has how many nodes each shows.
 fn walk_records(
     image: &[u8],
-    widths: &[u32; Settings::PAGES],
+    widths: &[u32],
     target: usize,
     out: &mut [u32],
 ) -> Cursor
@@ -167,7 +167,7 @@ fn walk_records(
 // Walk: 0, or 10 where the place is no node's.
 pub fn walk_of(
     image: &[u8],
-    widths: &[u32; Settings::PAGES],
+    widths: &[u32],
     x: Place,
     out: &mut [u32],
 ) -> WalkAnswer

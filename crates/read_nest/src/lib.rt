@@ -59,7 +59,7 @@ pub fn into_record(
     c: Cursor,
     w: Nest,
     p: usize,
-    back: &mut [u32; Settings::PAGES],
+    back: &mut [u32],
     held: &mut [usize; STACK],
 ) -> Nest
     requires { ⌜ (c .i < 4194304) × (p < mostPages) × (c .level ≤ mostLevels) × (w .depth < mostPages) ⌝ }
@@ -104,7 +104,7 @@ pub fn behind_record(
     image: &[u8],
     c: Cursor,
     w: Nest,
-    back: &[u32; Settings::PAGES],
+    back: &[u32],
     held: &[usize; STACK],
 ) -> Cursor
     requires { ⌜ Leaving (now image) c w (now back) ⌝ }

@@ -45,8 +45,8 @@ fn node_check<'a>(
     level: usize,
     left: usize,
     marks: &mut [u8; Settings::MARKS],
-    widths: &mut [u32; Settings::PAGES],
-    back: &mut [u32; Settings::PAGES],
+    widths: &mut [u32],
+    back: &mut [u32],
 ) -> usize
     requires { ⌜ (6 ≤ length (now part)) × (level ≤ mostLevels + 1) × (1 ≤ left) × (left ≤ mostPages)
         × PartAt (now image) (now part) at × PassedBefore (now image) × IsMarks (now marks)
@@ -79,8 +79,8 @@ fn proxy_check<'a>(
     node: &'a [u8],
     w: Walker,
     marks: &mut [u8; Settings::MARKS],
-    widths: &mut [u32; Settings::PAGES],
-    back: &mut [u32; Settings::PAGES],
+    widths: &mut [u32],
+    back: &mut [u32],
 ) -> Walker
     requires { ⌜ PassedBefore (now image) × NodeAt (now image) (now node) w × (3 ≡ kindBy (now node) (w .kinds))
         × ((g : Goal) × Standing (now image) g (now marks) (now widths) (now back) w) ⌝ }
@@ -120,8 +120,8 @@ fn part_check<'a>(
     node: &'a [u8],
     w: Walker,
     marks: &mut [u8; Settings::MARKS],
-    widths: &mut [u32; Settings::PAGES],
-    back: &mut [u32; Settings::PAGES],
+    widths: &mut [u32],
+    back: &mut [u32],
 ) -> Walker
     requires { ⌜ PassedBefore (now image) × NodeAt (now image) (now node) w
         × (literalOf (bytes (now image) (w .at) (w .end)) (length (now node)) (w .kinds .literal) (w .level) ≡ false)
@@ -153,8 +153,8 @@ fn list_check<'a>(
     level: usize,
     left: usize,
     marks: &mut [u8; Settings::MARKS],
-    widths: &mut [u32; Settings::PAGES],
-    back: &mut [u32; Settings::PAGES],
+    widths: &mut [u32],
+    back: &mut [u32],
 ) -> usize
     requires { ⌜ (level ≤ mostLevels + 1) × (1 ≤ left) × (left ≤ mostPages)
         × PartAt (now image) (now part) start × PassedBefore (now image) × IsMarks (now marks)
@@ -198,7 +198,7 @@ fn list_check<'a>(
 // ── from page 1 ──
 
 // Whether the walk from page 1, whose root is an aggregate, reaches every record page one time. It is made only where the part before it passes.
-pub fn walk_ok(image: &[u8], left: usize, widths: &mut [u32; Settings::PAGES]) -> bool
+pub fn walk_ok(image: &[u8], left: usize, widths: &mut [u32]) -> bool
     requires { ⌜ (lengthOk (length (now image)) ≡ true) × (beforeWalk (now image) ≡ true) × (1 ≤ left) × (left ≤ mostPages)
         × (length (now widths) ≡ mostPages) ⌝ }
     ensures { λ r. ⌜ (r ≡ walkOk (now (image .entry)) left)
