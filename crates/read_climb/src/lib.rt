@@ -91,12 +91,7 @@ fn trace(
 }
 
 // Writes the path of the node at byte pos to the end of `path`, and gives where it starts. At most `left` records are above.
-fn climb_path(
-    image: &[u8],
-    widths: &[u32],
-    pos: usize,
-    path: &mut [u8; Settings::PATH],
-) -> usize
+fn climb_path(image: &[u8], widths: &[u32], pos: usize, path: &mut [u8; Settings::PATH]) -> usize
     requires { ⌜ NodeAt (now image) pos × Widths (now image) (now widths) × (length (now path) ≡ longestPath) ⌝ }
     ensures { λ r. ⌜ ((w : NodeAt (now (image .entry)) pos) → Rose (w .root) (placeAtByte pos) r (now (path .exit))) × (length (now (path .exit))
         ≡ longestPath) ⌝ }
@@ -129,12 +124,7 @@ fn climb_path(
 }
 
 // Climb: writes the path of the node at a place to the front of the buffer; 10 where no node stands, 11 where the buffer is short.
-pub fn climb_of(
-    image: &[u8],
-    widths: &[u32],
-    x: Place,
-    buffer: &mut [u8],
-) -> WriteAnswer
+pub fn climb_of(image: &[u8], widths: &[u32], x: Place, buffer: &mut [u8]) -> WriteAnswer
     requires { ⌜ (checkOf (now image) ≡ 0) × Widths (now image) (now widths) ⌝ }
     ensures { λ r. ⌜ (r ≡ climbOf (now (image .entry)) x (now (buffer .entry)) .0) × (now (buffer .exit)
         ≡ climbOf (now (image .entry)) x (now (buffer .entry)) .1) ⌝ }

@@ -116,12 +116,7 @@ fn run(
 // ── from record to record ──
 
 // A walk over the record on page 1 and all records below it, each where its proxy stands; once the walk has stopped, `widths` has how many nodes each shows.
-fn walk_records(
-    image: &[u8],
-    widths: &[u32],
-    target: usize,
-    out: &mut [u32],
-) -> Cursor
+fn walk_records(image: &[u8], widths: &[u32], target: usize, out: &mut [u32]) -> Cursor
     requires { ⌜ Rooted (now image) × Widths (now image) (now widths) ⌝ }
     ensures { λ r. ⌜ ((w : Rooted (now (image .entry))) → reached r (now (out .exit))
         ≡ visits target (way 0 0 (now (out .entry))) (meets 1 (startOn (now (image .entry)) 1) (w .recorded .rowed .row))) ⌝ }
@@ -165,12 +160,7 @@ fn walk_records(
 // ── the call ──
 
 // Walk: 0, or 10 where the place is no node's.
-pub fn walk_of(
-    image: &[u8],
-    widths: &[u32],
-    x: Place,
-    out: &mut [u32],
-) -> WalkAnswer
+pub fn walk_of(image: &[u8], widths: &[u32], x: Place, out: &mut [u32]) -> WalkAnswer
     requires { ⌜ (checkOf (now image) ≡ 0) × Widths (now image) (now widths) ⌝ }
     ensures answer { λ r. ⌜ r ≡ walkOf (now (image .entry)) x (now (out .entry)) .0 ⌝ }
     ensures out { λ _. ⌜ now (out .exit) ≡ walkOf (now (image .entry)) x (now (out .entry)) .1 ⌝ }

@@ -66,14 +66,7 @@ pub struct NthNode {
 }
 
 // Node k of those that the row from pos to end shows. `widths` has how many nodes each record shows, so that only the records that hold the node are read.
-pub fn nth(
-    image: &[u8],
-    widths: &[u32],
-    pos: usize,
-    end: usize,
-    k: usize,
-    depth: usize,
-) -> NthNode
+pub fn nth(image: &[u8], widths: &[u32], pos: usize, end: usize, k: usize, depth: usize) -> NthNode
     requires { ⌜ Rowed (now image) pos end depth × Widths (now image) (now widths) ⌝ }
     ensures { λ r. ⌜ ((w : Rowed (now (image .entry)) pos end depth) → r ≡ nthOf pos (w .row) k) ⌝ }
 {

@@ -19,7 +19,7 @@ use read_walker::reach;
 use read_walker::refused;
 ghost use mathlib.Core.Path.{_≡_};
 ghost use mathlib.Core.Bool.{true, false};
-ghost use Prim.Native.Nat.{ℕ, _+_, _/_, _≤_};
+ghost use Prim.Native.Nat.{ℕ, _+_, _*_, _/_, _≤_};
 ghost use lib.ListN.{length};
 ghost use Rattle.model.specs.Limits.{mostPages, mostLevels, pageSize};
 ghost use Rattle.model.specs.Reading.{lengthOk};
@@ -50,7 +50,7 @@ fn node_check<'a>(
 ) -> usize
     requires { ⌜ (6 ≤ length (now part)) × (level ≤ mostLevels + 1) × (1 ≤ left) × (left ≤ mostPages)
         × PartAt (now image) (now part) at × PassedBefore (now image) × IsMarks (now marks)
-        × (length (now widths) ≡ mostPages) × (length (now back) ≡ mostPages) ⌝ }
+        × (length (now image) ≤ pageSize * length (now widths)) × (length (now image) ≤ pageSize * length (now back)) ⌝ }
     ensures { λ r. ⌜ ((holder : ℕ) → 1 ≡ passingKind (now (part .entry)) holder
         → Ended (nodeOf (now (image .entry)) (now (part .entry)) (at / pageSize) holder level (state left (now (marks .entry))))
         r (now (marks .entry)) (now (marks .exit)) (now (widths .entry)) (now (widths .exit)) (now (back .entry)) (now (back .exit))) ⌝ }
@@ -158,7 +158,7 @@ fn list_check<'a>(
 ) -> usize
     requires { ⌜ (level ≤ mostLevels + 1) × (1 ≤ left) × (left ≤ mostPages)
         × PartAt (now image) (now part) start × PassedBefore (now image) × IsMarks (now marks)
-        × (length (now widths) ≡ mostPages) × (length (now back) ≡ mostPages) ⌝ }
+        × (length (now image) ≤ pageSize * length (now widths)) × (length (now image) ≤ pageSize * length (now back)) ⌝ }
     ensures { λ r. ⌜ Ended (listOf (now (image .entry)) (now (part .entry)) (start / pageSize) 1 level (state left (now (marks .entry))))
         r (now (marks .entry)) (now (marks .exit)) (now (widths .entry)) (now (widths .exit)) (now (back .entry)) (now (back .exit)) ⌝ }
 {
@@ -197,10 +197,11 @@ fn list_check<'a>(
 
 // ── from page 1 ──
 
-// Whether the walk from page 1, whose root is an aggregate, reaches every record page one time. It is made only where the part before it passes.
-pub fn walk_ok(image: &[u8], left: usize, widths: &mut [u32]) -> bool
+// Whether the walk from page 1, whose root is an aggregate, reaches every record page one time. It is made only where the part before it passes. What `back`
+// holds does not matter.
+pub fn walk_ok(image: &[u8], left: usize, widths: &mut [u32], back: &mut [u32]) -> bool
     requires { ⌜ (lengthOk (length (now image)) ≡ true) × (beforeWalk (now image) ≡ true) × (1 ≤ left) × (left ≤ mostPages)
-        × (length (now widths) ≡ mostPages) ⌝ }
+        × (length (now image) ≤ pageSize * length (now widths)) × (length (now image) ≤ pageSize * length (now back)) ⌝ }
     ensures { λ r. ⌜ (r ≡ walkOk (now (image .entry)) left)
         × (r ≡ true → now (widths .exit) ≡ widthsAfter (walkOf (now (image .entry)) left .row) (now (widths .entry))) ⌝ }
 {
@@ -213,7 +214,6 @@ pub fn walk_ok(image: &[u8], left: usize, widths: &mut [u32]) -> bool
         return false;
     }
     let mut marks = [0u8; Settings::MARKS];
-    let mut back = [0u32; Settings::PAGES];
     let r = node_check(
         image,
         record,
@@ -222,7 +222,7 @@ pub fn walk_ok(image: &[u8], left: usize, widths: &mut [u32]) -> bool
         left,
         &mut marks,
         widths,
-        &mut back,
+        back,
     );
     r == 1
 }
