@@ -22,18 +22,16 @@ ghost use mathlib.Core.Bool.{true, false};
 ghost use Prim.Native.Nat.{ℕ, _+_, _*_, _/_, _≤_};
 ghost use lib.ListN.{length};
 ghost use Rattle.model.specs.Limits.{mostPages, mostLevels, pageSize};
-ghost use Rattle.model.specs.Reading.{lengthOk};
-ghost use Rattle.model.specs.BeforeWalk.{beforeWalk};
 ghost use Rattle.model.specs.WalkTests.{passingKind};
 ghost use Rattle.theory_check.specs.Marks.{IsMarks};
 ghost use Rattle.theory_check.specs.Walk.{state, nodeOf, listOf};
-ghost use Rattle.theory_check.specs.Check.{PassedBefore, walkOf, walkOk};
-ghost use Rattle.theory_check.specs.Widths.{widthsAfter};
+ghost use Rattle.theory_check.specs.Check.{PassedBefore};
 ghost use Rattle.theory_check.specs.Levels.{bytes};
 ghost use Rattle.read_nodes.specs.Leaf.{literalOf};
 ghost use Rattle.read_nodes.specs.Stand.{kindBy};
 ghost use Rattle.read_turns.specs.Going.{PartAt, Ended, Goal};
 ghost use Rattle.read_turns.specs.Steps.{Standing, NodeAt, Turned};
+ghost use Rattle.read_walk.specs.Asked.{Ready, Walked};
 
 // ── nodes and lists: all of it asks for the part before the walk ──
 
@@ -200,10 +198,8 @@ fn list_check<'a>(
 // Whether the walk from page 1, whose root is an aggregate, reaches every record page one time. It is made only where the part before it passes. What `back`
 // holds does not matter.
 pub fn walk_ok(image: &[u8], left: usize, widths: &mut [u32], back: &mut [u32]) -> bool
-    requires { ⌜ (lengthOk (length (now image)) ≡ true) × (beforeWalk (now image) ≡ true) × (1 ≤ left) × (left ≤ mostPages)
-        × (length (now image) ≤ pageSize * length (now widths)) × (length (now image) ≤ pageSize * length (now back)) ⌝ }
-    ensures { λ r. ⌜ (r ≡ walkOk (now (image .entry)) left)
-        × (r ≡ true → now (widths .exit) ≡ widthsAfter (walkOf (now (image .entry)) left .row) (now (widths .entry))) ⌝ }
+    requires { ⌜ Ready (now image) left (now widths) × (length (now image) ≤ pageSize * length (now back)) ⌝ }
+    ensures { λ r. ⌜ Walked (now (image .entry)) left (now (widths .entry)) (now (widths .exit)) r ⌝ }
 {
     if !tail_zero(image, 1) {
         return false;

@@ -16,8 +16,8 @@ use Rattle.read_walk.proofs.walk_ok.Tie as tie
 tail-zero-requires : tie.Need-tail-zero-requires
 tail-zero-requires c κs = let s = c .before .before .before in
     let img = now (s .args .image) in
-    let l = length-says (length img) (s .pre .0) in
-    (omega arith, omega (arith, l .few, l .whole), first-fits img (l .few) (s .pre .1))
+    let l = length-says (length img) (s .pre .0 .long) in
+    (omega arith, omega (arith, l .few, l .whole), first-fits img (l .few) (s .pre .0 .before))
 
 returns : tie.Need-returns
 unfolding walkOk
@@ -25,7 +25,7 @@ returns c = (simp (fails (c .before .tail-zero .ensures) (c .if1 .taken), and-fa
 
 record-end-requires : tie.Need-record-end-requires
 record-end-requires c κs = let s = c .before .before .before .before .before in
-    let l = length-says (length (now (s .args .image))) (s .pre .0) in
+    let l = length-says (length (now (s .args .image))) (s .pre .0 .long) in
     (omega arith, omega (arith, l .few, l .whole))
 
 sub-record : tie.Need-sub-record
@@ -37,8 +37,8 @@ part-record-start c = search needs
 part-record-end : tie.Need-part-record-end
 part-record-end c = let s = c .before .before .before .before .before .before in
     let img = now (s .args .image) in
-    let l = length-says (length img) (s .pre .0) in
-    omega (arith, l .few, l .whole, first-fits img (l .few) (s .pre .1), c .record-end .ensures)
+    let l = length-says (length img) (s .pre .0 .long) in
+    omega (arith, l .few, l .whole, first-fits img (l .few) (s .pre .0 .before), c .record-end .ensures)
 
 head-requires : tie.Need-head-requires
 head-requires c κs = search needs
@@ -49,19 +49,19 @@ returns-2 c = (first-bad _ _ _ (c .before .before .before .record-end .ensures) 
 node-check-requires : tie.Need-node-check-requires
 node-check-requires c κs = let s = c .before .before .before .before .before .before .before .before .before .before .before .before in
     let img = now (s .args .image) in
-    let l = length-says (length img) (s .pre .0) in
+    let l = length-says (length img) (s .pre .0 .long) in
     let k = c .before .before .before .before .head .ensures in
     let one = c .before .before .before .if2 .left in
     let r = c .before .before .before .before .before .before .record-end .ensures in (
       passing _ 0 1 (sym k ∙ one) (λ z. omega arith) .long,
       omega arith,
-      s .pre .2,
-      s .pre .3,
-      first-part img _ r (first-fits img (l .few) (s .pre .1)) (omega (arith, l .few, l .whole)),
-      (l .many, s .pre .1),
+      s .pre .0 .some,
+      s .pre .0 .few,
+      first-part img _ r (first-fits img (l .few) (s .pre .0 .before)) (omega (arith, l .few, l .whole)),
+      (l .many, s .pre .0 .before),
       marks-none,
-      s .pre .4,
-      s .pre .5,
+      s .pre .0 .wide,
+      s .pre .1,
     )
 
 same-length : tie.Need-same-length
