@@ -1,8 +1,10 @@
 -- The size of a table that has an entry for each page of an image.
 use mathlib.Core.Path.{_≡_, refl}
 use mathlib.Core.Bool.{Bool, true, false, cond}
-use Prim.Native.Nat.{ℕ, _*_, _≤_}
+use mathlib.Core.List.{List}
+use Prim.Native.Nat.{ℕ, zero, suc, _*_, _≤_}
 use native.Mathlib.Omega.{arith}
+use lib.ListN.{getD, replicate}
 use lib.Dec.{leb}
 use borrow.Author.Tests.{leb-true}
 use Rattle.model.specs.Limits.{mostPages, pageSize}
@@ -34,3 +36,12 @@ tables-fit n t e ok = rw e (go (takesFew n) refl)
     go : (b : Bool) → takesFew n ≡ b → n ≤ pageSize * entries (cond b Few Many)
     go true q = omega (arith, leb-true n _ q)
     go false q = let l = length-says n ok in omega (arith, l .whole, l .many)
+
+-- A table that has 0 for each page, as a new one has.
+abbrev pub Zeros : List ℕ → Type 0
+Zeros c = (q : ℕ) → getD c q 0 ≡ 0
+
+pub zeros : (n : ℕ) → Zeros (replicate n 0)
+zeros zero q = refl
+zeros (suc n) zero = refl
+zeros (suc n) (suc q) = zeros n q
