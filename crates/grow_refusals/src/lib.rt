@@ -52,12 +52,7 @@ fn kind_bad(kind: usize, len: usize) -> bool
 
 // The tests of the node at the byte `parent` as the parent of a new child: 8 for a literal, 9 if the child's number is above its number of children.
 // The search for the new node's spot is the test, so that the children are passed one time.
-fn try_parent(
-    image: &[u8],
-    widths: &[u32; Settings::PAGES],
-    parent: usize,
-    child: usize,
-) -> Admitted
+fn try_parent(image: &[u8], widths: &[u32], parent: usize, child: usize) -> Admitted
     requires { ⌜ ((n : Node) × ReadAt (now image) n parent) × Widths (now image) (now widths) ⌝ }
     ensures { λ r. ⌜ ((n : Node) → ReadAt (now (image .entry)) n parent → r .number ≡ parentNumber (n .kind) (n .children) child) ⌝ }
     ensures { λ r. ⌜ (r .number ≡ 0 → r .parent ≡ parent) ⌝ }
@@ -81,7 +76,7 @@ fn try_parent(
 // The tests of an insert in the order of the refusal table, 13 directly after 5.
 pub fn admit(
     image: &[u8],
-    widths: &[u32; Settings::PAGES],
+    widths: &[u32],
     path: &[u8],
     child: usize,
     kind: usize,

@@ -23,7 +23,7 @@ ghost use Rattle.read_climb.specs.Rise.{Rose, placeAtByte};
 ghost use Rattle.read_climb.specs.Search.{SomeRowAt, Search, Tracing, numberOf, wayOf, Wrote};
 
 // How many nodes the one at byte i shows: a proxy as many as its record, which `widths` has.
-fn nodes_in(image: &[u8], widths: &[u32; Settings::PAGES], i: usize) -> usize
+fn nodes_in(image: &[u8], widths: &[u32], i: usize) -> usize
     requires { ⌜ SomeRowAt (now image) i × Widths (now image) (now widths) ⌝ }
     ensures { λ r. ⌜ ((w : SomeRowAt (now (image .entry)) i) → r ≡ firstWidth (w .row)) ⌝ }
 {
@@ -41,7 +41,7 @@ struct Child {
 }
 
 // The node of the row at pos that holds byte target.
-fn child_at(image: &[u8], widths: &[u32; Settings::PAGES], pos: usize, target: usize) -> Child
+fn child_at(image: &[u8], widths: &[u32], pos: usize, target: usize) -> Child
     requires { ⌜ Search (now image) pos target × Widths (now image) (now widths) ⌝ }
     ensures { λ r. ⌜ ((w : Search (now (image .entry)) pos target) → (r .at ≡ spot (w .has)) × (r .before ≡ before (w .has))) ⌝ }
 {
@@ -64,7 +64,7 @@ struct Traced {
 // sought among those that it shows.
 fn trace(
     image: &[u8],
-    widths: &[u32; Settings::PAGES],
+    widths: &[u32],
     pos: usize,
     target: usize,
     carry: usize,
@@ -91,12 +91,7 @@ fn trace(
 }
 
 // Writes the path of the node at byte pos to the end of `path`, and gives where it starts. At most `left` records are above.
-fn climb_path(
-    image: &[u8],
-    widths: &[u32; Settings::PAGES],
-    pos: usize,
-    path: &mut [u8; Settings::PATH],
-) -> usize
+fn climb_path(image: &[u8], widths: &[u32], pos: usize, path: &mut [u8; Settings::PATH]) -> usize
     requires { ⌜ NodeAt (now image) pos × Widths (now image) (now widths) × (length (now path) ≡ longestPath) ⌝ }
     ensures { λ r. ⌜ ((w : NodeAt (now (image .entry)) pos) → Rose (w .root) (placeAtByte pos) r (now (path .exit))) × (length (now (path .exit))
         ≡ longestPath) ⌝ }
@@ -129,12 +124,7 @@ fn climb_path(
 }
 
 // Climb: writes the path of the node at a place to the front of the buffer; 10 where no node stands, 11 where the buffer is short.
-pub fn climb_of(
-    image: &[u8],
-    widths: &[u32; Settings::PAGES],
-    x: Place,
-    buffer: &mut [u8],
-) -> WriteAnswer
+pub fn climb_of(image: &[u8], widths: &[u32], x: Place, buffer: &mut [u8]) -> WriteAnswer
     requires { ⌜ (checkOf (now image) ≡ 0) × Widths (now image) (now widths) ⌝ }
     ensures { λ r. ⌜ (r ≡ climbOf (now (image .entry)) x (now (buffer .entry)) .0) × (now (buffer .exit)
         ≡ climbOf (now (image .entry)) x (now (buffer .entry)) .1) ⌝ }

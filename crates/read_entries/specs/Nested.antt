@@ -122,11 +122,11 @@ module _ {img : List ℕ} {t : ℕ} {g : Goal} {c : Cursor} {stack out : List �
   steps-is : steps (w .rest .row) ≡ steps (rec p (entered .settled) (entered .inside .row) (entered .after .row))
   steps-is = ap steps (entered .is)
 
-  pub named-inside : (c .i + 8 ≤ length img) × (p < mostPages)
+  pub named-inside : (c .i + 8 ≤ length img) × (pageSize * p + pageSize ≤ length img)
   named-inside =
       let x = w .rest .here in
       let z = ap size (entered .is) in
-      (omega (arith, x .room, x .on .inside), entered .on .high)
+      (omega (arith, x .room, x .on .inside), entered .on .inside)
 
   pub named-few : c .n + width (entered .inside .row) ≤ mostBytes
   named-few = omega (arith, steps-is, w .few, width-steps (entered .inside .row))

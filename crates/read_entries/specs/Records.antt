@@ -12,6 +12,7 @@ use Rattle.model.specs.Limits.{mostPages, pageSize, capacity}
 use Rattle.model.specs.Row.{count}
 use Rattle.model.specs.Reading.{kindAt, nameAt}
 use Rattle.theory_layout.specs.Here.{PageIn}
+use Rattle.base_ranges.specs.Tables.{Zeros}
 use Rattle.read_find.specs.Rowed.{startOn, endOn}
 use Rattle.read_cursor.specs.Way.{Way}
 use Rattle.read_cursor.specs.Going.{cursor, reached, Goal, Going}
@@ -146,7 +147,7 @@ pub record Walking (img : List ℕ) (t : ℕ) (final : Way × ℕ) (room : ℕ) 
   pub low : w .since ≤ w .depth
   pub deep : w .depth + g .depth ≤ mostPages
   pub once : (q : ℕ) → cond (eqb (getD back q 0) 0) 0 1 + g .names q + spared q holders ≤ 1
-  pub back-long : length back ≡ mostPages
+  pub back-long : length img ≤ pageSize * length back
   pub held-long : length held ≡ 75
 
 -- How many pages were not entered yet.
@@ -164,11 +165,6 @@ mark-low : (b : Bool) → cond b 0 1 ≤ 1
 mark-low true = omega arith
 mark-low false = omega arith
 
-none-entered : (n q : ℕ) → _≡_ {A = ℕ} (getD (replicate n 0) q 0) 0
-none-entered zero q = refl
-none-entered (suc n) zero = refl
-none-entered (suc n) (suc q) = none-entered n q
-
 -- What falls from turn to turn: pages that were not entered yet, records that the walk is in, and what is left of the record at hand.
 abbrev pub turns : (back : List ℕ) → Nest → Cursor → ℕ
 turns back w c = 16777344 * fresh back + 8388672 * w .depth + (2 * (4194304 - c .i) + (c .level - w .base))
@@ -183,15 +179,16 @@ pub walking-as : {img : List ℕ} {t : ℕ} {final : Way × ℕ} {room : ℕ} {b
 walking-as {img} {t} {final} {room} {stack = stack} {out} p q e f x =
     coe 1 0 (j. Walking img t final room (p j) (q j) (e j) (f j) stack out) x
 
--- The start.
+-- The start: no page was entered.
 module _ {img : List ℕ} (r : Rooted img) (t : ℕ) (out : List ℕ) where
   abbrev pub start : Goal
   start = goal (r .recorded) t 0 0 0 (replicate 75 0) out
 
-  pub walking-start : Walking img t (start .result) (length out) (replicate mostPages 0) (replicate 75 0) (nest 1 0 0)
+  pub walking-start : (back : List ℕ) → Zeros back → length img ≤ pageSize * length back
+      → Walking img t (start .result) (length out) back (replicate 75 0) (nest 1 0 0)
       (cursor (startOn img 1) (endOn img 1) 1 0 0 0) (replicate 75 0) out
   unfolding Chain spared
-  walking-start = record {
+  walking-start back none long = record {
     g = start;
     going =
         going-start (r .recorded) t 0 0 0 (replicate 75 0) out (record { low = omega arith; begun = λ z. absurd (z refl) }) (length-replicate {A = ℕ} 75 0)
@@ -202,8 +199,8 @@ module _ {img : List ℕ} (r : Rooted img) (t : ℕ) (out : List ℕ) where
     chain = record { on = r .recorded .on; ends = recorded-ends (r .recorded); stop-is = refl; room-is = refl; final-is = refl };
     low = omega arith;
     deep = omega arith;
-    once = λ q. rw (none-entered mostPages q) (omega (arith, r .once q));
-    back-long = length-replicate {A = ℕ} mostPages 0;
+    once = λ q. rw (none q) (omega (arith, r .once q));
+    back-long = long;
     held-long = length-replicate {A = ℕ} 75 0;
   }
 
@@ -252,7 +249,7 @@ module _ {img : List ℕ} {t : ℕ} {final : Way × ℕ} {room : ℕ} {back held
         go false e k = absurd (omega (arith, own-name))
 
     pub entered-less : fresh (set back p (c .i + 8)) + 1 ≡ fresh back
-    entered-less = fresh-set back p (c .i + 8) (omega (arith, x .back-long, entered (x .going) some kind p named .on .high)) entered-fresh (omega arith)
+    entered-less = fresh-set back p (c .i + 8) (omega (arith, x .back-long, entered (x .going) some kind p named .on .inside)) entered-fresh (omega arith)
 
     pub entered-deep : w .depth < mostPages
     entered-deep = omega (arith, x .deep, entered (x .going) some kind p named .below)
@@ -288,7 +285,7 @@ module _ {img : List ℕ} {t : ℕ} {final : Way × ℕ} {room : ℕ} {back held
     held-in : (b : Bool) → eqb (c .level) (w .base) ≡ b → Held b
     held-in true e =
         let level = eqb-true (c .level) (w .base) e in
-        let back-is = getD-set-same back p (c .i + 8) 0 (omega (arith, x .back-long, entered (x .going) some kind p named .on .high)) in
+        let back-is = getD-set-same back p (c .i + 8) 0 (omega (arith, x .back-long, entered (x .going) some kind p named .on .inside)) in
         record {
           link = record {
             goal-is = refl;
@@ -309,7 +306,7 @@ module _ {img : List ℕ} {t : ℕ} {final : Way × ℕ} {room : ℕ} {back held
         let two = set one (3 * c .level + 1) (w .base) in
         let long₁ = length-set held (3 * c .level) (c .end) in
         let long₂ = length-set one (3 * c .level + 1) (w .base) in
-        let back-is = getD-set-same back p (c .i + 8) 0 (omega (arith, x .back-long, entered (x .going) some kind p named .on .high)) in
+        let back-is = getD-set-same back p (c .i + 8) 0 (omega (arith, x .back-long, entered (x .going) some kind p named .on .inside)) in
         let end-is : getD (kept c w held) (3 * c .level) 0 ≡ c .end =
         getD-set-other two (3 * c .level + 2) (3 * c .level) (w .since) 0 (λ z. omega arith)
         ∙ getD-set-other one (3 * c .level + 1) (3 * c .level) (w .base) 0 (λ z. omega arith)
@@ -354,7 +351,7 @@ module _ {img : List ℕ} {t : ℕ} {final : Way × ℕ} {room : ℕ} {back held
           low = h .low;
           deep = omega (arith, x .deep, entered (x .going) some kind p named .below);
           once = once-in;
-          back-long = length-set back p (c .i + 8) ∙ x .back-long;
+          back-long = omega (arith, length-set back p (c .i + 8), x .back-long);
           held-long = h .long;
         }
 
@@ -412,7 +409,7 @@ module _ {img : List ℕ} {t : ℕ} {final : Way × ℕ} {room : ℕ} {back held
 
       leaving-one : Leaving img c w back
       leaving-one = record {
-        low = omega (arith, page-is, own-record .on .high);
+        low = omega (arith, page-is, own-record .on .inside, x .back-long);
         level = omega (arith, own-level, named-level (h .going) (h .some) (h .kind) (h .page) (h .is-named));
         fits = omega (arith, to-is, within (h .going) .1, h .some);
         around = λ z. subst (PageIn img) (sym (holder-page z .0)) (chain-page final room back held (h .since) (h .g) hs up .on);

@@ -1,5 +1,8 @@
 // Walk on an image that passes the check: entries of nine numbers, node by node in document order.
 use base_layout::name_at;
+use base_ranges::FEW;
+use base_ranges::Tables;
+use base_ranges::tables_for;
 use model::Place;
 use model::Settings;
 use model::WalkAnswer;
@@ -20,11 +23,14 @@ use read_next::node_at;
 ghost use mathlib.Core.Path.{_≡_};
 ghost use mathlib.Core.Bool.{true};
 ghost use mathlib.Core.List.{List};
-ghost use Prim.Native.Nat.{ℕ, _+_, _≤_, _<_};
+ghost use Prim.Native.Nat.{ℕ, _+_, _*_, _≤_, _<_};
 ghost use lib.ListN.{length};
+ghost use Rattle.model.specs.Limits.{mostPages, pageSize};
+ghost use Rattle.model.specs.Reading.{lengthOk};
 ghost use Rattle.model.specs.Calls.Check.{checkOf};
 ghost use Rattle.model.specs.Calls.Walk.{walkOf};
 ghost use Rattle.theory_layout.specs.Widths.{Widths};
+ghost use Rattle.base_ranges.specs.Tables.{fewPages, Zeros};
 ghost use Rattle.read_find.specs.Rowed.{startOn};
 ghost use Rattle.read_cursor.specs.Way.{way, visits};
 ghost use Rattle.read_cursor.specs.Meets.{meets};
@@ -116,19 +122,20 @@ fn run(
 // ── from record to record ──
 
 // A walk over the record on page 1 and all records below it, each where its proxy stands; once the walk has stopped, `widths` has how many nodes each shows.
+// `back` keeps the ways out of the records: at the start it has none.
 fn walk_records(
     image: &[u8],
-    widths: &[u32; Settings::PAGES],
+    widths: &[u32],
     target: usize,
+    back: &mut [u32],
     out: &mut [u32],
 ) -> Cursor
-    requires { ⌜ Rooted (now image) × Widths (now image) (now widths) ⌝ }
+    requires { ⌜ Rooted (now image) × Widths (now image) (now widths) × Zeros (now back) × (length (now image) ≤ pageSize * length (now back)) ⌝ }
     ensures { λ r. ⌜ ((w : Rooted (now (image .entry))) → reached r (now (out .exit))
         ≡ visits target (way 0 0 (now (out .entry))) (meets 1 (startOn (now (image .entry)) 1) (w .recorded .rowed .row))) ⌝ }
 {
     let mut stack = [0usize; STACK];
     let mut held = [0usize; STACK];
-    let mut back = [0u32; Settings::PAGES];
     let mut c = first(image, 1, 1, 0, 0, 0);
     let mut w = Nest {
         base: 1,
@@ -145,7 +152,7 @@ fn walk_records(
                 if w.depth == 0 {
                     return d;
                 }
-                c = behind_record(image, d, w, &back, &held);
+                c = behind_record(image, d, w, back, &held);
                 w = around(d, w, &held);
             }
         } else if image[i] != 3 {
@@ -155,22 +162,47 @@ fn walk_records(
             if d.next != 0 {
                 c = behind(d, widths[p] as usize);
             } else {
-                w = into_record(d, w, p, &mut back, &mut held);
+                w = into_record(d, w, p, back, &mut held);
                 c = first(image, p, d.level, d.n, d.at, d.next);
             }
         }
     }
 }
 
+fn walk_few(image: &[u8], widths: &[u32], target: usize, out: &mut [u32]) -> Cursor
+    requires { ⌜ Rooted (now image) × Widths (now image) (now widths) × (length (now image) ≤ pageSize * fewPages) ⌝ }
+    ensures { λ r. ⌜ ((w : Rooted (now (image .entry))) → reached r (now (out .exit))
+        ≡ visits target (way 0 0 (now (out .entry))) (meets 1 (startOn (now (image .entry)) 1) (w .recorded .rowed .row))) ⌝ }
+{
+    let mut back = [0u32; FEW];
+    walk_records(image, widths, target, &mut back, out)
+}
+
+fn walk_many(image: &[u8], widths: &[u32], target: usize, out: &mut [u32]) -> Cursor
+    requires { ⌜ Rooted (now image) × Widths (now image) (now widths) × (length (now image) ≤ pageSize * mostPages) ⌝ }
+    ensures { λ r. ⌜ ((w : Rooted (now (image .entry))) → reached r (now (out .exit))
+        ≡ visits target (way 0 0 (now (out .entry))) (meets 1 (startOn (now (image .entry)) 1) (w .recorded .rowed .row))) ⌝ }
+{
+    let mut back = [0u32; Settings::PAGES];
+    walk_records(image, widths, target, &mut back, out)
+}
+
+// The walk, with ways out of the size that the image takes.
+fn walk(image: &[u8], widths: &[u32], target: usize, out: &mut [u32]) -> Cursor
+    requires { ⌜ Rooted (now image) × Widths (now image) (now widths) × (lengthOk (length (now image)) ≡ true) ⌝ }
+    ensures { λ r. ⌜ ((w : Rooted (now (image .entry))) → reached r (now (out .exit))
+        ≡ visits target (way 0 0 (now (out .entry))) (meets 1 (startOn (now (image .entry)) 1) (w .recorded .rowed .row))) ⌝ }
+{
+    match tables_for(image.len()) {
+        Tables::Few => walk_few(image, widths, target, out),
+        Tables::Many => walk_many(image, widths, target, out),
+    }
+}
+
 // ── the call ──
 
 // Walk: 0, or 10 where the place is no node's.
-pub fn walk_of(
-    image: &[u8],
-    widths: &[u32; Settings::PAGES],
-    x: Place,
-    out: &mut [u32],
-) -> WalkAnswer
+pub fn walk_of(image: &[u8], widths: &[u32], x: Place, out: &mut [u32]) -> WalkAnswer
     requires { ⌜ (checkOf (now image) ≡ 0) × Widths (now image) (now widths) ⌝ }
     ensures answer { λ r. ⌜ r ≡ walkOf (now (image .entry)) x (now (out .entry)) .0 ⌝ }
     ensures out { λ _. ⌜ now (out .exit) ≡ walkOf (now (image .entry)) x (now (out .entry)) .1 ⌝ }
@@ -184,7 +216,7 @@ pub fn walk_of(
             next: Place { page: 0, offset: 0 },
         };
     }
-    let r = walk_records(image, widths, target, out);
+    let r = walk(image, widths, target, out);
     let next = r.next;
     WalkAnswer {
         number: 0,

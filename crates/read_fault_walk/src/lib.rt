@@ -30,7 +30,7 @@ fn row_walk(
     mut level: usize,
     left: usize,
     marks: &mut [u8; Settings::MARKS],
-    back: &mut [u32; Settings::PAGES],
+    back: &mut [u32],
 ) -> Walked
     requires { ⌜ PassedBefore (now image) × Within (now image) start stop holder level × (start ≤ stop) × (holder ≡ 0 → ⊥)
         × IsMarks (now marks) × (length (now back) ≡ mostPages) ⌝ }

@@ -40,7 +40,7 @@ pub fn row_end(image: &[u8], p: usize) -> usize
 }
 
 // How many nodes the row from pos to end shows. `widths` has how many each record shows.
-pub fn width(image: &[u8], widths: &[u32; Settings::PAGES], pos: usize, end: usize) -> usize
+pub fn width(image: &[u8], widths: &[u32], pos: usize, end: usize) -> usize
     requires { ⌜ Rowed (now image) pos end mostPages × Widths (now image) (now widths) ⌝ }
     ensures { λ r. ⌜ ((w : Rowed (now (image .entry)) pos end mostPages) → r ≡ tree.width (w .row)) ⌝ }
 {
@@ -66,14 +66,7 @@ pub struct NthNode {
 }
 
 // Node k of those that the row from pos to end shows. `widths` has how many nodes each record shows, so that only the records that hold the node are read.
-pub fn nth(
-    image: &[u8],
-    widths: &[u32; Settings::PAGES],
-    pos: usize,
-    end: usize,
-    k: usize,
-    depth: usize,
-) -> NthNode
+pub fn nth(image: &[u8], widths: &[u32], pos: usize, end: usize, k: usize, depth: usize) -> NthNode
     requires { ⌜ Rowed (now image) pos end depth × Widths (now image) (now widths) ⌝ }
     ensures { λ r. ⌜ ((w : Rowed (now (image .entry)) pos end depth) → r ≡ nthOf pos (w .row) k) ⌝ }
 {
@@ -136,7 +129,7 @@ fn found(pos: usize) -> FindAnswer
 }
 
 // Find, on an image that passes the check: the place of the node that the path names.
-pub fn find_in(image: &[u8], widths: &[u32; Settings::PAGES], path: &[u8]) -> FindAnswer
+pub fn find_in(image: &[u8], widths: &[u32], path: &[u8]) -> FindAnswer
     requires { ⌜ (checkOf (now image) ≡ 0) × Widths (now image) (now widths) ⌝ }
     ensures { λ r. ⌜ r ≡ findOf (now (image .entry)) (now (path .entry)) ⌝ }
 {

@@ -3,9 +3,9 @@ use mathlib.Core.Path.{_≡_}
 use mathlib.Core.Bool.{cond}
 use mathlib.Core.List.{List}
 use Prim.Native.Nat.{ℕ, _+_, _*_, _-_, _/_, _≤_, _<_}
-use lib.ListN.{getD, set}
+use lib.ListN.{length, getD, set}
 use lib.Dec.{eqb}
-use Rattle.model.specs.Limits.{mostLevels, mostPages, pageSize}
+use Rattle.model.specs.Limits.{mostLevels, pageSize}
 use Rattle.theory_layout.specs.Here.{PageIn}
 use Rattle.read_find.specs.Rowed.{endOn}
 use Rattle.read_cursor.specs.Going.{cursor}
@@ -43,7 +43,7 @@ outer c w held =
     nest (cond inAggregate (getD held (3 * c .level + 1) 0) (w .base)) (w .depth - 1) (cond inAggregate (getD held (3 * c .level + 2) 0) (w .since))
 
 pub record Leaving (img : List ℕ) (c : Cursor) (w : Nest) (back : List ℕ) : Type 0 where
-  pub low : c .i / pageSize < mostPages
+  pub low : c .i / pageSize < length back
   pub level : c .level ≤ mostLevels
   pub fits : wayOut c back < 4294967296
   pub around : (w .depth ≡ w .since → ⊥) → PageIn img (wayOut c back / pageSize)

@@ -7,7 +7,7 @@ use read_find::row_start;
 ghost use mathlib.Core.Path.{_≡_};
 ghost use mathlib.Core.Bool.{cond};
 ghost use Prim.Native.Nat.{_+_, _/_, _≤_, _<_};
-ghost use lib.ListN.{set};
+ghost use lib.ListN.{length, set};
 ghost use lib.Dec.{eqb};
 ghost use Rattle.model.specs.Limits.{mostPages, mostLevels, pageSize};
 ghost use Rattle.theory_layout.specs.Here.{PageIn};
@@ -59,10 +59,10 @@ pub fn into_record(
     c: Cursor,
     w: Nest,
     p: usize,
-    back: &mut [u32; Settings::PAGES],
+    back: &mut [u32],
     held: &mut [usize; STACK],
 ) -> Nest
-    requires { ⌜ (c .i < 4194304) × (p < mostPages) × (c .level ≤ mostLevels) × (w .depth < mostPages) ⌝ }
+    requires { ⌜ (c .i < 4194304) × (p < length (now back)) × (c .level ≤ mostLevels) × (w .depth < mostPages) ⌝ }
     ensures nest { λ r. ⌜ r ≡ inner c w ⌝ }
     ensures back { λ _. ⌜ now (back .exit) ≡ set (now (back .entry)) p (c .i + 8) ⌝ }
     ensures held { λ _. ⌜ now (held .exit) ≡ heldIn c w (now (held .entry)) ⌝ }
@@ -104,7 +104,7 @@ pub fn behind_record(
     image: &[u8],
     c: Cursor,
     w: Nest,
-    back: &[u32; Settings::PAGES],
+    back: &[u32],
     held: &[usize; STACK],
 ) -> Cursor
     requires { ⌜ Leaving (now image) c w (now back) ⌝ }

@@ -231,7 +231,7 @@ pub fn next_of(image: &[u8], x: Place) -> NextAnswer
 // ── a node's numbers ──
 
 // An aggregate's; `widths` has how many nodes each record shows.
-fn read_agg(image: &[u8], widths: &[u32; Settings::PAGES], pos: usize) -> ReadNode
+fn read_agg(image: &[u8], widths: &[u32], pos: usize) -> ReadNode
     requires { ⌜ (pos + 5 < length (now image)) × (pos < mostBytes) × Inner (now image) pos × Widths (now image) (now widths) ⌝ }
     ensures { λ r. ⌜ ((w : Inner (now (image .entry)) pos) → r ≡ aggRead (now (image .entry)) pos (w .row)) ⌝ }
 {
@@ -281,7 +281,7 @@ fn read_lit(image: &[u8], pos: usize) -> ReadNode
 }
 
 // Read: 0, or 10 where the place is no node's; the content is a part of the image.
-pub fn read_of(image: &[u8], widths: &[u32; Settings::PAGES], x: Place) -> ReadNode
+pub fn read_of(image: &[u8], widths: &[u32], x: Place) -> ReadNode
     requires { ⌜ (checkOf (now image) ≡ 0) × Widths (now image) (now widths) ⌝ }
     ensures { λ r. ⌜ r ≡ readOf (now (image .entry)) x ⌝ }
 {

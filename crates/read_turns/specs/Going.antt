@@ -149,7 +149,8 @@ module _ (img : List ℕ) (page level last : ℕ) where
 
 -- ── a turn ──
 
--- What a list is to come to: its own row, on a page, ends at the byte `last`; the outcome; pages left, bytes of its part, marks and ways back at its start.
+-- What a list is to come to: its own row, on a page, ends at the byte `last`; the outcome; pages left, bytes of its part, marks, widths and ways back at its
+-- start.
 pub record Goal : Type 0 where
   pub page : ℕ
   pub level : ℕ
@@ -158,9 +159,10 @@ pub record Goal : Type 0 where
   pub left : ℕ
   pub long : ℕ
   pub marks : List ℕ
+  pub widths : List ℕ
   pub back : List ℕ
 
--- Its own row stands in the image, and its numbers are in range.
+-- Its own row stands in the image, its numbers are in range, and the tables have an entry for each page.
 pub record Own (img : List ℕ) (g : Goal) : Type 0 where
   pub inside : g .last ≤ length img
   pub end : g .last ≤ pageSize * g .page + capacity
@@ -168,6 +170,8 @@ pub record Own (img : List ℕ) (g : Goal) : Type 0 where
   pub deep : g .level ≤ mostLevels + 1
   pub few : g .left ≤ mostPages
   pub short : g .long ≤ capacity
+  pub wide : length img ≤ pageSize * length (g .widths)
+  pub back-long : length img ≤ pageSize * length (g .back)
 
 -- The list from byte `at` of the image on, whose row ends at `end`, n nodes being passed and so many records open, comes to what the whole is to come to.
 pub record Going (img : List ℕ) (g : Goal) (marks widths back : List ℕ) (may : Kinds) (cur n depth at end : ℕ) : Type 0 where
@@ -182,8 +186,8 @@ pub record Going (img : List ℕ) (g : Goal) (marks widths back : List ℕ) (may
   pub is-marks : IsMarks marks
   pub on : (q : ℕ) → q < mostPages → isMarked (g .marks) q ≡ true → isMarked marks q ≡ true
   pub kept : (q : ℕ) → q < mostPages → isMarked (g .marks) q ≡ true → getD back q 0 ≡ getD (g .back) q 0
-  pub wide : length widths ≡ mostPages
-  pub back-long : length back ≡ mostPages
+  pub wide : length widths ≡ length (g .widths)
+  pub back-long : length back ≡ length (g .back)
   pub few : cur ≤ g .left
   pub fewer : 1 ≤ depth → cur < g .left
   pub falls : n + 8192 * cur + 4096 * depth + (end - at) ≤ 8192 * g .left + g .long
@@ -257,7 +261,7 @@ module _ {img : List ℕ} {g : Goal} (own : Own img g) where
 
       -- past a node
       pub going-turn : (r : ℕ) (m new b : List ℕ) → first .walk ≡ state r m → new ≡ widthsAfter (first .row) widths → width (first .row) ≡ 1
-          → ((q : ℕ) → q < mostPages → isMarked marks q ≡ true → getD b q 0 ≡ getD back q 0) → length b ≡ mostPages
+          → ((q : ℕ) → q < mostPages → isMarked marks q ≡ true → getD b q 0 ≡ getD back q 0) → length b ≡ length (g .back)
           → Going img g m new b may r (n + 1) depth (at + size) end
       going-turn r m new b walk table one-wide stays long =
           let a = first in
@@ -337,8 +341,8 @@ module _ {img : List ℕ} {g : Goal} (own : Own img g) where
                 inside = x .names .inside;
                 used = x .names .used;
                 marked = own-mark;
-                to = getD-set-same back p (at + size) 0 (omega (arith, now .back-long));
-                passed = getD-set-same widths p n 0 (omega (arith, now .wide));
+                to = getD-set-same back p (at + size) 0 (omega (arith, now .back-long, own .back-long, x .names .inside));
+                passed = getD-set-same widths p n 0 (omega (arith, now .wide, own .wide, x .names .inside));
                 few = omega arith;
                 place = omega (arith, s, pg, e1, e2);
                 within = omega (arith, s, e1);
@@ -362,7 +366,7 @@ module _ {img : List ℕ} {g : Goal} (own : Own img g) where
           → entersOf img p (at / pageSize) here-state ≡ true
           → let d = nodeOf img (recordOf img p) p 0 (g .level) (withMark here-state p) in
           d .walk ≡ state r m → new ≡ widthsAfter (d .row) widths → width (d .row) ≡ 1
-          → ((q : ℕ) → q < mostPages → isMarked (marked marks p) q ≡ true → getD b q 0 ≡ getD back q 0) → length b ≡ mostPages
+          → ((q : ℕ) → q < mostPages → isMarked (marked marks p) q ≡ true → getD b q 0 ≡ getD back q 0) → length b ≡ length (g .back)
           → Going img g m (set new p 1) b may r (n + 1) depth (at + size) end
       unfolding widthsAfter
       going-record p r m new b eight name proxy enters walk table one-wide stays long =
@@ -391,7 +395,7 @@ module _ {img : List ℕ} {g : Goal} (own : Own img g) where
 
   -- What the tables say of the innermost record, at whose end the list is, and how it goes on.
   pub record Out (marks widths back : List ℕ) (cur n depth at : ℕ) : Type 0 where
-    pub low : at / pageSize < mostPages
+    pub inside : pageSize * (at / pageSize) + pageSize ≤ length img
     pub few : getD widths (at / pageSize) 0 ≤ n
     pub fits : getD back (at / pageSize) 0 ≤ length img
     pub own-row : depth - 1 ≡ 0 → Going img g marks (set widths (at / pageSize) (n - getD widths (at / pageSize) 0)) back (kindsIn 1) cur n (depth - 1)
@@ -499,7 +503,7 @@ module _ {img : List ℕ} {g : Goal} (own : Own img g) where
             let b = passed-is f fs k i h c w in
             let y = next' f fs k i h c w in
             record {
-              low = omega (arith, x .low);
+              inside = omega (arith, x .inside);
               few = omega (arith, x .few);
               fits = omega (arith, x .within, o);
               own-row = λ z. own-case f fs k z y;

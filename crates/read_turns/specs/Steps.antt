@@ -79,6 +79,13 @@ module _ {img marks widths back : List ℕ} {g : Goal} {w : Walker} (s : Standin
       let i = at-in (s .own) (s .at) in
       record { count = omega arith; depth = omega arith; at = omega arith }
 
+  -- the tables have an entry for each page
+  pub standing-wide : length img ≤ pageSize * length widths
+  standing-wide = omega (arith, s .at .0 .wide, s .own .wide)
+
+  pub standing-back : length img ≤ pageSize * length back
+  standing-back = omega (arith, s .at .0 .back-long, s .own .back-long)
+
   -- the row at hand: where it is cut from the image
   pub standing-in : (w .end ≤ length img) × (w .at ≤ w .end) × (w .at / pageSize < mostPages) × (w .end ≤ pageSize * (w .at / pageSize) + capacity)
   standing-in = at-in (s .own) (s .at)
@@ -139,7 +146,7 @@ module _ {img marks widths back : List ℕ} {g : Goal} {w : Walker} (s : Standin
     to = getD back page 0
 
     pub record Leaving : Type 0 where
-      pub low : page < mostPages
+      pub inside : pageSize * page + pageSize ≤ length img
       pub few : getD widths page 0 ≤ w .count
       pub fits : to ≤ length img
       pub outer : (w .depth - 1 ≡ 0 → ⊥) → (to / pageSize < mostPages) × (pageSize * (to / pageSize) + pageSize ≤ length img)
@@ -147,7 +154,7 @@ module _ {img marks widths back : List ℕ} {g : Goal} {w : Walker} (s : Standin
     pub leaving : Leaving
     leaving =
         let o = at-out (s .own) (s .at) (sym over) in-one in
-        record { low = o .low; few = o .few; fits = o .fits; outer = λ z. let r = o .outer-row z in (r .0, r .1) }
+        record { inside = o .inside; few = o .few; fits = o .fits; outer = λ z. let r = o .outer-row z in (r .0, r .1) }
 
     abbrev table : List ℕ
     table = set widths page (w .count - getD widths page 0)

@@ -40,6 +40,7 @@ goalOf img part start level left marks widths back = record {
   left = left;
   long = length part;
   marks = marks;
+  widths = widths;
   back = back;
 }
 
@@ -47,14 +48,24 @@ abbrev pub At : (img : List ℕ) → Goal → (marks widths back : List ℕ) →
 At img g marks widths back may cur n depth at end = Going img g marks widths back may cur n depth at end × (1 ≤ cur)
 
 module _ (img part : List ℕ) (start level left : ℕ) (marks widths back : List ℕ) (p : PartAt img part start) where
-  pub own-of : level ≤ mostLevels + 1 → left ≤ mostPages → Own img (goalOf img part start level left marks widths back)
-  own-of deep few = record { inside = p .inside; end = p .page; low = p .low; deep = deep; few = few; short = omega (arith, p .page) }
+  pub own-of : level ≤ mostLevels + 1 → left ≤ mostPages → length img ≤ pageSize * length widths → length img ≤ pageSize * length back
+      → Own img (goalOf img part start level left marks widths back)
+  own-of deep few w b = record {
+    inside = p .inside;
+    end = p .page;
+    low = p .low;
+    deep = deep;
+    few = few;
+    short = omega (arith, p .page);
+    wide = w;
+    back-long = b;
+  }
 
   -- at its start
-  pub at-start : IsMarks marks → length widths ≡ mostPages → length back ≡ mostPages → 1 ≤ left → (may : Kinds) → may ≡ kindsIn 1
+  pub at-start : IsMarks marks → 1 ≤ left → (may : Kinds) → may ≡ kindsIn 1
       → At img (goalOf img part start level left marks widths back) marks widths back may left 0 0 start (start + length part)
   unfolding Chain
-  at-start m w b l may e = (
+  at-start m l may e = (
     record {
       frames = [];
       whole =
@@ -69,8 +80,8 @@ module _ (img part : List ℕ) (start level left : ℕ) (marks widths back : Lis
       is-marks = m;
       on = λ q i e. e;
       kept = λ q i e. refl;
-      wide = w;
-      back-long = b;
+      wide = refl;
+      back-long = refl;
       few = omega arith;
       fewer = λ h. absurd (omega arith);
       falls = omega arith;
@@ -332,7 +343,7 @@ module _ {img : List ℕ} {g : Goal} (own : Own img g) {marks widths back : List
 
               -- another root, from what the walk over it comes to
               root-turn : (r : ℕ) (m new b : List ℕ) → d .walk ≡ state r m → new ≡ widthsAfter (d .row) widths → 1 ≤ root → root ≤ 2 → (r ≡ 0 → ⊥)
-                  → ((q : ℕ) → q < mostPages → isMarked (marked marks p) q ≡ true → getD b q 0 ≡ getD back q 0) → length b ≡ mostPages
+                  → ((q : ℕ) → q < mostPages → isMarked (marked marks p) q ≡ true → getD b q 0 ≡ getD back q 0) → length b ≡ length (g .back)
                   → At img g m (set new p 1) b may r (n + 1) depth (at + size) end
               root-turn r m new b walk table low high z stays long-b =
                   let left : d .walk .left ≡ r = ap (λ (v : State). v .left) walk in (

@@ -19,21 +19,19 @@ use read_walker::reach;
 use read_walker::refused;
 ghost use mathlib.Core.Path.{_≡_};
 ghost use mathlib.Core.Bool.{true, false};
-ghost use Prim.Native.Nat.{ℕ, _+_, _/_, _≤_};
+ghost use Prim.Native.Nat.{ℕ, _+_, _*_, _/_, _≤_};
 ghost use lib.ListN.{length};
 ghost use Rattle.model.specs.Limits.{mostPages, mostLevels, pageSize};
-ghost use Rattle.model.specs.Reading.{lengthOk};
-ghost use Rattle.model.specs.BeforeWalk.{beforeWalk};
 ghost use Rattle.model.specs.WalkTests.{passingKind};
 ghost use Rattle.theory_check.specs.Marks.{IsMarks};
 ghost use Rattle.theory_check.specs.Walk.{state, nodeOf, listOf};
-ghost use Rattle.theory_check.specs.Check.{PassedBefore, walkOf, walkOk};
-ghost use Rattle.theory_check.specs.Widths.{widthsAfter};
+ghost use Rattle.theory_check.specs.Check.{PassedBefore};
 ghost use Rattle.theory_check.specs.Levels.{bytes};
 ghost use Rattle.read_nodes.specs.Leaf.{literalOf};
 ghost use Rattle.read_nodes.specs.Stand.{kindBy};
 ghost use Rattle.read_turns.specs.Going.{PartAt, Ended, Goal};
 ghost use Rattle.read_turns.specs.Steps.{Standing, NodeAt, Turned};
+ghost use Rattle.read_walk.specs.Asked.{Ready, Walked};
 
 // ── nodes and lists: all of it asks for the part before the walk ──
 
@@ -45,12 +43,12 @@ fn node_check<'a>(
     level: usize,
     left: usize,
     marks: &mut [u8; Settings::MARKS],
-    widths: &mut [u32; Settings::PAGES],
-    back: &mut [u32; Settings::PAGES],
+    widths: &mut [u32],
+    back: &mut [u32],
 ) -> usize
     requires { ⌜ (6 ≤ length (now part)) × (level ≤ mostLevels + 1) × (1 ≤ left) × (left ≤ mostPages)
         × PartAt (now image) (now part) at × PassedBefore (now image) × IsMarks (now marks)
-        × (length (now widths) ≡ mostPages) × (length (now back) ≡ mostPages) ⌝ }
+        × (length (now image) ≤ pageSize * length (now widths)) × (length (now image) ≤ pageSize * length (now back)) ⌝ }
     ensures { λ r. ⌜ ((holder : ℕ) → 1 ≡ passingKind (now (part .entry)) holder
         → Ended (nodeOf (now (image .entry)) (now (part .entry)) (at / pageSize) holder level (state left (now (marks .entry))))
         r (now (marks .entry)) (now (marks .exit)) (now (widths .entry)) (now (widths .exit)) (now (back .entry)) (now (back .exit))) ⌝ }
@@ -79,8 +77,8 @@ fn proxy_check<'a>(
     node: &'a [u8],
     w: Walker,
     marks: &mut [u8; Settings::MARKS],
-    widths: &mut [u32; Settings::PAGES],
-    back: &mut [u32; Settings::PAGES],
+    widths: &mut [u32],
+    back: &mut [u32],
 ) -> Walker
     requires { ⌜ PassedBefore (now image) × NodeAt (now image) (now node) w × (3 ≡ kindBy (now node) (w .kinds))
         × ((g : Goal) × Standing (now image) g (now marks) (now widths) (now back) w) ⌝ }
@@ -120,8 +118,8 @@ fn part_check<'a>(
     node: &'a [u8],
     w: Walker,
     marks: &mut [u8; Settings::MARKS],
-    widths: &mut [u32; Settings::PAGES],
-    back: &mut [u32; Settings::PAGES],
+    widths: &mut [u32],
+    back: &mut [u32],
 ) -> Walker
     requires { ⌜ PassedBefore (now image) × NodeAt (now image) (now node) w
         × (literalOf (bytes (now image) (w .at) (w .end)) (length (now node)) (w .kinds .literal) (w .level) ≡ false)
@@ -153,12 +151,12 @@ fn list_check<'a>(
     level: usize,
     left: usize,
     marks: &mut [u8; Settings::MARKS],
-    widths: &mut [u32; Settings::PAGES],
-    back: &mut [u32; Settings::PAGES],
+    widths: &mut [u32],
+    back: &mut [u32],
 ) -> usize
     requires { ⌜ (level ≤ mostLevels + 1) × (1 ≤ left) × (left ≤ mostPages)
         × PartAt (now image) (now part) start × PassedBefore (now image) × IsMarks (now marks)
-        × (length (now widths) ≡ mostPages) × (length (now back) ≡ mostPages) ⌝ }
+        × (length (now image) ≤ pageSize * length (now widths)) × (length (now image) ≤ pageSize * length (now back)) ⌝ }
     ensures { λ r. ⌜ Ended (listOf (now (image .entry)) (now (part .entry)) (start / pageSize) 1 level (state left (now (marks .entry))))
         r (now (marks .entry)) (now (marks .exit)) (now (widths .entry)) (now (widths .exit)) (now (back .entry)) (now (back .exit)) ⌝ }
 {
@@ -197,12 +195,11 @@ fn list_check<'a>(
 
 // ── from page 1 ──
 
-// Whether the walk from page 1, whose root is an aggregate, reaches every record page one time. It is made only where the part before it passes.
-pub fn walk_ok(image: &[u8], left: usize, widths: &mut [u32; Settings::PAGES]) -> bool
-    requires { ⌜ (lengthOk (length (now image)) ≡ true) × (beforeWalk (now image) ≡ true) × (1 ≤ left) × (left ≤ mostPages)
-        × (length (now widths) ≡ mostPages) ⌝ }
-    ensures { λ r. ⌜ (r ≡ walkOk (now (image .entry)) left)
-        × (r ≡ true → now (widths .exit) ≡ widthsAfter (walkOf (now (image .entry)) left .row) (now (widths .entry))) ⌝ }
+// Whether the walk from page 1, whose root is an aggregate, reaches every record page one time. It is made only where the part before it passes. What `back`
+// holds does not matter.
+pub fn walk_ok(image: &[u8], left: usize, widths: &mut [u32], back: &mut [u32]) -> bool
+    requires { ⌜ Ready (now image) left (now widths) × (length (now image) ≤ pageSize * length (now back)) ⌝ }
+    ensures { λ r. ⌜ Walked (now (image .entry)) left (now (widths .entry)) (now (widths .exit)) r ⌝ }
 {
     if !tail_zero(image, 1) {
         return false;
@@ -213,7 +210,6 @@ pub fn walk_ok(image: &[u8], left: usize, widths: &mut [u32; Settings::PAGES]) -
         return false;
     }
     let mut marks = [0u8; Settings::MARKS];
-    let mut back = [0u32; Settings::PAGES];
     let r = node_check(
         image,
         record,
@@ -222,7 +218,7 @@ pub fn walk_ok(image: &[u8], left: usize, widths: &mut [u32; Settings::PAGES]) -
         left,
         &mut marks,
         widths,
-        &mut back,
+        back,
     );
     r == 1
 }

@@ -88,14 +88,8 @@ pub fn reach(
 
 // Into the record of a helper on page p, which ends at `end`. A helper is no level. Until the list comes out, `widths` has how many nodes were passed before
 // the record, and `back` where in the image the list goes on behind its proxy.
-pub fn enter(
-    w: Walker,
-    p: usize,
-    end: usize,
-    widths: &mut [u32; Settings::PAGES],
-    back: &mut [u32; Settings::PAGES],
-) -> Walker
-    requires { ⌜ Fits w × (1 ≤ w .left) × (p < mostPages) × (length (now widths) ≡ mostPages) × (length (now back) ≡ mostPages) ⌝ }
+pub fn enter(w: Walker, p: usize, end: usize, widths: &mut [u32], back: &mut [u32]) -> Walker
+    requires { ⌜ Fits w × (1 ≤ w .left) × (p < mostPages) × (p < length (now widths)) × (p < length (now back)) ⌝ }
     ensures walker { λ r. ⌜ r ≡ walker (kindsIn 4) (w .left - 1) (w .count) (w .depth + 1) (pageSize * p + 6) end (w .level) ⌝ }
     ensures widths { λ _. ⌜ now (widths .exit) ≡ set (now (widths .entry)) p (w .count) ⌝ }
     ensures back { λ _. ⌜ now (back .exit) ≡ set (now (back .entry)) p (w .at + 8) ⌝ }
@@ -114,15 +108,10 @@ pub fn enter(
 }
 
 // Out of the record of a helper, at whose end the list is: its width is known now. `last` is where the list's own row ends.
-pub fn leave(
-    image: &[u8],
-    w: Walker,
-    last: usize,
-    widths: &mut [u32; Settings::PAGES],
-    back: &[u32; Settings::PAGES],
-) -> Walker
-    requires { ⌜ Fits w × (1 ≤ w .depth) × (w .at / pageSize < mostPages) × (getD (now widths) (w .at / pageSize) 0 ≤ w .count)
-        × (length (now widths) ≡ mostPages) × (length (now back) ≡ mostPages) × (getD (now back) (w .at / pageSize) 0 ≤ length (now image))
+pub fn leave(image: &[u8], w: Walker, last: usize, widths: &mut [u32], back: &[u32]) -> Walker
+    requires { ⌜ Fits w × (1 ≤ w .depth) × (pageSize * (w .at / pageSize) + pageSize ≤ length (now image))
+        × (getD (now widths) (w .at / pageSize) 0 ≤ w .count) × (length (now image) ≤ pageSize * length (now widths))
+        × (length (now image) ≤ pageSize * length (now back)) × (getD (now back) (w .at / pageSize) 0 ≤ length (now image))
         × ((w .depth - 1 ≡ 0 → ⊥) → (getD (now back) (w .at / pageSize) 0 / pageSize < mostPages)
         × (pageSize * (getD (now back) (w .at / pageSize) 0 / pageSize) + pageSize ≤ length (now image))) ⌝ }
     ensures walker { λ r. ⌜ r ≡ outOf (now (image .entry)) w last (getD (now (back .entry)) (w .at / pageSize) 0) ⌝ }

@@ -23,7 +23,7 @@ pub struct Standing {
 }
 
 // Where child k of the aggregate at the byte `parent` of the image stands.
-pub fn stand_of(image: &[u8], widths: &[u32; Settings::PAGES], parent: usize, k: usize) -> Standing
+pub fn stand_of(image: &[u8], widths: &[u32], parent: usize, k: usize) -> Standing
     requires { ⌜ Rowed (now image) (parent + 6) (parent + sizeAt (now image) parent) mostPages × Widths (now image) (now widths) ⌝ }
     ensures { λ r. ⌜ ((w : Rowed (now (image .entry)) (parent + 6) (parent + sizeAt (now (image .entry)) parent) mostPages)
         → r ≡ standingAt (seekSpan (childrenSpan (now (image .entry)) parent) (w .row) k)) ⌝ }

@@ -28,7 +28,7 @@ fn nowhere() -> Standing
 }
 
 // The node that the path names, if it names one: the last entry's child of the node that the others name.
-pub fn locate(image: &[u8], widths: &[u32; Settings::PAGES], path: &[u8]) -> Standing
+pub fn locate(image: &[u8], widths: &[u32], path: &[u8]) -> Standing
     requires { ⌜ (checkOf (now image) ≡ 0) × (Widths (now image) (now widths) × ((1 ≤ length (now path)) × (length (now path) ≤ longestPath))) ⌝ }
     ensures { λ r. ⌜ ((st : Config) (root : Row) → Reads (now (image .entry)) st root → Locates root (now (path .entry)) r) ⌝ }
 {

@@ -24,48 +24,65 @@ returns-2 : tie.Need-returns-2
 unfolding checkBy
 returns-2 c =
     let k = c .before .before in
-    let img = now (k .before .before .before .args .image) in
+    let img = now (k .before .before .before .before .args .image) in
     let long = passes (k .before .length-ok .ensures) (k .if1 .left) in
     let none = trailers-none img (length-says (length img) long .few) (sym (c .before .trailers .ensures) ∙ c .if2 .taken) in
     (simp (long, none), λ e. absurd (omega arith))
 
-walk-ok-requires : tie.Need-walk-ok-requires
-walk-ok-requires c κs =
+walk-requires : tie.Need-walk-requires
+walk-requires c κs =
     let j = c .before in
     let k = j .before .before in
-    let img = now (k .before .before .before .args .image) in
+    let s = k .before .before .before .before in
+    let img = now (s .args .image) in
     let long = passes (k .before .length-ok .ensures) (k .if1 .left) in
-    let n = j .before .trailers .ensures in (
-      long,
-      trailers-pass img (λ q. j .if2 .left (n ∙ q)),
-      omega (arith, j .if2 .left),
-      omega (arith, n, trailers-most img, length-says (length img) long),
-      k .before .before .before .pre,
-    )
+    let n = j .before .trailers .ensures in
+    record {
+      long = long;
+      before = trailers-pass img (λ q. j .if2 .left (n ∙ q));
+      some = omega (arith, j .if2 .left);
+      few = omega (arith, n, trailers-most img, length-says (length img) long);
+      wide = s .pre long;
+    }
+
+same-length : tie.Need-same-length
+same-length c = search needs
 
 returns-3 : tie.Need-returns-3
 unfolding checkBy
 returns-3 c =
-    let j = c .before .before .before in
+    let j = c .before .before .before .before .before in
     let k = j .before .before in
     let n = j .before .trailers .ensures in
-    let pass = trailers-pass (now (k .before .before .before .args .image)) (λ q. j .if2 .left (n ∙ q)) in (
-      simp (passes (k .before .length-ok .ensures) (k .if1 .left), pass, ← n, ← c .before .walk-ok .ensures .0, c .if3 .taken),
-      λ e. rw (sym n) (c .before .walk-ok .ensures .1 (c .if3 .taken)),
+    let pass = trailers-pass (now (k .before .before .before .before .args .image)) (λ q. j .if2 .left (n ∙ q)) in (
+      simp (passes (k .before .length-ok .ensures) (k .if1 .left), pass, ← n, ← c .before .before .before .walk .ensures .0, c .if3 .taken),
+      λ e. rw (sym n) (c .before .before .before .walk .ensures .1 (c .if3 .taken)),
     )
+
+same-length-2 : tie.Need-same-length-2
+same-length-2 c = search needs
 
 returns-4 : tie.Need-returns-4
 unfolding checkBy
 returns-4 c =
-    let j = c .before .before .before in
+    let j = c .before .before .before .before .before in
     let k = j .before .before in
     let n = j .before .trailers .ensures in
-    let pass = trailers-pass (now (k .before .before .before .args .image)) (λ q. j .if2 .left (n ∙ q)) in (
-      simp (passes (k .before .length-ok .ensures) (k .if1 .left), pass, ← n, ← c .before .walk-ok .ensures .0, c .if3 .left),
+    let pass = trailers-pass (now (k .before .before .before .before .args .image)) (λ q. j .if2 .left (n ∙ q)) in (
+      simp (passes (k .before .length-ok .ensures) (k .if1 .left), pass, ← n, ← c .before .before .before .walk .ensures .0, c .if3 .left),
       λ e. absurd (omega arith),
     )
 
 pub check-widths-spec : {M : Type 1} → statement M
 check-widths-spec =
     tie.close
-    (tie.spec length-ok-requires returns trailers-requires returns-2 walk-ok-requires returns-3 returns-4)
+    (tie.spec
+    length-ok-requires
+    returns
+    trailers-requires
+    returns-2
+    walk-requires
+    same-length
+    returns-3
+    same-length-2
+    returns-4)

@@ -26,27 +26,27 @@ claims t = (child-at-reads.Asked, child-at-reads.Learnt, trace-less t, trace.Pos
 
 trace-child-at-requires : (t : ℕ) → trace-lts.Need-child-at-requires (claims t) (trace-at t) trace.Post
 trace-child-at-requires t c κs =
-    let w = c .before .pre .1 in
+    let w = c .before .before .pre .1 in
     (w .0 .search, w .1)
 
 trace-add-t11 : (t : ℕ) → trace-lts.Need-add-t11 (claims t) (trace-at t) trace.Post
 trace-add-t11 t c =
-    let w = c .before .before .before .before .before .pre .1 .0 in
+    let w = c .before .before .before .before .before .before .pre .1 .0 in
     omega (arith, c .before .before .before .child-at .ensures (w .search) .1, few-before _ _ _ (w .search), w .small)
 
 trace-returns : (t : ℕ) → trace-lts.Need-returns (claims t) (trace-at t) trace.Post
 trace-returns t c w =
     let f = c .before .before .before .child-at .ensures (w .search) in
-    wrote-here _ _ _ _ _ w _ (f .0) _ _ (f .1) (c .before .if1 .taken) (c .before .before .before .before .before .pre .1 .2)
+    wrote-here _ _ _ _ _ w _ (f .0) _ _ (f .1) (c .before .if1 .taken) (c .before .before .before .before .before .before .pre .1 .2)
 
 trace-add-trace : (t : ℕ) → trace-lts.Need-add-trace (claims t) (trace-at t) trace.Post
 trace-add-trace t c =
-    let w = c .before .before .before .before .before .pre .1 .0 in
+    let w = c .before .before .before .before .before .before .pre .1 .0 in
     omega (arith, lower _ _ _ _ _ w _ (c .before .before .before .child-at .ensures (w .search) .0) (c .before .if1 .left))
 
 trace-trace-requires : (t : ℕ) → trace-lts.Need-trace-requires (claims t) (trace-at t) trace.Post
 trace-trace-requires t c κs =
-    let s = c .before .before .before .before .before .before in
+    let s = c .before .before .before .before .before .before .before in
     let w = s .pre .1 .0 in
     let f = c .before .before .before .before .child-at .ensures (w .search) .0 in
     let k = c .before .before .if1 .left in
@@ -54,14 +54,14 @@ trace-trace-requires t c κs =
 
 trace-sub-put32 : (t : ℕ) → trace-lts.Need-sub-put32 (claims t) (trace-at t) trace.Post
 trace-sub-put32 t c =
-    let w = c .before .before .before .before .before .before .before .before .before .pre .1 .0 in
+    let w = c .before .before .before .before .before .before .before .before .before .before .pre .1 .0 in
     let f = c .before .before .before .before .before .before .before .child-at .ensures (w .search) .0 in
     let k = c .before .before .before .before .before .if1 .left in
     room-below _ _ _ _ _ w _ f k _ _ _ _ (c .before .before .trace .ensures (trace-below _ _ _ _ _ w _ f k)) .0
 
 trace-put32-requires : (t : ℕ) → trace-lts.Need-put32-requires (claims t) (trace-at t) trace.Post
 trace-put32-requires t c κs =
-    let w = c .before .before .before .before .before .before .before .before .before .pre .1 .0 in
+    let w = c .before .before .before .before .before .before .before .before .before .before .pre .1 .0 in
     let f = c .before .before .before .before .before .before .before .child-at .ensures (w .search) .0 in
     let k = c .before .before .before .before .before .if1 .left in
     let n = c .before .before .trace .ensures (trace-below _ _ _ _ _ w _ f k) in
@@ -69,7 +69,7 @@ trace-put32-requires t c κs =
 
 trace-sub-t12 : (t : ℕ) → trace-lts.Need-sub-t12 (claims t) (trace-at t) trace.Post
 trace-sub-t12 t c =
-    let w = c .before .before .before .before .before .before .before .before .before .before .before .pre .1 .0 in
+    let w = c .before .before .before .before .before .before .before .before .before .before .before .before .pre .1 .0 in
     let f = c .before .before .before .before .before .before .before .before .before .child-at .ensures (w .search) .0 in
     let k = c .before .before .before .before .before .before .before .if1 .left in
     room-below _ _ _ _ _ w _ f k _ _ _ _ (c .before .before .before .before .trace .ensures (trace-below _ _ _ _ _ w _ f k)) .0

@@ -18,39 +18,39 @@ loop-holds c w = record { now = w; same = refl; counts = omega arith }
 
 size-at-requires : tie.Need-size-at-requires Inv-loop μ-loop
 size-at-requires c κs =
-    let g = c .loop .inv (c .before .before .pre .0) in
+    let g = c .loop .inv (c .before .before .before .pre .0) in
     omega (arith, header-inside _ _ (standing _ _ _ (g .now)))
 
 add-if1 : tie.Need-add-if1 Inv-loop μ-loop
 add-if1 c =
-    let g = c .before .loop .inv (c .before .before .before .pre .0) in
+    let g = c .before .loop .inv (c .before .before .before .before .pre .0) in
     omega (arith, header-inside _ _ (standing _ _ _ (g .now)), c .size-at .ensures .1)
 
 nodes-in-requires : tie.Need-nodes-in-requires Inv-loop μ-loop
 nodes-in-requires c κs =
-    let p = c .before .before .before .before .pre in
+    let p = c .before .before .before .before .before .pre in
     (standing _ _ _ (c .before .before .loop .inv (p .0) .now), p .1)
 
 add-n : tie.Need-add-n Inv-loop μ-loop
 add-n c =
-    let w = c .before .before .before .before .before .pre .0 in
+    let w = c .before .before .before .before .before .before .pre .0 in
     let g = c .before .before .before .loop .inv w in
     let n = go-on _ _ _ _ _ _ _ _ g (c .before .before .size-at .ensures .0) (c .before .if1 .taken) (c .nodes-in .ensures (standing _ _ _ (g .now))) in
     omega (arith, n .counts, few-before _ _ _ w)
 
 size-at-requires-2 : tie.Need-size-at-requires-2 Inv-loop μ-loop
 size-at-requires-2 c κs =
-    let g = c .before .before .before .loop .inv (c .before .before .before .before .before .pre .0) in
+    let g = c .before .before .before .loop .inv (c .before .before .before .before .before .before .pre .0) in
     omega (arith, header-inside _ _ (standing _ _ _ (g .now)))
 
 add-i : tie.Need-add-i Inv-loop μ-loop
 add-i c =
-    let g = c .before .before .before .before .loop .inv (c .before .before .before .before .before .before .pre .0) in
+    let g = c .before .before .before .before .loop .inv (c .before .before .before .before .before .before .before .pre .0) in
     omega (arith, header-inside _ _ (standing _ _ _ (g .now)), c .size-at2 .ensures .1)
 
 loop-less : tie.Need-loop-less Inv-loop μ-loop
 loop-less c =
-    let g = c .before .before .before .before .loop .inv (c .before .before .before .before .before .before .pre .0) in
+    let g = c .before .before .before .before .loop .inv (c .before .before .before .before .before .before .before .pre .0) in
     let n = c .before .before .before .size-at .ensures .0 in
     omega (arith, header-long _ _ (standing _ _ _ (g .now)), c .size-at2 .ensures .0, c .before .before .if1 .taken)
 

@@ -10,11 +10,11 @@ node-at-requires : tie.Need-node-at-requires
 node-at-requires c κs = search needs
 
 returns : tie.Need-returns
-returns c = climb-none _ _ _ _ (c .before .before .before .before .pre .0) (c .before .node-at .ensures) (c .if1 .taken)
+returns c = climb-none _ _ _ _ (c .before .before .before .before .before .pre .0) (c .before .node-at .ensures) (c .if1 .taken)
 
 climb-path-requires : tie.Need-climb-path-requires
 climb-path-requires c κs =
-    (some-node _ _ _ _ (c .before .before .node-at .ensures) (c .before .if1 .left) .node, c .before .before .before .before .before .pre .1, refl)
+    (some-node _ _ _ _ (c .before .before .node-at .ensures) (c .before .if1 .left) .node, c .before .before .before .before .before .before .pre .1, refl)
 
 sub-n : tie.Need-sub-n
 sub-n c =
@@ -64,5 +64,4 @@ returns-3 c =
 pub climb-of-spec : {M : Type 1} → statement M
 climb-of-spec =
     tie.close
-    (tie.spec node-at-requires returns climb-path-requires sub-n returns-2 sub-copy-in part-copy-in-start part-copy-in-end copy-in-requires same-length
-    returns-3)
+    (tie.spec node-at-requires returns climb-path-requires sub-n returns-2 sub-copy-in part-copy-in-start part-copy-in-end copy-in-requires same-length returns-3)

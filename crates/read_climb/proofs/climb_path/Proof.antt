@@ -15,16 +15,16 @@ abbrev μ-loop : tie.MeasureT-loop
 μ-loop image widths pos path₀ page₀ target₀ carry₀ at₀ left₀ path page target carry at left = left
 
 loop-holds : tie.Need-loop-holds Inv-loop μ-loop
-loop-holds c = (λ w. rise-start _ _ _ _ w refl (c .before .pre .2), c .before .pre .2)
+loop-holds c = (λ w. rise-start _ _ _ _ w refl (c .before .before .pre .2), c .before .before .pre .2)
 
 row-start-requires : tie.Need-row-start-requires Inv-loop μ-loop
 row-start-requires c κs =
-    let w = c .before .before .pre .0 in
+    let w = c .before .before .before .pre .0 in
     on-page _ _ _ (w .reads) _ _ _ _ _ _ _ (c .loop .inv .0 w) .here .on
 
 trace-requires : tie.Need-trace-requires Inv-loop μ-loop
 trace-requires c κs =
-    let p = c .before .before .before .before .pre in
+    let p = c .before .before .before .before .before .pre in
     let l = c .before .before .loop .inv in
     (started _ _ _ (p .0 .reads) _ _ _ _ _ _ _ (l .0 (p .0)) _ (c .before .row-start .ensures) .trace, p .1, l .1)
 
@@ -34,7 +34,7 @@ returns c = (
       let l = c .before .before .before .before .loop .inv .0 w in
       let e = c .before .before .before .row-start .ensures in
       rise-end _ _ _ (w .reads) _ _ _ _ _ _ _ l _ e _ _ _ (c .before .trace .ensures (started _ _ _ (w .reads) _ _ _ _ _ _ _ l _ e .trace)) (c .if1 .taken),
-  let w = c .before .before .before .before .before .before .pre .0 in
+  let w = c .before .before .before .before .before .before .before .pre .0 in
       let l = c .before .before .before .before .loop .inv .0 w in
       let e = c .before .before .before .row-start .ensures in
       c .before .trace .ensures (started _ _ _ (w .reads) _ _ _ _ _ _ _ l _ e .trace) .long,
@@ -42,29 +42,29 @@ returns c = (
 
 mul-back-at : tie.Need-mul-back-at Inv-loop μ-loop
 mul-back-at c =
-    let w = c .before .before .before .before .before .before .pre .0 in
+    let w = c .before .before .before .before .before .before .before .pre .0 in
     omega (arith, on-page _ _ _ (w .reads) _ _ _ _ _ _ _ (c .before .before .before .before .loop .inv .0 w) .here .on)
 
 back-at-requires : tie.Need-back-at-requires Inv-loop μ-loop
 back-at-requires c κs =
-    let w = c .before .before .before .before .before .before .pre .0 in
+    let w = c .before .before .before .before .before .before .before .pre .0 in
     omega (arith, on-page _ _ _ (w .reads) _ _ _ _ _ _ _ (c .before .before .before .before .loop .inv .0 w) .here .on)
 
 find-proxy-requires : tie.Need-find-proxy-requires Inv-loop μ-loop
 find-proxy-requires c κs =
-    let w = c .before .before .before .before .before .before .before .pre .0 in
+    let w = c .before .before .before .before .before .before .before .before .pre .0 in
     let l = c .before .before .before .before .before .loop .inv .0 w in
     held _ _ _ (w .reads) _ _ _ _ (parent-at _ _ _ (w .reads) _ _ _ _ _ _ _ l _ (c .back-at .ensures .0) (c .before .if1 .left))
 
 sub-left : tie.Need-sub-left Inv-loop μ-loop
 sub-left c =
-    let w = c .before .before .before .before .before .before .before .before .pre .0 in
+    let w = c .before .before .before .before .before .before .before .before .before .pre .0 in
     let l = c .before .before .before .before .before .before .loop .inv .0 w in
     above _ _ _ (w .reads) _ _ _ _ _ _ _ l _ (parent-at _ _ _ (w .reads) _ _ _ _ _ _ _ l _ (c .before .back-at .ensures .0) (c .before .before .if1 .left))
 
 loop-less : tie.Need-loop-less Inv-loop μ-loop
 loop-less c =
-    let w = c .before .before .before .before .before .before .before .before .pre .0 in
+    let w = c .before .before .before .before .before .before .before .before .before .pre .0 in
     let l = c .before .before .before .before .before .before .loop .inv .0 w in
     let p = parent-at _ _ _ (w .reads) _ _ _ _ _ _ _ l _ (c .before .back-at .ensures .0) (c .before .before .if1 .left) in
     omega (arith, above _ _ _ (w .reads) _ _ _ _ _ _ _ l _ p)
@@ -78,7 +78,7 @@ loop-again c = (
       rise-on _ _ _ (w .reads) _ _ _ _ _ _ _ l _ e _ _ _ (c .before .before .before .trace .ensures (started _ _ _ (w .reads) _ _ _ _ _ _ _ l _ e .trace)) _ _
       p
       (c .find-proxy .ensures (held _ _ _ (w .reads) _ _ _ _ p)),
-  let w = c .before .before .before .before .before .before .before .before .pre .0 in
+  let w = c .before .before .before .before .before .before .before .before .before .pre .0 in
       let l = c .before .before .before .before .before .before .loop .inv .0 w in
       let e = c .before .before .before .before .before .row-start .ensures in
       c .before .before .before .trace .ensures (started _ _ _ (w .reads) _ _ _ _ _ _ _ l _ e .trace) .long,
@@ -87,5 +87,4 @@ loop-again c = (
 pub climb-path-spec : {M : Type 1} → statement M
 climb-path-spec =
     tie.close
-    (tie.spec Inv-loop μ-loop loop-holds row-start-requires trace-requires returns mul-back-at back-at-requires find-proxy-requires sub-left loop-less
-    loop-again)
+    (tie.spec Inv-loop μ-loop loop-holds row-start-requires trace-requires returns mul-back-at back-at-requires find-proxy-requires sub-left loop-less loop-again)

@@ -19,12 +19,12 @@ abbrev μ-loop : tie.MeasureT-loop
 μ-loop image widths path pos₀ i₀ pos i = length path - i
 
 -- What is left of the path at the loop's head.
-here : (c : tie.At-loop Inv-loop μ-loop) → let s = c .before .before .before .before .before in
+here : (c : tie.At-loop Inv-loop μ-loop) → let s = c .before .before .before .before .before .before in
     Finds (s .args .image .now) (s .args .path .now) (c .loop .pos) (c .loop .i) (goal (s .args .image .now) (s .args .path .now) (s .pre .0))
 here c = c .loop .inv _ (starting _ _ _ (c .before .if2 .left))
 
 -- The node at pos is an aggregate: what the entry at i leads to.
-deeper : (c : tie.After-size-at Inv-loop μ-loop) → let l = c .before .before .before .before .before in let s = l .before .before .before .before .before in
+deeper : (c : tie.After-size-at Inv-loop μ-loop) → let l = c .before .before .before .before .before in let s = l .before .before .before .before .before .before in
     (t : Option Place) → Finds (s .args .image .now) (s .args .path .now) (l .loop .pos) (l .loop .i) t
     → Down (s .args .image .now) (s .args .path .now) (l .loop .pos) (l .loop .i) (c .size-at .result) (c .before .four .result) t
 deeper c t w =
@@ -35,13 +35,13 @@ refused-requires : tie.Need-refused-requires Inv-loop μ-loop
 refused-requires c κs = search needs
 
 returns : tie.Need-returns Inv-loop μ-loop
-returns c = c .refused .ensures ∙ too-long _ _ (c .before .before .before .before .pre .0) (c .before .if1 .taken)
+returns c = c .refused .ensures ∙ too-long _ _ (c .before .before .before .before .before .pre .0) (c .before .if1 .taken)
 
 refused-requires-2 : tie.Need-refused-requires-2 Inv-loop μ-loop
 refused-requires-2 c κs = search needs
 
 returns-2 : tie.Need-returns-2 Inv-loop μ-loop
-returns-2 c = c .refused2 .ensures ∙ not-whole _ _ (c .before .before .before .before .before .pre .0) (c .before .before .if1 .left) (c .before .if2 .taken)
+returns-2 c = c .refused2 .ensures ∙ not-whole _ _ (c .before .before .before .before .before .before .pre .0) (c .before .before .if1 .left) (c .before .if2 .taken)
 
 loop-holds : tie.Need-loop-holds Inv-loop μ-loop
 loop-holds c = λ t s. s
@@ -55,7 +55,7 @@ refused-requires-3 c κs = search needs
 returns-3 : tie.Need-returns-3 Inv-loop μ-loop
 returns-3 c =
     let l = c .before .before .before .before in
-    c .refused3 .ensures ∙ nowhere _ _ (l .before .before .before .before .before .pre .0) (l .before .before .if1 .left)
+    c .refused3 .ensures ∙ nowhere _ _ (l .before .before .before .before .before .before .pre .0) (l .before .before .if1 .left)
     (ends-here _ _ _ _ _ (here l) (c .before .before .before .loop-test .taken) (c .before .if3 .taken))
 
 four-requires : tie.Need-four-requires Inv-loop μ-loop
@@ -73,7 +73,7 @@ add-nth c = omega (arith, place-room _ _ _ _ _ (here (c .before .before .before 
 nth-requires : tie.Need-nth-requires Inv-loop μ-loop
 nth-requires c κs =
     let l = c .before .before .before .before .before in
-    (deeper c _ (here l) .kids, l .before .before .before .before .before .pre .1)
+    (deeper c _ (here l) .kids, l .before .before .before .before .before .before .pre .1)
 
 refused-requires-4 : tie.Need-refused-requires-4 Inv-loop μ-loop
 refused-requires-4 c κs = search needs
@@ -83,7 +83,7 @@ returns-4 c =
     let n = c .before .before .before in
     let l = n .before .before .before .before .before .before in
     let d = deeper (n .before) _ (here l) in
-    c .refused4 .ensures ∙ nowhere _ _ (l .before .before .before .before .before .pre .0) (l .before .before .if1 .left)
+    c .refused4 .ensures ∙ nowhere _ _ (l .before .before .before .before .before .before .pre .0) (l .before .before .if1 .left)
     (d .missing _ (n .nth .ensures (d .kids)) (not-true _ (c .before .if4 .taken)))
 
 add-i : tie.Need-add-i Inv-loop μ-loop
@@ -108,11 +108,10 @@ found-requires c κs = search needs
 returns-5 : tie.Need-returns-5 Inv-loop μ-loop
 returns-5 c =
     let l = c .before .before in
-    c .found .ensures ∙ there _ _ (l .before .before .before .before .before .pre .0) (l .before .before .if1 .left) _
+    c .found .ensures ∙ there _ _ (l .before .before .before .before .before .before .pre .0) (l .before .before .if1 .left) _
     (arrived _ _ _ _ _ (here l) (c .before .loop-test .left))
 
 pub find-in-spec : {M : Type 1} → statement M
 find-in-spec =
     tie.close
-    (tie.spec Inv-loop μ-loop refused-requires returns refused-requires-2 returns-2 loop-holds shared-slice-read-if3 refused-requires-3 returns-3
-    four-requires size-at-requires add-end add-nth nth-requires refused-requires-4 returns-4 add-i loop-less loop-again found-requires returns-5)
+    (tie.spec Inv-loop μ-loop refused-requires returns refused-requires-2 returns-2 loop-holds shared-slice-read-if3 refused-requires-3 returns-3 four-requires size-at-requires add-end add-nth nth-requires refused-requires-4 returns-4 add-i loop-less loop-again found-requires returns-5)

@@ -19,26 +19,26 @@ abbrev μ-loop : tie.MeasureT-loop
 μ-loop image widths pos end k depth left₀ i₀ stop₀ deep₀ left i stop deep = pageSize * deep + (stop - i)
 
 -- The row that is left at the loop's head, and its room.
-here : (c : tie.At-loop Inv-loop μ-loop) → Rowed (c .before .before .args .image .now) (c .loop .i) (c .loop .stop) (c .loop .deep)
-here c = c .loop .inv _ (seeking _ _ _ _ _ (c .before .before .pre .0)) .rest
+here : (c : tie.At-loop Inv-loop μ-loop) → Rowed (c .before .before .before .args .image .now) (c .loop .i) (c .loop .stop) (c .loop .deep)
+here c = c .loop .inv _ (seeking _ _ _ _ _ (c .before .before .before .pre .0)) .rest
 
-in-room : (c : tie.At-loop Inv-loop μ-loop) → (c .loop .stop + 16 ≤ length (c .before .before .args .image .now)) × (c .loop .stop < mostBytes)
+in-room : (c : tie.At-loop Inv-loop μ-loop) → (c .loop .stop + 16 ≤ length (c .before .before .before .args .image .now)) × (c .loop .stop < mostBytes)
 in-room c = room _ _ _ _ (here c)
 
 -- Past a node, and at a proxy.
-passed : (c : tie.After-size-at Inv-loop μ-loop) → let l = c .before .before .before .before .before in let s = l .before .before in
+passed : (c : tie.After-size-at Inv-loop μ-loop) → let l = c .before .before .before .before .before in let s = l .before .before .before in
     (w : Rowed (s .args .image .now) (l .loop .i) (l .loop .stop) (l .loop .deep)) → Passed (s .args .image .now) (l .loop .i) (l .loop .stop) (l .loop .deep)
     (c .size-at .result) (w .row)
 passed c w = pass _ _ _ _ _ (c .before .before .before .before .loop-test .taken) (c .size-at .ensures .0) (c .before .before .if1 .left) w
 
-entered : (c : tie.After-name-at Inv-loop μ-loop) → let l = c .before .before .before .before in let s = l .before .before in
+entered : (c : tie.After-name-at Inv-loop μ-loop) → let l = c .before .before .before .before in let s = l .before .before .before in
     (w : Rowed (s .args .image .now) (l .loop .i) (l .loop .stop) (l .loop .deep))
     → Entered (s .args .image .now) (l .loop .i) (l .loop .stop) (l .loop .deep)
     (c .name-at .result) (w .row)
 entered c w = enter _ _ _ _ _ (c .before .before .before .loop-test .taken) (c .before .if1 .taken) (c .name-at .ensures .0) w
 
 proxy : (c : tie.After-name-at Inv-loop μ-loop) → let l = c .before .before .before .before in
-    Entered (l .before .before .args .image .now) (l .loop .i) (l .loop .stop) (l .loop .deep) (c .name-at .result) (here l .row)
+    Entered (l .before .before .before .args .image .now) (l .loop .i) (l .loop .stop) (l .loop .deep) (c .name-at .result) (here l .row)
 proxy c = entered c (here (c .before .before .before .before))
 
 loop-holds : tie.Need-loop-holds Inv-loop μ-loop
@@ -53,14 +53,16 @@ name-at-requires c κs = omega (arith, in-room (c .before .before .before), c .b
 mul-n : tie.Need-mul-n Inv-loop μ-loop
 mul-n c = omega (arith, proxy c .on .high)
 
-element-copy-out-n : tie.Need-element-copy-out-n Inv-loop μ-loop
-element-copy-out-n c = proxy c .on .high
+shared-slice-read-n : tie.Need-shared-slice-read-n Inv-loop μ-loop
+shared-slice-read-n c =
+    let l = c .before .before .before .before .before in
+    omega (arith, proxy (c .before) .on .inside, l .before .before .before .pre .1 .long)
 
 cast-n : tie.Need-cast-n Inv-loop μ-loop
 cast-n c =
     let l = c .before .before .before .before .before in
     let e = entered (c .before) (here l) in
-    omega (arith, e .told _ (l .before .before .pre .1), width-steps (e .inside .row), e .inside .few)
+    omega (arith, e .told _ (l .before .before .before .pre .1), width-steps (e .inside .row), e .inside .few)
 
 add-i : tie.Need-add-i Inv-loop μ-loop
 add-i c = omega (arith, in-room (c .before .before .before .before .before .before), c .before .before .before .before .before .loop-test .taken)
@@ -73,7 +75,7 @@ loop-again c =
     let l = c .before .before .before .before .before .before in
     λ t s.
     let w = l .loop .inv t s in
-    seek-past _ _ _ _ _ _ _ w (entered (c .before .before) (w .rest)) _ (l .before .before .pre .1) (omega (arith, c .if2 .taken))
+    seek-past _ _ _ _ _ _ _ w (entered (c .before .before) (w .rest)) _ (l .before .before .before .pre .1) (omega (arith, c .if2 .taken))
 
 row-start-requires : tie.Need-row-start-requires Inv-loop μ-loop
 row-start-requires c κs = proxy (c .before .before) .on
@@ -95,7 +97,7 @@ loop-again-2 c =
     let l = p .before .before .before .before in
     λ t s.
     let w = l .loop .inv t s in
-    seek-inside _ _ _ _ _ _ _ w (entered p (w .rest)) _ (l .before .before .pre .1) _ _ (c .before .row-start .ensures) (c .row-end .ensures)
+    seek-inside _ _ _ _ _ _ _ w (entered p (w .rest)) _ (l .before .before .before .pre .1) _ _ (c .before .row-start .ensures) (c .row-end .ensures)
     (omega (arith, c .before .before .if2 .left))
 
 returns : tie.Need-returns Inv-loop μ-loop
@@ -132,5 +134,4 @@ returns-2 c = λ w. sought _ _ _ _ _ _ (c .before .loop .inv _ (seeking _ _ _ _ 
 pub nth-spec : {M : Type 1} → statement M
 nth-spec =
     tie.close
-    (tie.spec Inv-loop μ-loop loop-holds shared-slice-read-if1 name-at-requires mul-n element-copy-out-n cast-n add-i loop-less loop-again row-start-requires
-    row-end-requires sub-deep loop-less-2 loop-again-2 returns sub-left size-at-requires add-i-2 loop-less-3 loop-again-3 returns-2)
+    (tie.spec Inv-loop μ-loop loop-holds shared-slice-read-if1 name-at-requires mul-n shared-slice-read-n cast-n add-i loop-less loop-again row-start-requires row-end-requires sub-deep loop-less-2 loop-again-2 returns sub-left size-at-requires add-i-2 loop-less-3 loop-again-3 returns-2)

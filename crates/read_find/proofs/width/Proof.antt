@@ -15,30 +15,30 @@ abbrev μ-loop : tie.MeasureT-loop
 μ-loop image widths pos end n₀ i₀ n i = end - i
 
 -- The count as it stands at the loop's head, its room, and its bound.
-here : (c : tie.At-loop Inv-loop μ-loop) → let s = c .before .before in
+here : (c : tie.At-loop Inv-loop μ-loop) → let s = c .before .before .before in
     Counted (s .args .image .now) (c .loop .i) (s .args .end) mostPages (c .loop .n) (tree.width (s .pre .0 .row))
-here c = c .loop .inv _ (counting _ _ _ _ (c .before .before .pre .0))
+here c = c .loop .inv _ (counting _ _ _ _ (c .before .before .before .pre .0))
 
-in-room : (c : tie.At-loop Inv-loop μ-loop) → let s = c .before .before in (s .args .end + 16 ≤ length (s .args .image .now)) × (s .args .end < mostBytes)
+in-room : (c : tie.At-loop Inv-loop μ-loop) → let s = c .before .before .before in (s .args .end + 16 ≤ length (s .args .image .now)) × (s .args .end < mostBytes)
 in-room c = room _ _ _ _ (here c .rest)
 
 within : (c : tie.At-loop Inv-loop μ-loop) → c .loop .n + tree.width (here c .rest .row) ≤ mostBytes
 within c =
-    let w = c .before .before .pre .0 in
+    let w = c .before .before .before .pre .0 in
     omega (arith, here c .sum, width-steps (w .row), w .few)
 
 -- Past a node, and at a proxy.
-passed : (c : tie.Else1 Inv-loop μ-loop) → let l = c .before .before .before .before in let s = l .before .before in
+passed : (c : tie.Else1 Inv-loop μ-loop) → let l = c .before .before .before .before in let s = l .before .before .before in
     (w : Rowed (s .args .image .now) (l .loop .i) (s .args .end) mostPages) → Passed (s .args .image .now) (l .loop .i) (s .args .end) mostPages
     (c .before .before .size-at .result) (w .row)
 passed c w = pass _ _ _ _ _ (c .before .before .before .loop-test .taken) (c .before .before .size-at .ensures .0) (c .if1 .left) w
 
-entered : (c : tie.After-name-at Inv-loop μ-loop) → let l = c .before .before .before .before .before in let s = l .before .before in
+entered : (c : tie.After-name-at Inv-loop μ-loop) → let l = c .before .before .before .before .before in let s = l .before .before .before in
     (w : Rowed (s .args .image .now) (l .loop .i) (s .args .end) mostPages) → Entered (s .args .image .now) (l .loop .i) (s .args .end) mostPages
     (c .name-at .result) (w .row)
 entered c w = enter _ _ _ _ _ (c .before .before .before .before .loop-test .taken) (c .before .if1 .taken) (c .name-at .ensures .0) w
 
-proxy : (c : tie.After-name-at Inv-loop μ-loop) → let l = c .before .before .before .before .before in let s = l .before .before in
+proxy : (c : tie.After-name-at Inv-loop μ-loop) → let l = c .before .before .before .before .before in let s = l .before .before .before in
     Entered (s .args .image .now) (l .loop .i) (s .args .end) mostPages (c .name-at .result) (here l .rest .row)
 proxy c = entered c (here (c .before .before .before .before .before) .rest)
 
@@ -60,20 +60,22 @@ name-at-requires c κs = omega (arith, in-room (c .before .before .before .befor
 mul-n : tie.Need-mul-n Inv-loop μ-loop
 mul-n c = omega (arith, proxy c .on .high)
 
-element-copy-out-n : tie.Need-element-copy-out-n Inv-loop μ-loop
-element-copy-out-n c = proxy c .on .high
+shared-slice-read-n : tie.Need-shared-slice-read-n Inv-loop μ-loop
+shared-slice-read-n c =
+    let l = c .before .before .before .before .before .before in
+    omega (arith, proxy (c .before) .on .inside, l .before .before .before .pre .1 .long)
 
 cast-n : tie.Need-cast-n Inv-loop μ-loop
 cast-n c =
     let l = c .before .before .before .before .before .before in
     let e = proxy (c .before) in
-    omega (arith, within l, e .wide, e .told _ (l .before .before .pre .1))
+    omega (arith, within l, e .wide, e .told _ (l .before .before .before .pre .1))
 
 add-n : tie.Need-add-n Inv-loop μ-loop
 add-n c =
     let l = c .before .before .before .before .before .before in
     let e = proxy (c .before) in
-    omega (arith, within l, e .wide, e .told _ (l .before .before .pre .1))
+    omega (arith, within l, e .wide, e .told _ (l .before .before .before .pre .1))
 
 add-n-2 : tie.Need-add-n-2 Inv-loop μ-loop
 add-n-2 c = omega (arith, within (c .before .before .before .before))
@@ -92,7 +94,7 @@ loop-again c =
     let l = c .before .before .before .before .before .before in
     λ t s.
     let w = l .loop .inv t s in
-    count-proxy _ _ _ _ _ _ _ _ (c .before .before .before .before .size-at .ensures .0) w (entered (c .before) (w .rest)) _ (l .before .before .pre .1)
+    count-proxy _ _ _ _ _ _ _ _ (c .before .before .before .before .size-at .ensures .0) w (entered (c .before) (w .rest)) _ (l .before .before .before .pre .1)
 
 loop-less-2 : tie.Need-loop-less-2 Inv-loop μ-loop
 loop-less-2 c =
@@ -112,5 +114,4 @@ returns c = λ w. counted _ _ _ _ _ _ (c .before .loop .inv _ (counting _ _ _ _ 
 pub width-spec : {M : Type 1} → statement M
 width-spec =
     tie.close
-    (tie.spec Inv-loop μ-loop loop-holds size-at-requires add-next shared-slice-read-if1 name-at-requires mul-n element-copy-out-n cast-n add-n add-n-2
-    loop-less loop-again loop-less-2 loop-again-2 returns)
+    (tie.spec Inv-loop μ-loop loop-holds size-at-requires add-next shared-slice-read-if1 name-at-requires mul-n shared-slice-read-n cast-n add-n add-n-2 loop-less loop-again loop-less-2 loop-again-2 returns)

@@ -17,8 +17,11 @@ cast-back c = search needs
 mul-back : tie.Need-mul-back
 mul-back c = search needs
 
-element-write-back : tie.Need-element-write-back
-element-write-back c = search needs
+slice-write-back : tie.Need-slice-write-back
+slice-write-back c = search needs
+
+same-length : tie.Need-same-length
+same-length c = search needs
 
 returns : tie.Need-returns
 returns c = rw (eq-eqb _ _ (c .if1 .taken)) (refl, (refl, refl))
@@ -50,8 +53,11 @@ mul-held-3 c = search needs
 element-write-held-3 : tie.Need-element-write-held-3
 element-write-held-3 c = search needs
 
+same-length-2 : tie.Need-same-length-2
+same-length-2 c = search needs
+
 returns-2 : tie.Need-returns-2
 returns-2 c = rw (ne-eqb _ _ (c .if1 .left)) (refl, (refl, refl))
 
 pub into-record-spec : {M : Type 1} → statement M
-into-record-spec = tie.close (tie.spec add-depth add-back cast-back mul-back element-write-back returns mul-k mul-held element-write-held add-held mul-held-2 element-write-held-2 add-held-2 mul-held-3 element-write-held-3 returns-2)
+into-record-spec = tie.close (tie.spec add-depth add-back cast-back mul-back slice-write-back same-length returns mul-k mul-held element-write-held add-held mul-held-2 element-write-held-2 add-held-2 mul-held-3 element-write-held-3 same-length-2 returns-2)

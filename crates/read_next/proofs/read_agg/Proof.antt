@@ -24,7 +24,7 @@ add-width c = search needs
 
 width-requires : tie.Need-width-requires
 width-requires c κs =
-    let s = c .before .before .before .before in
+    let s = c .before .before .before .before .before in
     (inner-to (s .args .image .now) (s .args .pos) _ (ap (λ (n : ℕ). s .args .pos + n) (c .size-at .ensures .0)) (s .pre .2), s .pre .3)
 
 cast-t9 : tie.Need-cast-t9
@@ -35,7 +35,7 @@ cast-t10 c = search needs
 
 cast-t11 : tie.Need-cast-t11
 cast-t11 c =
-    let s = c .before .before .before .before .before in
+    let s = c .before .before .before .before .before .before in
     let few = inner-few (s .args .image .now) (s .args .pos) (s .pre .2) in
     let same =
     c .width .ensures (inner-to (s .args .image .now) (s .args .pos) _ (ap (λ (n : ℕ). s .args .pos + n) (c .before .size-at .ensures .0)) (s .pre .2)) in
@@ -44,7 +44,7 @@ cast-t11 c =
 returns : tie.Need-returns
 returns c =
     λ w.
-    let s = c .before .before .before .before .before in
+    let s = c .before .before .before .before .before .before in
     agg-is (s .args .image .now) (s .args .pos) _ _ _ (w .row) (c .before .before .before .origin-at .ensures .0) (c .before .before .label-at .ensures .0)
     (c .width .ensures (inner-to (s .args .image .now) (s .args .pos) _ (ap (λ (n : ℕ). s .args .pos + n) (c .before .size-at .ensures .0)) w))
 

@@ -7,11 +7,11 @@ use Rattle.read_next.proofs.read_of.Statement.{statement}
 use Rattle.read_next.proofs.read_of.Tie as tie
 
 node-at-requires : tie.Need-node-at-requires
-node-at-requires c κs = c .before .pre .0
+node-at-requires c κs = c .before .before .pre .0
 
 returns : tie.Need-returns
 returns c =
-    sym (told-stray (c .before .before .before .args .image .now) _ _ (c .before .before .before .pre .0) (c .before .node-at .ensures) (c .if1 .taken))
+    sym (told-stray (c .before .before .before .before .args .image .now) _ _ (c .before .before .before .before .pre .0) (c .before .node-at .ensures) (c .if1 .taken))
 
 shared-slice-read-if2 : tie.Need-shared-slice-read-if2
 shared-slice-read-if2 c = let h = node-head (c .before .before .node-at .ensures .found (omega arith) .node) in omega (arith, h .inside)
@@ -20,7 +20,7 @@ read-agg-requires : tie.Need-read-agg-requires
 read-agg-requires c κs =
     let f = c .before .before .before .node-at .ensures .found (omega arith) in
     let h = node-head (f .node) in
-    (omega (arith, h .inside), h .small, agg-told _ _ _ f (c .if2 .taken) .inner, c .before .before .before .before .before .pre .1)
+    (omega (arith, h .inside), h .small, agg-told _ _ _ f (c .if2 .taken) .inner, c .before .before .before .before .before .before .pre .1)
 
 returns-2 : tie.Need-returns-2
 returns-2 c =

@@ -2,7 +2,8 @@
 use mathlib.Core.Path.{_≡_, refl, sym, ap, subst, _∙_}
 use Prim.Native.Nat.{ℕ, _<_, _≤_, _+_, _*_, _-_, _/_}
 use native.Mathlib.Omega.{arith}
-use lib.ListN.{length, drop, length-take}
+use mathlib.Core.List.{List}
+use lib.ListN.{length, drop, getD, set, length-take}
 use denote.Ref.{now}
 use borrow.Author.Needs.{needs}
 use borrow.Fn.Kinds.{In}
@@ -109,19 +110,19 @@ proxy-claims t = (reach-reads.Asked, reach-reads.Learnt, refused-reads.Asked, re
 
 module _ (t : ℕ) where
   -- the aggregates below that are each the only one
-  inner : (c : node-check-lts.After-only (node-claims t) (node-check-at t) node-check.Post) → let a = c .before .before .before .before .args in
+  inner : (c : node-check-lts.After-only (node-claims t) (node-check-at t) node-check.Post) → let a = c .before .before .before .before .before .before .args in
       let d = c .only .result in
       (6 * d + 6 ≤ length (now (a .part))) × (a .level + 1 + d ≤ mostLevels + 1)
-  inner c = only-fits _ _ _ (c .before .before .before .before .pre .1 .0) (c .before .if1 .left) (c .only .ensures)
+  inner c = only-fits _ _ _ (c .before .before .before .before .before .before .pre .1 .0) (c .before .if1 .left) (c .only .ensures)
 
   node-returns : node-check-lts.Need-returns (node-claims t) (node-check-at t) node-check.Post
-  node-returns c = λ h e. deep-ended (c .before .before .before .pre .1 .4) h _ 0 _ 0 _ _ _ _ _ _ e (c .if1 .taken)
+  node-returns c = λ h e. deep-ended (c .before .before .before .before .before .pre .1 .4) h _ 0 _ 0 _ _ _ _ _ _ e (c .if1 .taken)
 
   node-add-below : node-check-lts.Need-add-below (node-claims t) (node-check-at t) node-check.Post
   node-add-below c = search needs
 
   node-only-requires : node-check-lts.Need-only-requires (node-claims t) (node-check-at t) node-check.Post
-  node-only-requires c κs = (c .before .before .before .pre .1 .0, omega (arith, c .if1 .left))
+  node-only-requires c κs = (c .before .before .before .before .before .pre .1 .0, omega (arith, c .if1 .left))
 
   node-mul-k : node-check-lts.Need-mul-k (node-claims t) (node-check-at t) node-check.Post
   node-mul-k c = omega (arith, inner c)
@@ -139,14 +140,14 @@ module _ (t : ℕ) where
   node-part-list-check-end c = omega arith
 
   node-add-list-check : node-check-lts.Need-add-list-check (node-claims t) (node-check-at t) node-check.Post
-  node-add-list-check c = let s = c .before .before .before .before .before in omega (arith, inner (c .before), s .pre .1 .4 .inside, s .good)
+  node-add-list-check c = let s = c .before .before .before .before .before .before .before in omega (arith, inner (c .before), s .pre .1 .4 .inside, s .good)
 
   node-add-list-check-2 : node-check-lts.Need-add-list-check-2 (node-claims t) (node-check-at t) node-check.Post
   node-add-list-check-2 c = omega (arith, inner (c .before))
 
   node-list-check-requires : node-check-lts.Need-list-check-requires (node-claims t) (node-check-at t) node-check.Post
   node-list-check-requires c κs =
-      let s = c .before .before .before .before .before .before .before .before in
+      let s = c .before .before .before .before .before .before .before .before .before .before in
       let i = inner (c .before .before .before .before) in
       let p = s .pre .1 in
       let r = part-rest (p .4) _ (i .0) in (
@@ -154,25 +155,31 @@ module _ (t : ℕ) where
         (i .1, p .2, p .3, r, p .5, p .6, p .7, p .8),
       )
 
+  node-same-length : node-check-lts.Need-same-length (node-claims t) (node-check-at t) node-check.Post
+  node-same-length c = search needs
+
+  node-same-length-2 : node-check-lts.Need-same-length-2 (node-claims t) (node-check-at t) node-check.Post
+  node-same-length-2 c = search needs
+
   node-returns-2 : node-check-lts.Need-returns-2 (node-claims t) (node-check-at t) node-check.Post
   node-returns-2 c =
       λ h e.
-      let k = c .before .before .before .before .before in
-      let s = k .before .before .before .before in
-      node-ended (s .pre .1 .4) h _ _ _ _ _ _ _ _ _ _ e (k .before .if1 .left) (k .only .ensures) (c .list-check .ensures)
+      let k = c .before .before .before .before .before .before .before .before .before in
+      let s = k .before .before .before .before .before .before in
+      node-ended (s .pre .1 .4) h _ _ _ _ _ _ _ _ _ _ e (k .before .if1 .left) (k .only .ensures) (c .before .before .before .before .list-check .ensures)
 
 -- ── a proxy ──
 
 module _ (t : ℕ) where
   -- the page that is entered
-  reached : (c : proxy-check-lts.Else1 (proxy-claims t) (proxy-check-at t) proxy-check.Post) → let s = c .before .before .before .before .before .before in
+  reached : (c : proxy-check-lts.Else1 (proxy-claims t) (proxy-check-at t) proxy-check.Post) → let s = c .before .before .before .before .before .before .before .before in
       Entered (now (s .args .image)) (c .before .reach .result) (s .args .w .at / pageSize) (state (s .args .w .left) (now (s .args .marks)))
   reached c =
-      let s = c .before .before .before .before .before .before in
+      let s = c .before .before .before .before .before .before .before .before in
       step.proxy-entered (s .pre .1 .3 .1) (s .pre .1 .1) (s .pre .1 .2) _ (c .before .reach .ensures .0) (c .if1 .left)
 
   proxy-reach-requires : proxy-check-lts.Need-reach-requires (proxy-claims t) (proxy-check-at t) proxy-check.Post
-  proxy-reach-requires c κs = c .before .before .before .before .pre .1 .0
+  proxy-reach-requires c κs = c .before .before .before .before .before .before .pre .1 .0
 
   proxy-refused-requires : proxy-check-lts.Need-refused-requires (proxy-claims t) (proxy-check-at t) proxy-check.Post
   proxy-refused-requires c κs = search needs
@@ -181,7 +188,7 @@ module _ (t : ℕ) where
   proxy-returns c =
       λ g x.
       let k = c .before .before in
-      let s = k .before .before .before .before .before in
+      let s = k .before .before .before .before .before .before .before in
       step.turned-over _ _ _ _ (ap (λ (v : Walker). v .left) (c .refused .ensures))
       (step.proxy-none x (s .pre .1 .1) (s .pre .1 .2) _ (k .reach .ensures .0) (c .before .if1 .taken))
 
@@ -207,18 +214,25 @@ module _ (t : ℕ) where
   proxy-enter-requires c κs =
       let h = c .before .before .before in
       let r = h .before .before .before in
-      let s = r .before .before .before .before .before .before in
+      let s = r .before .before .before .before .before .before .before .before in
       let x = s .pre .1 .3 .1 in
-      (step.standing-fits x, x .at .1, reached r .names .low, x .at .0 .wide, x .at .0 .back-long)
+      let n = reached r .names in
+      (step.standing-fits x, x .at .1, n .low, omega (arith, n .inside, step.standing-wide x), omega (arith, n .inside, step.standing-back x))
+
+  proxy-same-length : proxy-check-lts.Need-same-length (proxy-claims t) (proxy-check-at t) proxy-check.Post
+  proxy-same-length c = search needs
+
+  proxy-same-length-2 : proxy-check-lts.Need-same-length-2 (proxy-claims t) (proxy-check-at t) proxy-check.Post
+  proxy-same-length-2 c = search needs
 
   proxy-returns-2 : proxy-check-lts.Need-returns-2 (proxy-claims t) (proxy-check-at t) proxy-check.Post
   proxy-returns-2 c =
       λ g x.
-      let h = c .before .before .before .before in
+      let h = c .before .before .before .before .before .before .before .before in
       let r = h .before .before .before in
-      let s = r .before .before .before .before .before .before in
-      let e = c .enter .ensures in
-      step.turned-as (r .before .reach .ensures .1) (e .1 .0) (e .1 .1) (e .0) (step.turned-helper x (s .pre .1 .1) (s .pre .1 .2) _ (r .before .reach .ensures .0) (r .if1 .left) _ (h .before .before .record-end .ensures) _ (h .head .ensures) (c .before .before .before .if2 .taken))
+      let s = r .before .before .before .before .before .before .before .before in
+      let e = c .before .before .before .before .enter .ensures in
+      step.turned-as (r .before .reach .ensures .1) (e .1 .0) (e .1 .1) (e .0) (step.turned-helper x (s .pre .1 .1) (s .pre .1 .2) _ (r .before .reach .ensures .0) (r .if1 .left) _ (h .before .before .record-end .ensures) _ (h .head .ensures) (c .before .before .before .before .before .before .before .if2 .taken))
 
   proxy-refused-requires-2 : proxy-check-lts.Need-refused-requires-2 (proxy-claims t) (proxy-check-at t) proxy-check.Post
   proxy-refused-requires-2 c κs = search needs
@@ -228,14 +242,14 @@ module _ (t : ℕ) where
       λ g x.
       let h = c .before .before .before in
       let r = h .before .before .before in
-      let s = r .before .before .before .before .before .before in
+      let s = r .before .before .before .before .before .before .before .before in
       step.turned-over _ _ _ _ (ap (λ (v : Walker). v .left) (c .refused2 .ensures)) (step.proxy-bare x (s .pre .1 .1) (s .pre .1 .2) _ (r .before .reach .ensures .0) (r .if1 .left) _ (h .before .before .record-end .ensures) _ (h .head .ensures) (c .before .if3 .taken))
 
   proxy-sub-past : proxy-check-lts.Need-sub-past (proxy-claims t) (proxy-check-at t) proxy-check.Post
-  proxy-sub-past c = let s = c .before .before .before .before .before .before .before .before .before .before .before .before in s .pre .1 .3 .1 .at .1
+  proxy-sub-past c = let s = c .before .before .before .before .before .before .before .before .before .before .before .before .before .before in s .pre .1 .3 .1 .at .1
 
   proxy-past-requires : proxy-check-lts.Need-past-requires (proxy-claims t) (proxy-check-at t) proxy-check.Post
-  proxy-past-requires c κs = let s = c .before .before .before .before .before .before .before .before .before .before .before .before in (step.standing-fits (s .pre .1 .3 .1), omega arith)
+  proxy-past-requires c κs = let s = c .before .before .before .before .before .before .before .before .before .before .before .before .before .before in (step.standing-fits (s .pre .1 .3 .1), omega arith)
 
   proxy-refused-requires-3 : proxy-check-lts.Need-refused-requires-3 (proxy-claims t) (proxy-check-at t) proxy-check.Post
   proxy-refused-requires-3 c κs = search needs
@@ -245,32 +259,37 @@ module _ (t : ℕ) where
       λ g x.
       let h = c .before .before .before .before .before .before .before .before in
       let r = h .before .before .before in
-      let s = r .before .before .before .before .before .before in
+      let s = r .before .before .before .before .before .before .before .before in
       step.turned-over _ _ _ _ (ap (λ (v : Walker). v .left) (c .refused3 .ensures)) (step.literal-deep x (s .pre .1 .1) (s .pre .1 .2) _ (r .before .reach .ensures .0) (r .if1 .left) _ (h .before .before .record-end .ensures) _ (h .head .ensures) (c .before .before .before .if4 .taken) (c .before .if5 .taken))
 
   proxy-mul-widths : proxy-check-lts.Need-mul-widths (proxy-claims t) (proxy-check-at t) proxy-check.Post
   proxy-mul-widths c = omega (arith, reached (c .before .before .before .before .before .before .before .before .before .before) .names .low)
 
-  proxy-element-write-widths : proxy-check-lts.Need-element-write-widths (proxy-claims t) (proxy-check-at t) proxy-check.Post
-  proxy-element-write-widths c = omega (arith, reached (c .before .before .before .before .before .before .before .before .before .before) .names .low)
+  proxy-slice-write-widths : proxy-check-lts.Need-slice-write-widths (proxy-claims t) (proxy-check-at t) proxy-check.Post
+  proxy-slice-write-widths c =
+      let r = c .before .before .before .before .before .before .before .before .before .before in
+      omega (arith, reached r .names .inside, step.standing-wide (r .before .before .before .before .before .before .before .before .pre .1 .3 .1))
+
+  proxy-same-length-3 : proxy-check-lts.Need-same-length-3 (proxy-claims t) (proxy-check-at t) proxy-check.Post
+  proxy-same-length-3 c = search needs
 
   proxy-returns-5 : proxy-check-lts.Need-returns-5 (proxy-claims t) (proxy-check-at t) proxy-check.Post
   proxy-returns-5 c =
       λ g x.
       let h = c .before .before .before .before .before .before .before in
       let r = h .before .before .before in
-      let s = r .before .before .before .before .before .before in
+      let s = r .before .before .before .before .before .before .before .before in
       step.turned-as (r .before .reach .ensures .1) refl refl (c .before .before .before .past .ensures)
       (step.turned-literal x (s .pre .1 .1) (s .pre .1 .2) _ (r .before .reach .ensures .0) (r .if1 .left) _ (h .before .before .record-end .ensures) _ (h .head .ensures) (c .before .before .if4 .taken) (c .if5 .left))
 
   proxy-sub-node-check : proxy-check-lts.Need-sub-node-check (proxy-claims t) (proxy-check-at t) proxy-check.Post
-  proxy-sub-node-check c = let s = c .before .before .before .before .before .before .before .before .before .before .before .before .before .before .before in s .pre .1 .3 .1 .at .1
+  proxy-sub-node-check c = let s = c .before .before .before .before .before .before .before .before .before .before .before .before .before .before .before .before .before in s .pre .1 .3 .1 .at .1
 
   proxy-node-check-requires : proxy-check-lts.Need-node-check-requires (proxy-claims t) (proxy-check-at t) proxy-check.Post
   proxy-node-check-requires c κs =
       let h = c .before .before .before .before .before .before .before .before .before in
       let r = h .before .before .before in
-      let s = r .before .before .before .before .before .before in
+      let s = r .before .before .before .before .before .before .before .before in
       let x = s .pre .1 .3 .1 in
       let e = reached r in
       let p = step.proxy-part x (s .pre .1 .1) (s .pre .1 .2) _ (r .before .reach .ensures .0) (r .if1 .left) _ (h .before .before .record-end .ensures) _ (h .head .ensures) in
@@ -284,42 +303,56 @@ module _ (t : ℕ) where
           p,
           s .pre .1 .0,
           subst IsMarks (sym (r .before .reach .ensures .1 ∙ marked-is _ _ (r .if1 .left))) (marks-kept _ _ (x .at .0 .is-marks) (e .names .low)),
-          x .at .0 .wide,
-          x .at .0 .back-long,
+          step.standing-wide x,
+          step.standing-back x,
         ),
       )
 
   proxy-mul-widths-2 : proxy-check-lts.Need-mul-widths-2 (proxy-claims t) (proxy-check-at t) proxy-check.Post
-  proxy-mul-widths-2 c = omega (arith, reached (c .before .before .before .before .before .before .before .before .before .before .before .before .before) .names .low)
+  proxy-mul-widths-2 c = omega (arith, reached (c .before .before .before .before .before .before .before .before .before .before .before .before .before .before .before .before .before) .names .low)
 
-  proxy-element-write-widths-2 : proxy-check-lts.Need-element-write-widths-2 (proxy-claims t) (proxy-check-at t) proxy-check.Post
-  proxy-element-write-widths-2 c = omega (arith, reached (c .before .before .before .before .before .before .before .before .before .before .before .before .before) .names .low)
+  proxy-slice-write-widths-2 : proxy-check-lts.Need-slice-write-widths-2 (proxy-claims t) (proxy-check-at t) proxy-check.Post
+  proxy-slice-write-widths-2 c =
+      let r = c .before .before .before .before .before .before .before .before .before .before .before .before .before .before .before .before .before in
+      omega (arith, reached r .names .inside, step.standing-wide (r .before .before .before .before .before .before .before .before .pre .1 .3 .1))
+
+  proxy-same-length-4 : proxy-check-lts.Need-same-length-4 (proxy-claims t) (proxy-check-at t) proxy-check.Post
+  proxy-same-length-4 c = search needs
+
+  proxy-same-length-5 : proxy-check-lts.Need-same-length-5 (proxy-claims t) (proxy-check-at t) proxy-check.Post
+  proxy-same-length-5 c = search needs
 
   proxy-returns-6 : proxy-check-lts.Need-returns-6 (proxy-claims t) (proxy-check-at t) proxy-check.Post
   proxy-returns-6 c =
       λ g x.
-      let h = c .before .before .before .before .before .before .before .before .before .before in
+      let h = c .before .before .before .before .before .before .before .before .before .before .before .before .before .before in
       let r = h .before .before .before in
-      let s = r .before .before .before .before .before .before in
-      let one = root-low _ _ (h .head .ensures) (c .before .before .before .before .before .before .before .before .if3 .left) (c .before .before .before .before .before .before .before .before .before .if2 .left) in
-      let is : h .head .result ≡ 1 = omega (arith, one, c .before .before .before .before .before .if4 .left) in
+      let s = r .before .before .before .before .before .before .before .before in
+      let one = root-low _ _ (h .head .ensures) (c .before .before .before .before .before .before .before .before .before .before .before .before .if3 .left) (c .before .before .before .before .before .before .before .before .before .before .before .before .before .if2 .left) in
+      let is : h .head .result ≡ 1 = omega (arith, one, c .before .before .before .before .before .before .before .before .before .if4 .left) in
       step.turned-as refl refl refl
-      (ap (λ (v : Walker). walker (v .kinds) (c .node-check .result) (v .count) (v .depth) (v .at) (v .end) (v .level)) (c .before .before .before .before .before .before .past .ensures))
-      (step.turned-aggregate x (s .pre .1 .1) (s .pre .1 .2) _ (r .before .reach .ensures .0) (r .if1 .left) _ (h .before .before .record-end .ensures) _ (h .head .ensures) is _ (r .before .reach .ensures .1) (c .node-check .result) _ _ _ (c .node-check .ensures))
+      (ap (λ (v : Walker). walker (v .kinds) (c .before .before .before .before .node-check .result) (v .count) (v .depth) (v .at) (v .end) (v .level)) (c .before .before .before .before .before .before .before .before .before .before .past .ensures))
+      (step.turned-aggregate x (s .pre .1 .1) (s .pre .1 .2) _ (r .before .reach .ensures .0) (r .if1 .left) _ (h .before .before .record-end .ensures) _ (h .head .ensures) is _ (r .before .reach .ensures .1) (c .before .before .before .before .node-check .result) _ _ _ (c .before .before .before .before .node-check .ensures))
 
 -- ── a node of a list ──
 
 module _ (t : ℕ) where
   part-kind-in-requires : part-check-lts.Need-kind-in-requires (part-claims t) (part-check-at t) part-check.Post
-  part-kind-in-requires c κs = let s = c .before .before in step.node-size (s .pre .1 .3 .1) (s .pre .1 .1) .0
+  part-kind-in-requires c κs = let s = c .before .before .before .before in step.node-size (s .pre .1 .3 .1) (s .pre .1 .1) .0
 
   part-proxy-check-requires : part-check-lts.Need-proxy-check-requires (part-claims t) (part-check-at t) part-check.Post
   part-proxy-check-requires c κs =
-      let s = c .before .before .before .before .before .before .before in
+      let s = c .before .before .before .before .before .before .before .before .before in
       (omega (arith, s .pre .0), (s .pre .1 .0, s .pre .1 .1, sym (c .before .before .before .if1 .taken) ∙ c .before .before .before .before .kind-in .ensures, s .pre .1 .3))
 
+  part-same-length : part-check-lts.Need-same-length (part-claims t) (part-check-at t) part-check.Post
+  part-same-length c = search needs
+
+  part-same-length-2 : part-check-lts.Need-same-length-2 (part-claims t) (part-check-at t) part-check.Post
+  part-same-length-2 c = search needs
+
   part-returns : part-check-lts.Need-returns (part-claims t) (part-check-at t) part-check.Post
-  part-returns c = c .proxy-check .ensures
+  part-returns c = c .before .before .before .before .proxy-check .ensures
 
   part-refused-requires : part-check-lts.Need-refused-requires (part-claims t) (part-check-at t) part-check.Post
   part-refused-requires c κs = search needs
@@ -327,15 +360,15 @@ module _ (t : ℕ) where
   part-returns-2 : part-check-lts.Need-returns-2 (part-claims t) (part-check-at t) part-check.Post
   part-returns-2 c =
       λ g x.
-      let s = c .before .before .before .before .before .before in
+      let s = c .before .before .before .before .before .before .before .before in
       step.turned-over _ _ _ _ (ap (λ (v : Walker). v .left) (c .refused .ensures))
       (step.node-none x (s .pre .1 .1) _ (c .before .before .before .kind-in .ensures) (s .pre .1 .2) (c .before .before .if1 .left) (c .before .if2 .taken))
 
   part-past-requires : part-check-lts.Need-past-requires (part-claims t) (part-check-at t) part-check.Post
-  part-past-requires c κs = let s = c .before .before .before .before .before in let x = s .pre .1 .3 .1 in (step.standing-fits x, step.node-size x (s .pre .1 .1) .2)
+  part-past-requires c κs = let s = c .before .before .before .before .before .before .before in let x = s .pre .1 .3 .1 in (step.standing-fits x, step.node-size x (s .pre .1 .1) .2)
 
   part-add-holds-leaves : part-check-lts.Need-add-holds-leaves (part-claims t) (part-check-at t) part-check.Post
-  part-add-holds-leaves c = let x = c .before .before .before .before .before .before .before .pre .1 .3 .1 in omega (arith, x .level, x .own .deep)
+  part-add-holds-leaves c = let x = c .before .before .before .before .before .before .before .before .before .pre .1 .3 .1 in omega (arith, x .level, x .own .deep)
 
   part-holds-leaves-requires : part-check-lts.Need-holds-leaves-requires (part-claims t) (part-check-at t) part-check.Post
   part-holds-leaves-requires c κs = search needs
@@ -343,14 +376,14 @@ module _ (t : ℕ) where
   part-returns-3 : part-check-lts.Need-returns-3 (part-claims t) (part-check-at t) part-check.Post
   part-returns-3 c =
       λ g x.
-      let s = c .before .before .before .before .before .before .before .before .before in
+      let s = c .before .before .before .before .before .before .before .before .before .before .before in
       let f = c .before .holds-leaves .ensures (c .if3 .taken) in
       step.turned-as refl refl refl (c .before .before .before .past .ensures)
       (step.turned-leaves x (s .pre .1 .1) _ (c .before .before .before .before .before .before .kind-in .ensures) (c .before .before .before .before .if2 .left) (f .0) (f .1))
 
   part-node-check-requires : part-check-lts.Need-node-check-requires (part-claims t) (part-check-at t) part-check.Post
   part-node-check-requires c κs =
-      let s = c .before .before .before .before .before .before .before .before .before .before .before .before in
+      let s = c .before .before .before .before .before .before .before .before .before .before .before .before .before .before in
       let x = s .pre .1 .3 .1 in
       let n = s .pre .1 .1 in (
         omega (arith, s .pre .0),
@@ -362,17 +395,23 @@ module _ (t : ℕ) where
           step.node-part x n,
           s .pre .1 .0,
           x .at .0 .is-marks,
-          x .at .0 .wide,
-          x .at .0 .back-long,
+          step.standing-wide x,
+          step.standing-back x,
         ),
       )
+
+  part-same-length-3 : part-check-lts.Need-same-length-3 (part-claims t) (part-check-at t) part-check.Post
+  part-same-length-3 c = search needs
+
+  part-same-length-4 : part-check-lts.Need-same-length-4 (part-claims t) (part-check-at t) part-check.Post
+  part-same-length-4 c = search needs
 
   part-returns-4 : part-check-lts.Need-returns-4 (part-claims t) (part-check-at t) part-check.Post
   part-returns-4 c =
       λ g x.
-      let s = c .before .before .before .before .before .before .before .before .before .before .before .before .before in
-      step.turned-as refl refl refl (ap (λ (v : Walker). walker (v .kinds) (c .node-check .result) (v .count) (v .depth) (v .at) (v .end) (v .level)) (c .before .before .before .before .before .before .before .past .ensures))
-      (step.turned-node x (s .pre .1 .1) _ (c .before .before .before .before .before .before .before .before .before .before .kind-in .ensures) (c .before .before .before .before .before .before .before .before .if2 .left) (c .node-check .result) _ _ _ (c .node-check .ensures))
+      let s = c .before .before .before .before .before .before .before .before .before .before .before .before .before .before .before .before .before .before .before in
+      step.turned-as refl refl refl (ap (λ (v : Walker). walker (v .kinds) (c .before .before .before .before .node-check .result) (v .count) (v .depth) (v .at) (v .end) (v .level)) (c .before .before .before .before .before .before .before .before .before .before .before .past .ensures))
+      (step.turned-node x (s .pre .1 .1) _ (c .before .before .before .before .before .before .before .before .before .before .before .before .before .before .kind-in .ensures) (c .before .before .before .before .before .before .before .before .before .before .before .before .if2 .left) (c .before .before .before .before .node-check .result) _ _ _ (c .before .before .before .before .node-check .ensures))
 
 -- ── a list ──
 
@@ -384,22 +423,24 @@ module _ (t : ℕ) where
 
   -- the turns that call nothing on
   out : (c : list-check-lts.After-leave (list-claims t) (list-check-at t) list-check.Post Inv-loop μ-loop) → let l = c .before .before .before .before .before .before in
-      let s = l .before .before .before .before in
-      Goes (now (s .args .image)) (goal s) (l .loop .marks) (c .leave .last .1 .1 .1 .0) (l .loop .back) (l .loop .w) (c .leave .result)
-  out c =
+      let s = l .before .before .before .before .before .before in
+      let p = l .loop .w .at / pageSize in
+      (table : List ℕ) → table ≡ set (l .loop .widths) p (l .loop .w .count - getD (l .loop .widths) p 0)
+      → Goes (now (s .args .image)) (goal s) (l .loop .marks) table (l .loop .back) (l .loop .w) (c .leave .result)
+  out c table e =
       let x = c .before .before .before .before .before .before .loop .inv in
-      step.goes-as refl (c .leave .ensures .1) refl (c .leave .ensures .0)
+      step.goes-as refl e refl (c .leave .ensures .0)
       (step.goes-out x (c .before .before .before .before .before .if1 .taken) (c .before .before .before .if2 .left))
 
   empty : (c : list-check-lts.After-past (list-claims t) (list-check-at t) list-check.Post Inv-loop μ-loop) → let l = c .before .before .before .before .before .before in
-      let s = l .before .before .before .before in
+      let s = l .before .before .before .before .before .before in
       Goes (now (s .args .image)) (goal s) (l .loop .marks) (l .loop .widths) (l .loop .back) (l .loop .w) (c .past .result)
   empty c =
       let x = c .before .before .before .before .before .before .loop .inv in
       step.goes-as refl refl refl (c .past .ensures) (step.passed-empty x _ (c .before .before .aggregate .ensures) (c .before .if3 .taken))
 
   short : (c : list-check-lts.After-past2 (list-claims t) (list-check-at t) list-check.Post Inv-loop μ-loop) → let l = c .before .before .before .before .before .before .before .before .before .before in
-      let s = l .before .before .before .before in
+      let s = l .before .before .before .before .before .before in
       Goes (now (s .args .image)) (goal s) (l .loop .marks) (l .loop .widths) (l .loop .back) (l .loop .w) (c .past2 .result)
   short c =
       let x = c .before .before .before .before .before .before .before .before .before .before .loop .inv in
@@ -408,20 +449,26 @@ module _ (t : ℕ) where
       (step.passed-literal x _ (n .size-of .ensures) (c .before .before .before .if4 .left) _ (c .before .before .literal .ensures) (c .before .if5 .taken))
 
   list-add-last : list-check-lts.Need-add-last (list-claims t) (list-check-at t) list-check.Post Inv-loop μ-loop
-  list-add-last c = let s = c .before .before in omega (arith, s .pre .1 .3 .inside, s .good)
+  list-add-last c = let s = c .before .before .before .before in omega (arith, s .pre .1 .3 .inside, s .good)
 
   list-first-requires : list-check-lts.Need-first-requires (list-claims t) (list-check-at t) list-check.Post Inv-loop μ-loop
   list-first-requires c κs = search needs
 
   list-loop-holds : list-check-lts.Need-loop-holds (list-claims t) (list-check-at t) list-check.Post Inv-loop μ-loop
   list-loop-holds c =
-      let s = c .before .before .before in
+      let s = c .before .before .before .before .before in
       let p = s .pre .1 in
       subst (Standing (now (s .args .image)) (goal s) (now (s .args .marks)) (now (s .args .widths)) (now (s .args .back))) (sym (c .first .ensures)) (record {
-        own = own-of _ _ _ _ _ _ _ _ (p .3) (p .0) (p .2);
-        at = at-start _ _ _ _ _ _ _ _ (p .3) (p .5) (p .6) (p .7) (p .1) _ refl;
+        own = own-of _ _ _ _ _ _ _ _ (p .3) (p .0) (p .2) (p .6) (p .7);
+        at = at-start _ _ _ _ _ _ _ _ (p .3) (p .5) (p .1) _ refl;
         level = refl;
       })
+
+  list-same-length : list-check-lts.Need-same-length (list-claims t) (list-check-at t) list-check.Post Inv-loop μ-loop
+  list-same-length c = c .before .before .before .loop .inv .at .0 .wide
+
+  list-same-length-2 : list-check-lts.Need-same-length-2 (list-claims t) (list-check-at t) list-check.Post Inv-loop μ-loop
+  list-same-length-2 c = c .before .before .before .loop .inv .at .0 .back-long
 
   list-returns : list-check-lts.Need-returns (list-claims t) (list-check-at t) list-check.Post Inv-loop μ-loop
   list-returns c =
@@ -430,7 +477,7 @@ module _ (t : ℕ) where
       record {
         came = going-done (x .own) (x .at .0) (sym (c .before .before .if1 .taken)) (c .if2 .taken);
         stays = λ z. x .at .0 .kept;
-        long = λ z. x .at .0 .back-long ∙ sym (l .before .before .before .before .pre .1 .7);
+        long = λ z. x .at .0 .back-long;
       }
 
   list-leave-requires : list-check-lts.Need-leave-requires (list-claims t) (list-check-at t) list-check.Post Inv-loop μ-loop
@@ -438,13 +485,13 @@ module _ (t : ℕ) where
       let x = c .before .before .before .before .before .loop .inv in
       let z = c .before .before .if2 .left in
       let o = step.leaving x (c .before .before .before .before .if1 .taken) z in
-      (step.standing-fits x, omega (arith, z), o .low, o .few, x .at .0 .wide, x .at .0 .back-long, o .fits, o .outer)
+      (step.standing-fits x, omega (arith, z), o .inside, o .few, step.standing-wide x, step.standing-back x, o .fits, o .outer)
 
   list-loop-less : list-check-lts.Need-loop-less (list-claims t) (list-check-at t) list-check.Post Inv-loop μ-loop
-  list-loop-less c = out c .less
+  list-loop-less c = out (c .before .before) _ (c .before .before .leave .ensures .1) .less
 
   list-loop-again : list-check-lts.Need-loop-again (list-claims t) (list-check-at t) list-check.Post Inv-loop μ-loop
-  list-loop-again c = out c .on
+  list-loop-again c = out (c .before .before) _ (c .before .before .leave .ensures .1) .on
 
   list-sub-rest : list-check-lts.Need-sub-rest (list-claims t) (list-check-at t) list-check.Post Inv-loop μ-loop
   list-sub-rest c = step.standing-in (c .before .loop .inv) .1
@@ -469,6 +516,12 @@ module _ (t : ℕ) where
 
   list-size-of-requires : list-check-lts.Need-size-of-requires (list-claims t) (list-check-at t) list-check.Post Inv-loop μ-loop
   list-size-of-requires c κs = search needs
+
+  list-same-length-3 : list-check-lts.Need-same-length-3 (list-claims t) (list-check-at t) list-check.Post Inv-loop μ-loop
+  list-same-length-3 c = c .before .before .before .before .before .before .before .loop .inv .at .0 .wide
+
+  list-same-length-4 : list-check-lts.Need-same-length-4 (list-claims t) (list-check-at t) list-check.Post Inv-loop μ-loop
+  list-same-length-4 c = c .before .before .before .before .before .before .before .loop .inv .at .0 .back-long
 
   list-returns-2 : list-check-lts.Need-returns-2 (list-claims t) (list-check-at t) list-check.Post Inv-loop μ-loop
   list-returns-2 c =
@@ -500,7 +553,7 @@ module _ (t : ℕ) where
   list-part-check-requires : list-check-lts.Need-part-check-requires (list-claims t) (list-check-at t) list-check.Post Inv-loop μ-loop
   list-part-check-requires c κs =
       let l = c .before .before .before .before .before .before .before .before .before .before .before .before .before in
-      let s = l .before .before .before .before in
+      let s = l .before .before .before .before .before .before in
       let x = l .loop .inv in
       let n = c .before .before .before .before .before .before .before in
       let z = c .before .before .before .before .before .before .if4 .left in
@@ -514,25 +567,31 @@ module _ (t : ℕ) where
         ),
       )
 
+  list-same-length-5 : list-check-lts.Need-same-length-5 (list-claims t) (list-check-at t) list-check.Post Inv-loop μ-loop
+  list-same-length-5 c = omega (arith, c .before .before .before .before .before .before .before .before .before .before .before .before .before .before .before .before .before .before .before .before .loop .inv .at .0 .wide)
+
+  list-same-length-6 : list-check-lts.Need-same-length-6 (list-claims t) (list-check-at t) list-check.Post Inv-loop μ-loop
+  list-same-length-6 c = omega (arith, c .before .before .before .before .before .before .before .before .before .before .before .before .before .before .before .before .before .before .before .before .loop .inv .at .0 .back-long)
+
   list-returns-3 : list-check-lts.Need-returns-3 (list-claims t) (list-check-at t) list-check.Post Inv-loop μ-loop
   list-returns-3 c =
-      let x = c .before .before .before .before .before .before .before .before .before .before .before .before .before .before .before .before .loop .inv in
-      ended-none _ _ _ _ _ _ (c .before .before .part-check .ensures _ x .over (c .if6 .taken))
+      let x = c .before .before .before .before .before .before .before .before .before .before .before .before .before .before .before .before .before .before .before .before .loop .inv in
+      ended-none _ _ _ _ _ _ (c .before .before .before .before .before .before .part-check .ensures _ x .over (c .if6 .taken))
 
   list-loop-less-4 : list-check-lts.Need-loop-less-4 (list-claims t) (list-check-at t) list-check.Post Inv-loop μ-loop
   list-loop-less-4 c =
-      let x = c .before .before .before .before .before .before .before .before .before .before .before .before .before .before .before .before .loop .inv in
-      c .before .before .part-check .ensures _ x .goes (c .if6 .left) .less
+      let x = c .before .before .before .before .before .before .before .before .before .before .before .before .before .before .before .before .before .before .before .before .loop .inv in
+      c .before .before .before .before .before .before .part-check .ensures _ x .goes (c .if6 .left) .less
 
   list-loop-again-4 : list-check-lts.Need-loop-again-4 (list-claims t) (list-check-at t) list-check.Post Inv-loop μ-loop
   list-loop-again-4 c =
-      let x = c .before .before .before .before .before .before .before .before .before .before .before .before .before .before .before .before .loop .inv in
-      c .before .before .part-check .ensures _ x .goes (c .if6 .left) .on
+      let x = c .before .before .before .before .before .before .before .before .before .before .before .before .before .before .before .before .before .before .before .before .loop .inv in
+      c .before .before .before .before .before .before .part-check .ensures _ x .goes (c .if6 .left) .on
 
 pub +list-check+node-check+part-check+proxy-check-spec : {M : Type 1} → statement M
 +list-check+node-check+part-check+proxy-check-spec =
     close μ-list-check μ-node-check μ-part-check μ-proxy-check
-    (λ t. list-check-lts.spec (list-claims t) (list-check-at t) list-check.Post Inv-loop μ-loop (list-add-last t) (list-first-requires t) (list-loop-holds t) (list-returns t) (list-leave-requires t) (list-loop-less t) (list-loop-again t) (list-sub-rest t) (list-part-rest-start t) (list-part-rest-end t) (list-aggregate-requires t) (list-past-requires t) (list-loop-less-2 t) (list-loop-again-2 t) (list-size-of-requires t) (list-returns-2 t) (list-literal-requires t) (list-past-requires-2 t) (list-loop-less-3 t) (list-loop-again-3 t) (list-slice-aggregate-part-check t) (list-part-check-requires t) (list-returns-3 t) (list-loop-less-4 t) (list-loop-again-4 t))
-    (λ t. node-check-lts.spec (node-claims t) (node-check-at t) node-check.Post (node-returns t) (node-add-below t) (node-only-requires t) (node-mul-k t) (node-add-k t) (node-sub-list-check t) (node-part-list-check-start t) (node-part-list-check-end t) (node-add-list-check t) (node-add-list-check-2 t) (node-list-check-requires t) (node-returns-2 t))
-    (λ t. part-check-lts.spec (part-claims t) (part-check-at t) part-check.Post (part-kind-in-requires t) (part-proxy-check-requires t) (part-returns t) (part-refused-requires t) (part-returns-2 t) (part-past-requires t) (part-add-holds-leaves t) (part-holds-leaves-requires t) (part-returns-3 t) (part-node-check-requires t) (part-returns-4 t))
-    (λ t. proxy-check-lts.spec (proxy-claims t) (proxy-check-at t) proxy-check.Post (proxy-reach-requires t) (proxy-refused-requires t) (proxy-returns t) (proxy-mul-a t) (proxy-record-end-requires t) (proxy-sub-record t) (proxy-part-record-start t) (proxy-part-record-end t) (proxy-head-requires t) (proxy-enter-requires t) (proxy-returns-2 t) (proxy-refused-requires-2 t) (proxy-returns-3 t) (proxy-sub-past t) (proxy-past-requires t) (proxy-refused-requires-3 t) (proxy-returns-4 t) (proxy-mul-widths t) (proxy-element-write-widths t) (proxy-returns-5 t) (proxy-sub-node-check t) (proxy-node-check-requires t) (proxy-mul-widths-2 t) (proxy-element-write-widths-2 t) (proxy-returns-6 t))
+    (λ t. list-check-lts.spec (list-claims t) (list-check-at t) list-check.Post Inv-loop μ-loop (list-add-last t) (list-first-requires t) (list-loop-holds t) (list-same-length t) (list-same-length-2 t) (list-returns t) (list-leave-requires t) (list-loop-less t) (list-loop-again t) (list-sub-rest t) (list-part-rest-start t) (list-part-rest-end t) (list-aggregate-requires t) (list-past-requires t) (list-loop-less-2 t) (list-loop-again-2 t) (list-size-of-requires t) (list-same-length-3 t) (list-same-length-4 t) (list-returns-2 t) (list-literal-requires t) (list-past-requires-2 t) (list-loop-less-3 t) (list-loop-again-3 t) (list-slice-aggregate-part-check t) (list-part-check-requires t) (list-same-length-5 t) (list-same-length-6 t) (list-returns-3 t) (list-loop-less-4 t) (list-loop-again-4 t))
+    (λ t. node-check-lts.spec (node-claims t) (node-check-at t) node-check.Post (node-returns t) (node-add-below t) (node-only-requires t) (node-mul-k t) (node-add-k t) (node-sub-list-check t) (node-part-list-check-start t) (node-part-list-check-end t) (node-add-list-check t) (node-add-list-check-2 t) (node-list-check-requires t) (node-same-length t) (node-same-length-2 t) (node-returns-2 t))
+    (λ t. part-check-lts.spec (part-claims t) (part-check-at t) part-check.Post (part-kind-in-requires t) (part-proxy-check-requires t) (part-same-length t) (part-same-length-2 t) (part-returns t) (part-refused-requires t) (part-returns-2 t) (part-past-requires t) (part-add-holds-leaves t) (part-holds-leaves-requires t) (part-returns-3 t) (part-node-check-requires t) (part-same-length-3 t) (part-same-length-4 t) (part-returns-4 t))
+    (λ t. proxy-check-lts.spec (proxy-claims t) (proxy-check-at t) proxy-check.Post (proxy-reach-requires t) (proxy-refused-requires t) (proxy-returns t) (proxy-mul-a t) (proxy-record-end-requires t) (proxy-sub-record t) (proxy-part-record-start t) (proxy-part-record-end t) (proxy-head-requires t) (proxy-enter-requires t) (proxy-same-length t) (proxy-same-length-2 t) (proxy-returns-2 t) (proxy-refused-requires-2 t) (proxy-returns-3 t) (proxy-sub-past t) (proxy-past-requires t) (proxy-refused-requires-3 t) (proxy-returns-4 t) (proxy-mul-widths t) (proxy-slice-write-widths t) (proxy-same-length-3 t) (proxy-returns-5 t) (proxy-sub-node-check t) (proxy-node-check-requires t) (proxy-mul-widths-2 t) (proxy-slice-write-widths-2 t) (proxy-same-length-4 t) (proxy-same-length-5 t) (proxy-returns-6 t))

@@ -12,8 +12,8 @@ cast-widths c = search needs
 mul-widths : tie.Need-mul-widths
 mul-widths c = search needs
 
-element-write-widths : tie.Need-element-write-widths
-element-write-widths c = search needs
+slice-write-widths : tie.Need-slice-write-widths
+slice-write-widths c = search needs
 
 add-back : tie.Need-add-back
 add-back c = search needs
@@ -24,8 +24,8 @@ cast-back c = search needs
 mul-back : tie.Need-mul-back
 mul-back c = search needs
 
-element-write-back : tie.Need-element-write-back
-element-write-back c = search needs
+slice-write-back : tie.Need-slice-write-back
+slice-write-back c = search needs
 
 in-helper-requires : tie.Need-in-helper-requires
 in-helper-requires c κs = search needs
@@ -33,18 +33,24 @@ in-helper-requires c κs = search needs
 sub-t7 : tie.Need-sub-t7
 sub-t7 c = search needs
 
-add-t10 : tie.Need-add-t10
-add-t10 c = search needs
+add-t9 : tie.Need-add-t9
+add-t9 c = search needs
 
-mul-t14 : tie.Need-mul-t14
-mul-t14 c = search needs
+mul-t12 : tie.Need-mul-t12
+mul-t12 c = search needs
 
-add-t15 : tie.Need-add-t15
-add-t15 c = search needs
+add-t13 : tie.Need-add-t13
+add-t13 c = search needs
+
+same-length : tie.Need-same-length
+same-length c = search needs
+
+same-length-2 : tie.Need-same-length-2
+same-length-2 c = search needs
 
 returns : tie.Need-returns
 returns c =
-    let a = c .before .before .before .before .before .args in
+    let a = c .before .before .before .before .before .before .before .args in
     let w = a .w in (
       ap (λ (k : Kinds). walker k (w .left - 1) (w .count) (w .depth + 1) (4096 * a .p + 6) (a .end) (w .level)) (c .before .before .in-helper .ensures),
       (refl, refl),
@@ -56,14 +62,16 @@ enter-spec =
     (tie.spec
     cast-widths
     mul-widths
-    element-write-widths
+    slice-write-widths
     add-back
     cast-back
     mul-back
-    element-write-back
+    slice-write-back
     in-helper-requires
     sub-t7
-    add-t10
-    mul-t14
-    add-t15
+    add-t9
+    mul-t12
+    add-t13
+    same-length
+    same-length-2
     returns)
