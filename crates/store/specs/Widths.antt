@@ -7,7 +7,7 @@ use native.Mathlib.Omega.{arith}
 use lib.ListN.{getD, replicate, length}
 use Rattle.model.specs.Limits.{pageSize}
 use Rattle.model.specs.Row.{Row, Config}
-use Rattle.model.specs.Reading.{lengthOk, Reads}
+use Rattle.model.specs.Reading.{lengthOk, configOn, pageOf, Reads}
 use Rattle.theory_decoding.specs.Reading.{reads-length, reads-length-ok, unique}
 use Rattle.theory_places.specs.Widths.{Counted}
 use Rattle.theory_check.specs.Check.{trailersOf, walkOf, checkBy}
