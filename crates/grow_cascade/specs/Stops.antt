@@ -24,7 +24,7 @@ use Rattle.theory_growth.specs.Keeps.{grows-splits}
 use Rattle.theory_places.specs.Widths.{told-same}
 use Rattle.theory_growth.specs.Told.{told-swap}
 use Rattle.theory_page_memory.specs.Memory.{Mem, putMem, separatorMem, keptMem, riseMem}
-use Rattle.theory_page_memory.specs.Around.{kept-low, rise-stays, mem-stays}
+use Rattle.theory_page_memory.specs.Around.{rise-stays, rise-fits, mem-stays}
 use Rattle.grow_pages.specs.Links.{Below}
 use Rattle.grow_pages.specs.Relinked.{After, after-then, written, after-written}
 use Rattle.base_layout.specs.declared.Growing.{Growing}
@@ -66,7 +66,7 @@ module _ {st : Config} {was : List ℕ} {root : Row} {c : Chain} {old row : Row}
     stays = ap (λ (b : Bool). lastSettled c || b) (le-leb (recordSize row) capacity fit) ∙ or-true (lastSettled c)
 
     low-goal : rise st c (row, work) ≡ onRow (whole c) (row, work)
-    low-goal = rise-stays st c old (row, work) (w .grows .fits) stays ∙ ap (onRow (whole c)) (kept-low st (lastPage c) (row, work) fit)
+    low-goal = rise-fits st c old (row, work) (w .grows .fits) fit
 
     low-mem : (m : Mem) → putMem (g .near) (lastSettled c) (lastHolder c) row m ≡ riseMem st c row work m
     unfolding keptMem

@@ -148,8 +148,10 @@ own-step {g} {u} {img} env st setup settled holder row below small s same k at v
       };
       full = refl;
       past = past-marked (g .setup .pages) k (u .map) low (env .past);
-      as-long = record { widths = ap length ev ∙ cond-case (λ (l : List ℕ). length l ≡ length (u .widths)) (g .dry) (λ _. refl) (λ _. length-set (u .widths) k _);
-        map = length-mark (u .map) k };
+      as-long = record {
+        widths = ap length ev ∙ cond-case (λ (l : List ℕ). length l ≡ length (u .widths)) (g .dry) (λ _. refl) (λ _. length-set (u .widths) k _);
+        map = length-mark (u .map) k;
+      };
       after = record { long = put .long; same = put .same; pages = λ d. put .pages d ∙ ap (putMem k settled holder row) (same .pages d) };
       below = (inside, tt);
       written = po;

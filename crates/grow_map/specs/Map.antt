@@ -7,14 +7,15 @@ use native.Mathlib.Omega.{arith}
 use borrow.Author.Tests.{leb-true, leb-false, eqb-true, eqb-false, eq-eqb}
 use lib.ListN.{length}
 use lib.Dec.{leb, eqb}
+use Rattle.model.specs.Limits.{markBytes}
 use Rattle.model.specs.Row.{outside}
 use Rattle.model.specs.Growth.{mark}
 use Rattle.theory_check.specs.Tests.{isMarked, marked, unmarked}
 use Rattle.theory_check.specs.Marks.{after-mark, after-unmark, length-mark}
 
--- The most bytes that a map may have: one bit for each page that a number of two bytes names.
+-- The most bytes that a map may have: as many as the check's marks.
 abbrev pub mostMap : ℕ
-mostMap = 8192
+mostMap = markBytes
 
 abbrev pub usedBy : (map : List ℕ) → (page : ℕ) → Bool
 usedBy = isMarked

@@ -43,7 +43,7 @@ use Rattle.base_layout.specs.declared.Setup.{Setup}
 use Rattle.base_layout.specs.declared.Growing.{Growing}
 use Rattle.base_layout.specs.Setup.{setupOn, setupOf, reads-setup}
 use Rattle.base_layout.specs.Growing.{nearTo, pages-of}
-use Rattle.grow_groups.specs.Used.{Tables, InUse, Past, AsLong, Holds, holds-still, Env}
+use Rattle.grow_groups.specs.Used.{Tables, tables, InUse, Past, AsLong, Holds, holds-still, Env}
 use Rattle.grow_locate.specs.declared.Receiver.{Receiver}
 use Rattle.grow_new_node.specs.declared.Fresh.{Fresh}
 use Rattle.grow_cascade.specs.declared.Grown.{Grown}
@@ -71,6 +71,24 @@ pub record Begin (dry : Bool) (img : List ℕ) (u₀ : Tables) (above : ℕ) (t 
   pub marked : InUse u₀ (atRest (aim .st) (aim .root))
   pub room : dry ≡ false → grow (aim .st) (aim .root) (aim .path) k x .1 .full ≡ false
   pub told : dry ≡ false → Awaits (u₀ .widths) (aim .t)
+
+-- The same on a copy of the map.
+abbrev pub with-map : {dry : Bool} {img v m : List ℕ} {above : ℕ} {t : Receiver} {label : ℕ} {node : List ℕ} (copy : List ℕ) → copy ≡ m
+    → Begin dry img (tables v m) above t label node → Begin dry img (tables v copy) above t label node
+with-map {v = v} copy e w = record {
+  k = w .k;
+  aim = w .aim;
+  receiver = w .receiver;
+  x = w .x;
+  fits = w .fits;
+  named = w .named;
+  is = w .is;
+  short = w .short;
+  holds = subst (λ (m : List ℕ). Holds (w .aim .st .pages) (tables v m)) (sym e) (w .holds);
+  marked = subst (λ (m : List ℕ). InUse (tables v m) (atRest (w .aim .st) (w .aim .root))) (sym e) (w .marked);
+  room = w .room;
+  told = w .told;
+}
 
 -- ── the new node ──
 
@@ -142,7 +160,7 @@ module _ {dry : Bool} {img : List ℕ} {u₀ : Tables} {above : ℕ} {t : Receiv
   pub gap : Gap root (w .aim .path) (w .k) (w .aim .t)
   gap = spot-gap root (w .aim .path) (w .k) (w .aim .t) (w .aim .taken)
 
-  held : whole c (fill s rest) ≡ root
+  pub held : whole c (fill s rest) ≡ root
   held = gap .held
 
   pub stands : OnPage img (lastPage c) (lastHolder c) (fill s rest)
@@ -164,10 +182,10 @@ module _ {dry : Bool} {img : List ℕ} {u₀ : Tables} {above : ℕ} {t : Receiv
   pub row-is : row ≡ fill s (P ⊹ rest)
   row-is = ap (fill s) (place-row st (w .x) h (lastPage c) W rest)
 
-  goal-is : rise st c (row, O .1) ≡ new
+  pub goal-is : rise st c (row, O .1) ≡ new
   goal-is = sym (grow-rises st (w .x) root (w .aim .path) (w .k) (w .aim .t) (w .aim .taken))
 
-  grows : Grows c (fill s rest) (row, O .1)
+  pub grows : Grows c (fill s rest) (row, O .1)
   grows = received-grows st (w .x) root (w .aim .path) (w .k) (w .aim .t) gap (w .fits) valid (w .short)
 
   pub new-lean : InLean (new .1 .lean)

@@ -138,9 +138,9 @@ Ends w m n r = (reached : List ℕ) → Matches m reached → Ended (w reached) 
 pub record Keeps (marks back after now : List ℕ) : Type 0 where
   pub page : (q : ℕ) → q < mostPages → isMarked marks q ≡ true → (isMarked after q ≡ true) × (getD now q 0 ≡ getD back q 0)
 
--- So they do in a walk that goes on; no more pages are left than there were, and the tables are tables.
+-- So they do in a walk that goes on; no more pages are left than there were, and the tables are tables as long as before.
 pub record Stays (left : ℕ) (marks back after now : List ℕ) (r : Walked) : Type 0 where
   pub less : r .reason ≡ 0 → r .left ≤ left
   pub kept : r .reason ≡ 0 → Keeps marks back after now
   pub are : r .reason ≡ 0 → IsMarks after
-  pub long : r .reason ≡ 0 → length now ≡ mostPages
+  pub long : r .reason ≡ 0 → length now ≡ length back

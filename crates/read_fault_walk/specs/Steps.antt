@@ -173,7 +173,8 @@ pub record Going (img : List ℕ) (g : Call) (marks back : List ℕ) (own level 
   pub alone : kind ≡ 0 → at < end → wholeSize (part img at end) ≡ end - at
   pub chain : Chain img (g .stop) own level marks back frames
   pub are : IsMarks marks
-  pub long : length back ≡ mostPages
+  pub long : length back ≡ length (g .back)
+  pub enough : length img ≤ pageSize * length (g .back)
   pub kept : Keeps (g .marks) (g .back) marks back
   pub fewer : rest + depth ≤ g .left
   pub falls : 8192 * rest + 4096 * depth + (end - at) ≤ 8192 * g .left + (g .stop - g .start)
@@ -182,10 +183,10 @@ pub record Going (img : List ℕ) (g : Call) (marks back : List ℕ) (own level 
 abbrev pub callOf : (start stop holder level left : ℕ) → (marks back : List ℕ) → Call
 callOf a e h l n m b = record { start = a; stop = e; holder = h; level = l; left = n; marks = m; back = b }
 
-pub going-start : {img : List ℕ} {a e h l : ℕ} (n : ℕ) (m b : List ℕ) → Within img a e h l → a ≤ e → (h ≡ 0 → ⊥) → IsMarks m → length b ≡ mostPages
+pub going-start : {img : List ℕ} {a e h l : ℕ} (n : ℕ) (m b : List ℕ) → Within img a e h l → a ≤ e → (h ≡ 0 → ⊥) → IsMarks m → length img ≤ pageSize * length b
     → Going img (callOf a e h l n m b) m b h l a e h n 0
 unfolding Chain resume
-going-start {img} {a} {e} {h} {l} n m b w up own are long = record {
+going-start {img} {a} {e} {h} {l} n m b w up own are enough = record {
   frames = [];
   count = refl;
   held = own;
@@ -195,7 +196,8 @@ going-start {img} {a} {e} {h} {l} n m b w up own are long = record {
   alone = λ z. absurd (own z);
   chain = tt;
   are = are;
-  long = long;
+  long = refl;
+  enough = enough;
   kept = record { page = λ q i e. (e, refl) };
   fewer = omega arith;
   falls = omega arith;
@@ -259,6 +261,7 @@ module _ {img : List ℕ} {g : Call} {marks back : List ℕ} {own level at end k
       chain = c;
       are = now .are;
       long = now .long;
+      enough = now .enough;
       kept = now .kept;
       fewer = omega (arith, now .fewer);
       falls = omega (arith, now .falls, h .row .fits);
@@ -356,7 +359,7 @@ module _ {img : List ℕ} {g : Call} {marks back : List ℕ} {own level at end k
     after j e = sym (same-page (now .row) {j = j} (omega (arith, s)) (omega (arith, s)))
 
     -- past a node that is walked
-    past : (u b : List ℕ) (n : ℕ) → Keeps marks back u b → IsMarks u → length b ≡ mostPages → n ≤ rest
+    past : (u b : List ℕ) (n : ℕ) → Keeps marks back u b → IsMarks u → length b ≡ length (g .back) → n ≤ rest
         → ((before : List ℕ) → Matches (g .marks) before → Resumed img (whole img g before) (resume img level (now .frames)) u next end kind level n)
         → Going img g u b own level next end kind n depth
     past u b n k are long less left = record {
@@ -370,6 +373,7 @@ module _ {img : List ℕ} {g : Call} {marks back : List ℕ} {own level at end k
       chain = chain-as img (g .stop) own level marks back u b k (now .frames) (now .chain);
       are = are;
       long = long;
+      enough = now .enough;
       kept = keeps-trans (now .kept) k;
       fewer = omega (arith, now .fewer);
       falls = omega (arith, now .falls, s);
@@ -451,6 +455,7 @@ module _ {img : List ℕ} {g : Call} {marks back : List ℕ} {own level at end k
               chain = chain-as img (g .stop) own level marks back m back (keeps-marks e) (now .frames) (now .chain);
               are = subst IsMarks (sym e) (now .are);
               long = now .long;
+              enough = now .enough;
               kept = keeps-trans (now .kept) (keeps-marks e);
               fewer = now .fewer;
               falls = omega (arith, now .falls, sized);
@@ -504,7 +509,7 @@ module _ {img : List ℕ} {g : Call} {marks back : List ℕ} {own level at end k
                 record {
                   holds = o .holds;
                   marked = is-marked marks p p (now .are) low low ∙ rw (eq-eqb p p refl);
-                  to = getD-set-same back p (at + 8) 0 (omega (arith, now .long));
+                  to = getD-set-same back p (at + 8) 0 (omega (arith, now .long, now .enough, o .holds .on));
                   row = within-rest (now .row) {j = at + 8} (omega arith) (omega (arith, sized)) kind level (now .row .held) (now .row .low);
                   within = omega (arith, sized);
                   held = h;
@@ -516,6 +521,7 @@ module _ {img : List ℕ} {g : Call} {marks back : List ℕ} {own level at end k
               );
               are = marks-kept marks p (now .are) low;
               long = length-set back p (at + 8) ∙ now .long;
+              enough = now .enough;
               kept = keeps-trans (now .kept) keeps;
               fewer = omega (arith, now .fewer, o .room);
               falls = omega (arith, now .falls, o .room, o .holds .used);
@@ -571,6 +577,7 @@ module _ {img : List ℕ} {g : Call} {marks back : List ℕ} {own level at end k
                 chain = tt;
                 are = subst IsMarks (sym (a .0)) (now .are);
                 long = now .long;
+                enough = now .enough;
                 kept = keeps-trans (now .kept) (keeps-marks (a .0));
                 fewer = now .fewer;
                 falls = omega (arith, now .falls, sized);
@@ -620,7 +627,7 @@ module _ {img : List ℕ} {g : Call} {marks back : List ℕ} {own level at end k
         pub going-aggregate : {b : List ℕ} → Stays rest m back u b r → r .reason ≡ 0 → Going img g u b own level (x .stop) end kind (r .left) depth
         going-aggregate {b} k s =
             subst (λ (y : Inner). Going img g u b own level (y .stop) end kind (r .left) depth) (sym (aggregated .2))
-            (past sized u b (r .left) (keeps-trans (keeps-marks (aggregated .0)) (k .kept s)) (k .are s) (k .long s) (k .less s)
+            (past sized u b (r .left) (keeps-trans (keeps-marks (aggregated .0)) (k .kept s)) (k .are s) (k .long s ∙ now .long) (k .less s)
             (λ before j.
             let t = enters f z (at + 6) next 1 (level + 1) rest (aggregated .2) before j in
             let i = inner before j in

@@ -1,4 +1,7 @@
 // The walk of a diagnosis: a row of nodes, each followed by the row that it leads into, to the page in which it stops and why.
+use base_ranges::FEW;
+use base_ranges::Tables;
+use base_ranges::tables_for;
 use model::Settings;
 use read_fault_nodes::BAD_NODE;
 use read_fault_nodes::PROXY;
@@ -11,12 +14,14 @@ use read_fault_nodes::went;
 use read_marks::record_end;
 use read_nodes::head;
 ghost use mathlib.Core.Path.{_≡_};
-ghost use Prim.Native.Nat.{_≤_};
+ghost use mathlib.Core.Bool.{true};
+ghost use Prim.Native.Nat.{_*_, _≤_};
 ghost use lib.ListN.{length};
 ghost use Rattle.model.specs.Limits.{mostPages, pageSize};
-ghost use Rattle.model.specs.Reading.{usedAt};
+ghost use Rattle.model.specs.Reading.{lengthOk, usedAt};
 ghost use Rattle.theory_check.specs.Check.{PassedBefore};
 ghost use Rattle.theory_check.specs.Marks.{IsMarks};
+ghost use Rattle.base_ranges.specs.Tables.{fewPages};
 ghost use Rattle.read_fault_nodes.specs.Rows.{Within, Holds, walkOf, recordWalk, Ends, Stays};
 
 // The nodes of a row, each followed by the row that it leads into. The walk goes into the record of a proxy and comes back out of it: `depth` is how many
@@ -33,7 +38,7 @@ fn row_walk(
     back: &mut [u32],
 ) -> Walked
     requires { ⌜ PassedBefore (now image) × Within (now image) start stop holder level × (start ≤ stop) × (holder ≡ 0 → ⊥)
-        × IsMarks (now marks) × (length (now back) ≡ mostPages) ⌝ }
+        × IsMarks (now marks) × (length (now image) ≤ pageSize * length (now back)) ⌝ }
     ensures { λ r. ⌜ Ends (walkOf (now (image .entry)) start stop holder level left) (now (marks .entry)) (now (marks .exit)) r
         × Stays left (now (marks .entry)) (now (back .entry)) (now (marks .exit)) (now (back .exit)) r ⌝ }
 {
@@ -94,8 +99,14 @@ fn row_walk(
 }
 
 // The walk from page 1, whose root is an aggregate.
-pub fn record_walk(image: &[u8], left: usize, marks: &mut [u8; Settings::MARKS]) -> Walked
-    requires { ⌜ PassedBefore (now image) × Holds (now image) 1 × (1 ≤ usedAt (now image) pageSize) × IsMarks (now marks) ⌝ }
+fn walk_root(
+    image: &[u8],
+    left: usize,
+    marks: &mut [u8; Settings::MARKS],
+    back: &mut [u32],
+) -> Walked
+    requires { ⌜ PassedBefore (now image) × Holds (now image) 1 × (1 ≤ usedAt (now image) pageSize) × IsMarks (now marks)
+        × (length (now image) ≤ pageSize * length (now back)) ⌝ }
     ensures { λ r. ⌜ Ends (recordWalk (now (image .entry)) left) (now (marks .entry)) (now (marks .exit)) r ⌝ }
 {
     if image[Settings::PAGE] != 1 {
@@ -110,6 +121,35 @@ pub fn record_walk(image: &[u8], left: usize, marks: &mut [u8; Settings::MARKS])
     if head(&image[a..e], 0) != 1 {
         return stopped(1, BAD_NODE);
     }
+    row_walk(image, a + 6, e, 1, 2, left, marks, back)
+}
+
+fn walk_few(image: &[u8], left: usize, marks: &mut [u8; Settings::MARKS]) -> Walked
+    requires { ⌜ PassedBefore (now image) × Holds (now image) 1 × (1 ≤ usedAt (now image) pageSize) × IsMarks (now marks)
+        × (length (now image) ≤ pageSize * fewPages) ⌝ }
+    ensures { λ r. ⌜ Ends (recordWalk (now (image .entry)) left) (now (marks .entry)) (now (marks .exit)) r ⌝ }
+{
+    let mut back = [0u32; FEW];
+    walk_root(image, left, marks, &mut back)
+}
+
+fn walk_many(image: &[u8], left: usize, marks: &mut [u8; Settings::MARKS]) -> Walked
+    requires { ⌜ PassedBefore (now image) × Holds (now image) 1 × (1 ≤ usedAt (now image) pageSize) × IsMarks (now marks)
+        × (length (now image) ≤ pageSize * mostPages) ⌝ }
+    ensures { λ r. ⌜ Ends (recordWalk (now (image .entry)) left) (now (marks .entry)) (now (marks .exit)) r ⌝ }
+{
     let mut back = [0u32; Settings::PAGES];
-    row_walk(image, a + 6, e, 1, 2, left, marks, &mut back)
+    walk_root(image, left, marks, &mut back)
+}
+
+// The same, with ways back of the size that the image takes.
+pub fn record_walk(image: &[u8], left: usize, marks: &mut [u8; Settings::MARKS]) -> Walked
+    requires { ⌜ PassedBefore (now image) × Holds (now image) 1 × (1 ≤ usedAt (now image) pageSize) × IsMarks (now marks)
+        × (lengthOk (length (now image)) ≡ true) ⌝ }
+    ensures { λ r. ⌜ Ends (recordWalk (now (image .entry)) left) (now (marks .entry)) (now (marks .exit)) r ⌝ }
+{
+    match tables_for(image.len()) {
+        Tables::Few => walk_few(image, left, marks),
+        Tables::Many => walk_many(image, left, marks),
+    }
 }

@@ -1,4 +1,7 @@
 // The public calls: each for any bytes and arguments, the first refusal that applies, and nothing written where it is refused.
+use base_ranges::FEW;
+use base_ranges::Tables;
+use base_ranges::tables_for;
 use model::Diagnosis;
 use model::FindAnswer;
 use model::InsertAnswer;
@@ -10,8 +13,11 @@ use model::Settings;
 use model::WalkAnswer;
 use model::WriteAnswer;
 ghost use mathlib.Core.Path.{_≡_};
-ghost use lib.ListN.{replicate};
-ghost use Rattle.model.specs.Limits.{mostPages};
+ghost use mathlib.Core.Bool.{true};
+ghost use Prim.Native.Nat.{_*_, _≤_};
+ghost use lib.ListN.{length};
+ghost use Rattle.model.specs.Limits.{mostPages, pageSize};
+ghost use Rattle.model.specs.Reading.{lengthOk};
 ghost use Rattle.model.specs.Calls.Format.{formatOf};
 ghost use Rattle.model.specs.Calls.Check.{checkOf};
 ghost use Rattle.model.specs.Calls.Insert.{insertOf};
@@ -23,7 +29,8 @@ ghost use Rattle.model.specs.Calls.Next.{nextOf};
 ghost use Rattle.model.specs.Calls.Records.{recordsOf};
 ghost use Rattle.model.specs.Calls.Walk.{walkOf};
 ghost use Rattle.model.specs.Calls.Diagnose.{diagnoseOf};
-ghost use Rattle.theory_layout.specs.Widths.{Widths};
+ghost use Rattle.base_ranges.specs.Tables.{fewPages};
+ghost use Rattle.store.specs.Widths.{Blank, Checked};
 ghost use Rattle.store.specs.Part.{slice, startIn, byteOf};
 ghost use Rattle.read_records.specs.Up.{upPages};
 
@@ -42,9 +49,9 @@ pub fn check(image: &[u8]) -> u32
 }
 
 // The check, for calls that count the nodes of rows: it leaves in a table of zeros how many nodes the record on each page shows, and 0 for a free page.
-fn check_widths(image: &[u8], widths: &mut [u32; Settings::PAGES]) -> u32
-    requires { ⌜ now widths ≡ replicate mostPages 0 ⌝ }
-    ensures { λ r. ⌜ (r ≡ checkOf (now (image .entry))) × (r ≡ 0 → Widths (now (image .entry)) (now (widths .exit))) ⌝ }
+fn check_widths(image: &[u8], widths: &mut [u32]) -> u32
+    requires { ⌜ Blank (now image) (now widths) ⌝ }
+    ensures { λ r. ⌜ (r ≡ checkOf (now (image .entry))) × (r ≡ 0 → Checked (now (image .entry)) (now (widths .exit))) ⌝ }
 {
     read_check::check_widths(image, widths)
 }
@@ -97,19 +104,77 @@ pub fn remove(image: &mut [u8], path: &[u8]) -> u32
     remove_node::remove_of(image, &mut widths, path)
 }
 
-// The place of the node that a path names.
-pub fn find(image: &[u8], path: &[u8]) -> FindAnswer
+fn find_with(image: &[u8], widths: &mut [u32], path: &[u8]) -> FindAnswer
+    requires { ⌜ Blank (now image) (now widths) ⌝ }
     ensures { λ r. ⌜ r ≡ findOf (now (image .entry)) (now (path .entry)) ⌝ }
 {
-    let mut widths = [0u32; Settings::PAGES];
-    let n = check_widths(image, &mut widths);
+    let n = check_widths(image, widths);
     if n != 0 {
         return FindAnswer {
             number: n,
             place: Place { page: 0, offset: 0 },
         };
     }
-    read_find::find_in(image, &widths, path)
+    read_find::find_in(image, widths, path)
+}
+
+fn find_few(image: &[u8], path: &[u8]) -> FindAnswer
+    requires { ⌜ (lengthOk (length (now image)) ≡ true → length (now image) ≤ pageSize * fewPages) ⌝ }
+    ensures { λ r. ⌜ r ≡ findOf (now (image .entry)) (now (path .entry)) ⌝ }
+{
+    let mut widths = [0u32; FEW];
+    find_with(image, &mut widths, path)
+}
+
+fn find_many(image: &[u8], path: &[u8]) -> FindAnswer
+    requires { ⌜ (lengthOk (length (now image)) ≡ true → length (now image) ≤ pageSize * mostPages) ⌝ }
+    ensures { λ r. ⌜ r ≡ findOf (now (image .entry)) (now (path .entry)) ⌝ }
+{
+    let mut widths = [0u32; Settings::PAGES];
+    find_with(image, &mut widths, path)
+}
+
+// The place of the node that a path names.
+pub fn find(image: &[u8], path: &[u8]) -> FindAnswer
+    ensures { λ r. ⌜ r ≡ findOf (now (image .entry)) (now (path .entry)) ⌝ }
+{
+    match tables_for(image.len()) {
+        Tables::Few => find_few(image, path),
+        Tables::Many => find_many(image, path),
+    }
+}
+
+fn climb_with(image: &[u8], widths: &mut [u32], place: Place, buffer: &mut [u8]) -> WriteAnswer
+    requires { ⌜ Blank (now image) (now widths) ⌝ }
+    ensures answer { λ r. ⌜ r ≡ climbOf (now (image .entry)) place (now (buffer .entry)) .0 ⌝ }
+    ensures buffer { λ _. ⌜ now (buffer .exit) ≡ climbOf (now (image .entry)) place (now (buffer .entry)) .1 ⌝ }
+{
+    let n = check_widths(image, widths);
+    if n != 0 {
+        return WriteAnswer {
+            number: n,
+            written: 0,
+        };
+    }
+    read_climb::climb_of(image, widths, place, buffer)
+}
+
+fn climb_few(image: &[u8], place: Place, buffer: &mut [u8]) -> WriteAnswer
+    requires { ⌜ (lengthOk (length (now image)) ≡ true → length (now image) ≤ pageSize * fewPages) ⌝ }
+    ensures answer { λ r. ⌜ r ≡ climbOf (now (image .entry)) place (now (buffer .entry)) .0 ⌝ }
+    ensures buffer { λ _. ⌜ now (buffer .exit) ≡ climbOf (now (image .entry)) place (now (buffer .entry)) .1 ⌝ }
+{
+    let mut widths = [0u32; FEW];
+    climb_with(image, &mut widths, place, buffer)
+}
+
+fn climb_many(image: &[u8], place: Place, buffer: &mut [u8]) -> WriteAnswer
+    requires { ⌜ (lengthOk (length (now image)) ≡ true → length (now image) ≤ pageSize * mostPages) ⌝ }
+    ensures answer { λ r. ⌜ r ≡ climbOf (now (image .entry)) place (now (buffer .entry)) .0 ⌝ }
+    ensures buffer { λ _. ⌜ now (buffer .exit) ≡ climbOf (now (image .entry)) place (now (buffer .entry)) .1 ⌝ }
+{
+    let mut widths = [0u32; Settings::PAGES];
+    climb_with(image, &mut widths, place, buffer)
 }
 
 // The path of the node at a place, to the front of the lent buffer.
@@ -117,23 +182,17 @@ pub fn climb(image: &[u8], place: Place, buffer: &mut [u8]) -> WriteAnswer
     ensures answer { λ r. ⌜ r ≡ climbOf (now (image .entry)) place (now (buffer .entry)) .0 ⌝ }
     ensures buffer { λ _. ⌜ now (buffer .exit) ≡ climbOf (now (image .entry)) place (now (buffer .entry)) .1 ⌝ }
 {
-    let mut widths = [0u32; Settings::PAGES];
-    let n = check_widths(image, &mut widths);
-    if n != 0 {
-        return WriteAnswer {
-            number: n,
-            written: 0,
-        };
+    match tables_for(image.len()) {
+        Tables::Few => climb_few(image, place, buffer),
+        Tables::Many => climb_many(image, place, buffer),
     }
-    read_climb::climb_of(image, &widths, place, buffer)
 }
 
-// Kind, origin, label, number of children and where the content is, of the node at a place.
-pub fn read_node(image: &[u8], place: Place) -> ReadNode
+fn read_node_with(image: &[u8], widths: &mut [u32], place: Place) -> ReadNode
+    requires { ⌜ Blank (now image) (now widths) ⌝ }
     ensures { λ r. ⌜ r ≡ readOf (now (image .entry)) place ⌝ }
 {
-    let mut widths = [0u32; Settings::PAGES];
-    let n = check_widths(image, &mut widths);
+    let n = check_widths(image, widths);
     if n != 0 {
         return ReadNode {
             number: n,
@@ -145,7 +204,33 @@ pub fn read_node(image: &[u8], place: Place) -> ReadNode
             len: 0,
         };
     }
-    read_next::read_of(image, &widths, place)
+    read_next::read_of(image, widths, place)
+}
+
+fn read_node_few(image: &[u8], place: Place) -> ReadNode
+    requires { ⌜ (lengthOk (length (now image)) ≡ true → length (now image) ≤ pageSize * fewPages) ⌝ }
+    ensures { λ r. ⌜ r ≡ readOf (now (image .entry)) place ⌝ }
+{
+    let mut widths = [0u32; FEW];
+    read_node_with(image, &mut widths, place)
+}
+
+fn read_node_many(image: &[u8], place: Place) -> ReadNode
+    requires { ⌜ (lengthOk (length (now image)) ≡ true → length (now image) ≤ pageSize * mostPages) ⌝ }
+    ensures { λ r. ⌜ r ≡ readOf (now (image .entry)) place ⌝ }
+{
+    let mut widths = [0u32; Settings::PAGES];
+    read_node_with(image, &mut widths, place)
+}
+
+// Kind, origin, label, number of children and where the content is, of the node at a place.
+pub fn read_node(image: &[u8], place: Place) -> ReadNode
+    ensures { λ r. ⌜ r ≡ readOf (now (image .entry)) place ⌝ }
+{
+    match tables_for(image.len()) {
+        Tables::Few => read_node_few(image, place),
+        Tables::Many => read_node_many(image, place),
+    }
 }
 
 // The same from a page and an offset.
@@ -229,13 +314,12 @@ pub fn records(image: &[u8], buffer: &mut [u8]) -> WriteAnswer
     read_records::records_of(image, buffer)
 }
 
-// The nodes from a place on, in document order, nine numbers each, to the front of the lent buffer.
-pub fn walk(image: &[u8], place: Place, entries: &mut [u32]) -> WalkAnswer
+fn walk_with(image: &[u8], widths: &mut [u32], place: Place, entries: &mut [u32]) -> WalkAnswer
+    requires { ⌜ Blank (now image) (now widths) ⌝ }
     ensures answer { λ r. ⌜ r ≡ walkOf (now (image .entry)) place (now (entries .entry)) .0 ⌝ }
     ensures entries { λ _. ⌜ now (entries .exit) ≡ walkOf (now (image .entry)) place (now (entries .entry)) .1 ⌝ }
 {
-    let mut widths = [0u32; Settings::PAGES];
-    let n = check_widths(image, &mut widths);
+    let n = check_widths(image, widths);
     if n != 0 {
         return WalkAnswer {
             number: n,
@@ -244,7 +328,36 @@ pub fn walk(image: &[u8], place: Place, entries: &mut [u32]) -> WalkAnswer
             next: Place { page: 0, offset: 0 },
         };
     }
-    read_entries::walk_of(image, &widths, place, entries)
+    read_entries::walk_of(image, widths, place, entries)
+}
+
+fn walk_few(image: &[u8], place: Place, entries: &mut [u32]) -> WalkAnswer
+    requires { ⌜ (lengthOk (length (now image)) ≡ true → length (now image) ≤ pageSize * fewPages) ⌝ }
+    ensures answer { λ r. ⌜ r ≡ walkOf (now (image .entry)) place (now (entries .entry)) .0 ⌝ }
+    ensures entries { λ _. ⌜ now (entries .exit) ≡ walkOf (now (image .entry)) place (now (entries .entry)) .1 ⌝ }
+{
+    let mut widths = [0u32; FEW];
+    walk_with(image, &mut widths, place, entries)
+}
+
+fn walk_many(image: &[u8], place: Place, entries: &mut [u32]) -> WalkAnswer
+    requires { ⌜ (lengthOk (length (now image)) ≡ true → length (now image) ≤ pageSize * mostPages) ⌝ }
+    ensures answer { λ r. ⌜ r ≡ walkOf (now (image .entry)) place (now (entries .entry)) .0 ⌝ }
+    ensures entries { λ _. ⌜ now (entries .exit) ≡ walkOf (now (image .entry)) place (now (entries .entry)) .1 ⌝ }
+{
+    let mut widths = [0u32; Settings::PAGES];
+    walk_with(image, &mut widths, place, entries)
+}
+
+// The nodes from a place on, in document order, nine numbers each, to the front of the lent buffer.
+pub fn walk(image: &[u8], place: Place, entries: &mut [u32]) -> WalkAnswer
+    ensures answer { λ r. ⌜ r ≡ walkOf (now (image .entry)) place (now (entries .entry)) .0 ⌝ }
+    ensures entries { λ _. ⌜ now (entries .exit) ≡ walkOf (now (image .entry)) place (now (entries .entry)) .1 ⌝ }
+{
+    match tables_for(image.len()) {
+        Tables::Few => walk_few(image, place, entries),
+        Tables::Many => walk_many(image, place, entries),
+    }
 }
 
 // The check's number, and where that is 3 why: the stage that finds it, the page at fault and a reason.

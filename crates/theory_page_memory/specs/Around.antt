@@ -116,7 +116,7 @@ module _ (st : Config) where
 
   -- ── growth stops, or goes on ──
 
-  pub kept-low : (q : ℕ) (o : Out) → recordSize (o .0) ≤ capacity → kept st q o ≡ o
+  kept-low : (q : ℕ) (o : Out) → recordSize (o .0) ≤ capacity → kept st q o ≡ o
   unfolding kept
   kept-low q o z = rw (le-leb (recordSize (o .0)) capacity z)
 
@@ -133,6 +133,12 @@ module _ (st : Config) where
       ap (λ (y : Out). rise st c (onRow (fill s) y)) (close-stays st q b rest o e)
       ∙ rise-stays c up n f (ap (λ (x : Bool). lastSettled c || x) (le-leb (recordSize (n .0)) capacity small) ∙ or-true (lastSettled c))
       ∙ ap (onRow (whole c)) (kept-low (lastPage c) n small)
+
+  -- So growth from a record that fits changes nothing else, and takes no page.
+  pub rise-fits : (c : Chain) (old : Row) (o : Out) → Fits (store (whole c old)) → recordSize (o .0) ≤ capacity → rise st c o ≡ onRow (whole c) o
+  rise-fits c old o f h =
+      rise-stays c old o f (ap (λ (b : Bool). lastSettled c || b) (le-leb (recordSize (o .0)) capacity h) ∙ or-true (lastSettled c))
+      ∙ ap (onRow (whole c)) (kept-low (lastPage c) o h)
 
   pub mem-stays : (c : Chain) (r : Row) (w : Work) (m : Mem) → lastSettled c || leb (recordSize r) capacity ≡ true
       → riseMem st c r w m ≡ keptMem st (lastPage c) (lastSettled c) (lastHolder c) r w m

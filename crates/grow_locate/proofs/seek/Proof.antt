@@ -26,13 +26,13 @@ abbrev μ-loop : tie.MeasureT-loop
 
 -- The row that is left in the loop is not empty, and has room.
 abbrev depth : tie.Then1 Inv-loop μ-loop → ℕ
-depth c = let l = c .before .before in mostPages - (l .loop .span .deep - l .before .before .args .from .deep)
+depth c = let l = c .before .before in mostPages - (l .loop .span .deep - l .before .before .before .args .from .deep)
 
 seen : (c : tie.Then1 Inv-loop μ-loop) → let l = c .before .before in
-    Rowed (l .before .before .args .image .now) (l .loop .span .pos) (l .loop .span .end) (depth c)
-seen c = let l = c .before .before in l .loop .inv .0 _ _ (seeking (l .before .before .pre .0)) .rest
+    Rowed (l .before .before .before .args .image .now) (l .loop .span .pos) (l .loop .span .end) (depth c)
+seen c = let l = c .before .before in l .loop .inv .0 _ _ (seeking (l .before .before .before .pre .0)) .rest
 
-abbrev some : (c : tie.Then1 Inv-loop μ-loop) → let l = c .before .before in let img = l .before .before .args .image .now in
+abbrev some : (c : tie.Then1 Inv-loop μ-loop) → let l = c .before .before in let img = l .before .before .before .args .image .now in
     Rowed img (l .loop .span .pos) (l .loop .span .end) (depth c) → SomeRow img (l .loop .span .pos)
 some c w = record { end = _; depth = _; rowed = w; some = c .if1 .taken }
 
@@ -43,7 +43,7 @@ past-first-requires : tie.Need-past-first-requires Inv-loop μ-loop
 past-first-requires c κs = omega (arith, room _ _ _ _ (seen c), c .if1 .taken)
 
 shown-by-requires : tie.Need-shown-by-requires Inv-loop μ-loop
-shown-by-requires c κs = let i = c .before in (some i (seen i), i .before .before .before .before .pre .1)
+shown-by-requires c κs = let i = c .before in (some i (seen i), i .before .before .before .before .before .pre .1)
 
 loop-less : tie.Need-loop-less Inv-loop μ-loop
 loop-less c =
@@ -58,7 +58,7 @@ loop-again : tie.Need-loop-again Inv-loop μ-loop
 loop-again c =
     let i = c .before .before .before in
     let l = i .before .before in
-    let a = l .before .before .args in
+    let a = l .before .before .before .args in
     let left = l .loop .to-pass - c .before .shown-by .result in
     let P : Span → Type 0 = λ r. Inv-loop (a .image .now) (a .widths .now) (a .k) (a .k) (a .from) (emptySpan (a .from)) left r (l .loop .after) in
     subst P (sym (c .before .before .past-first .ensures)) (
@@ -72,16 +72,16 @@ loop-again c =
 
 -- What follows the first node, or else what followed before.
 closes : (c : tie.After-closer Inv-loop μ-loop) → let l = c .before .before .before .before .before .before in
-    c .closer .result ≡ closerOf (pastSpan (l .loop .span) (sizeAt (l .before .before .args .image .now) (l .loop .span .pos))) (l .loop .after)
+    c .closer .result ≡ closerOf (pastSpan (l .loop .span) (sizeAt (l .before .before .before .args .image .now) (l .loop .span .pos))) (l .loop .after)
 closes c =
     let l = c .before .before .before .before .before .before in
     c .closer .ensures ∙ ap (λ (r : Span). closerOf r (l .loop .after)) (c .before .before .before .past-first .ensures)
 
-closes-deep : (c : tie.After-closer Inv-loop μ-loop) → let a = c .before .before .before .before .before .before .before .before .args in
+closes-deep : (c : tie.After-closer Inv-loop μ-loop) → let a = c .before .before .before .before .before .before .before .before .before .args in
     c .closer .result .deep ≤ a .from .deep + mostPages
 closes-deep c =
     let l = c .before .before .before .before .before .before in
-    let a = l .before .before .args in
+    let a = l .before .before .before .args in
     let n = a .from .deep + mostPages in
     let next = pastSpan (l .loop .span) (sizeAt (a .image .now) (l .loop .span .pos)) in
     subst (λ (r : Span). r .deep ≤ n) (sym (closes c)) (closer-deep next (l .loop .after) n (l .loop .inv .2) (l .loop .inv .3))
@@ -107,7 +107,7 @@ returns c =
     let h = seek-here s (i .if1 .taken) (x .before .shown-by .ensures o) (omega arith) (x .if2 .left)
     (sym (y .before .leads-on .ensures o) ∙ not-true _ (y .if3 .taken)) in
     let span = l .loop .span in
-    let a = l .before .before .args in (
+    let a = l .before .before .before .args in (
       c .first-node .ensures ∙ ap (λ (r : Span). locatedAt (span .pos) (r .pos) (span .par) (span .deep)) (x .before .before .past-first .ensures) ∙ h .0,
       subst (λ (r : Span). Follows (a .image .now) r (seekSpan (a .from) (w .row) (suc (a .k)))) (sym (closes (y .before .before))) (h .1),
       closes-deep (y .before .before),
@@ -115,11 +115,11 @@ returns c =
 
 -- What leads on is the proxy of a record whose helper shows the node.
 leads : (c : tie.Else3 Inv-loop μ-loop) → let i = c .before .before .before .before .before .before in let l = i .before .before in
-    (w : Rowed (l .before .before .args .image .now) (l .loop .span .pos) (l .loop .span .end) (depth i)) → helperFirst (w .row) ≡ true
+    (w : Rowed (l .before .before .before .args .image .now) (l .loop .span .pos) (l .loop .span .end) (depth i)) → helperFirst (w .row) ≡ true
 leads c w = sym (c .before .leads-on .ensures (some (c .before .before .before .before .before .before) w)) ∙ not-false _ (c .if3 .left)
 
 under : (c : tie.Else3 Inv-loop μ-loop) → let i = c .before .before .before .before .before .before in let l = i .before .before in
-    let img = l .before .before .args .image .now in
+    let img = l .before .before .before .args .image .now in
     Entered img (l .loop .span .pos) (l .loop .span .end) (depth i) (nameAt img (l .loop .span .pos)) (seen i .row)
 under c =
     let i = c .before .before .before .before .before .before in
@@ -130,7 +130,7 @@ enter-first-requires : tie.Need-enter-first-requires Inv-loop μ-loop
 enter-first-requires c κs =
     let i = c .before .before .before .before .before .before in
     let l = i .before .before in
-    (omega (arith, room _ _ _ _ (seen i), i .if1 .taken), under c .on, omega (arith, l .loop .inv .2, l .before .before .pre .2))
+    (omega (arith, room _ _ _ _ (seen i), i .if1 .taken), under c .on, omega (arith, l .loop .inv .2, l .before .before .before .pre .2))
 
 one-deeper : (d n : ℕ) → d ≤ n → 1 ≤ mostPages - (n - d) → mostPages - (n + 1 - d) + 1 ≡ mostPages - (n - d)
 one-deeper d n h k = omega arith
@@ -143,7 +143,7 @@ loop-less-2 c =
     let l = c .before .before .before .before .before .before .before .before .before in
     let a = under (c .before) in
     let span = l .loop .span in
-    let d = l .before .before .args .from .deep in
+    let d = l .before .before .before .args .from .deep in
     subst (λ (r : Span). pageSize * (mostPages - (r .deep - d)) + (r .end - r .pos) < pageSize * (mostPages - (span .deep - d)) + (span .end - span .pos))
     (sym (c .enter-first .ensures)) (fewer _ _ _ _ (one-deeper d (span .deep) (l .loop .inv .1) (a .below)) (short _ _ _ _ (a .inside)))
 
@@ -152,7 +152,7 @@ loop-again-2 c =
     let x = c .before .before .before .before in
     let i = x .before .before .before in
     let l = i .before .before in
-    let a = l .before .before .args in
+    let a = l .before .before .before .args in
     let img = a .image .now in
     let I : Span → Span → Type 0 = λ span after. Inv-loop img (a .widths .now) (a .k) (a .k) (a .from) (emptySpan (a .from)) (l .loop .to-pass) span after in
     let z = closes (c .before .before .before) in
@@ -181,5 +181,4 @@ returns-2 c =
 
 pub seek-spec : {M : Type 1} → statement M
 seek-spec =
-    tie.close (tie.spec Inv-loop μ-loop loop-holds past-first-requires shown-by-requires loop-less loop-again closer-requires leads-on-requires first-node-requires returns
-    enter-first-requires loop-less-2 loop-again-2 nowhere-requires returns-2)
+    tie.close (tie.spec Inv-loop μ-loop loop-holds past-first-requires shown-by-requires loop-less loop-again closer-requires leads-on-requires first-node-requires returns enter-first-requires loop-less-2 loop-again-2 nowhere-requires returns-2)

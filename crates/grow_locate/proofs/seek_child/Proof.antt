@@ -15,14 +15,14 @@ children-requires c κs = search needs
 
 seek-requires : tie.Need-seek-requires
 seek-requires c κs =
-    let s = c .before .before in
+    let s = c .before .before .before in
     subst (λ (r : Span). Rowed (s .args .image .now) (r .pos) (r .end) mostPages × Widths (s .args .image .now) (s .args .widths .now) × (r .deep ≤ mostPages))
     (sym (c .children .ensures)) (s .pre .0, s .pre .1, omega arith)
 
 returns : tie.Need-returns
 returns c =
     let k = c .before .before in
-    let a = k .before .before .args in
+    let a = k .before .before .before .args in
     λ w. subst (λ (r : Span). Finds (a .image .now) r (a .k) (c .before .seek .result)) (k .children .ensures) (c .before .seek .ensures) w .0
 
 pub seek-child-spec : {M : Type 1} → statement M

@@ -15,23 +15,23 @@ name-at-requires : tie.Need-name-at-requires
 name-at-requires c κs = search needs
 
 -- the record of the proxy
-proxy : (c : tie.After-name-at) → let s = c .before .before .before .before in let w = s .pre .0 in
+proxy : (c : tie.After-name-at) → let s = c .before .before .before .before .before in let w = s .pre .0 in
     Entered (s .args .image .now) (s .args .pos) (w .end) (w .depth) (c .name-at .result) (w .rowed .row)
-proxy c = proxy-first (c .before .before .before .before .pre .0) (c .before .if1 .left) (c .name-at .ensures .0)
+proxy c = proxy-first (c .before .before .before .before .before .pre .0) (c .before .if1 .left) (c .name-at .ensures .0)
 
 mul-result : tie.Need-mul-result
 mul-result c = search needs
 
-element-copy-out-result : tie.Need-element-copy-out-result
-element-copy-out-result c = proxy c .on .high
+shared-slice-read-result : tie.Need-shared-slice-read-result
+shared-slice-read-result c = omega (arith, proxy (c .before) .on .inside, c .before .before .before .before .before .before .pre .1 .long)
 
 cast-result : tie.Need-cast-result
 cast-result c =
     let e = proxy (c .before) in
-    omega (arith, e .told _ (c .before .before .before .before .before .pre .1), width-steps (e .inside .row), e .inside .few)
+    omega (arith, e .told _ (c .before .before .before .before .before .before .pre .1), width-steps (e .inside .row), e .inside .few)
 
 returns-2 : tie.Need-returns-2
-returns-2 c = λ w. proxy-width w (c .before .before .if1 .left) (c .before .name-at .ensures .0) _ (c .before .before .before .before .before .pre .1)
+returns-2 c = λ w. proxy-width w (c .before .before .if1 .left) (c .before .name-at .ensures .0) _ (c .before .before .before .before .before .before .pre .1)
 
 pub shown-by-spec : {M : Type 1} → statement M
-shown-by-spec = tie.close (tie.spec shared-slice-read-if1 returns name-at-requires mul-result element-copy-out-result cast-result returns-2)
+shown-by-spec = tie.close (tie.spec shared-slice-read-if1 returns name-at-requires mul-result shared-slice-read-result cast-result returns-2)

@@ -17,12 +17,12 @@ seek-requires c κs = search needs
 seek-requires-2 : tie.Need-seek-requires-2
 seek-requires-2 c κs =
     let s = c .before .before in
-    let p = s .before .before .pre in
+    let p = s .before .before .before .pre in
     let f = s .seek .ensures (p .0) in
     (f .1 .rowed, p .1, omega (arith, f .2, p .2))
 
 -- The first node of what follows the left sibling is the right one.
-right-is : (c : tie.After-right) → let s = c .before .before .before .before in let a = s .before .before .args in
+right-is : (c : tie.After-right) → let s = c .before .before .before .before in let a = s .before .before .before .args in
     (w : Rowed (a .image .now) (a .span .pos) (a .span .end) mostPages) → c .before .seek2 .result .node ≡ seekSpan (a .span) (w .row) (suc (a .i))
 right-is c w =
     let f = c .before .before .before .before .seek .ensures w .1 in
@@ -31,17 +31,17 @@ right-is c w =
 right-wins-requires : tie.Need-right-wins-requires
 right-wins-requires c κs =
     let s = c .before .before .before .before in
-    let w = s .before .before .pre .0 in
-    both-on (s .before .before .args .span) w (s .before .before .args .i) _ _ (s .seek .ensures w .0) (right-is c w)
+    let w = s .before .before .before .pre .0 in
+    both-on (s .before .before .before .args .span) w (s .before .before .before .args .i) _ _ (s .seek .ensures w .0) (right-is c w)
 
-by-choice : (c : tie.After-right-wins) → let k = c .before in let s = k .before .before .before .before in let a = s .before .before .args in
+by-choice : (c : tie.After-right-wins) → let k = c .before in let s = k .before .before .before .before in let a = s .before .before .before .args in
     (r : Sighted) (b : Bool) → c .right-wins .result ≡ b → r ≡ cond b (sightBefore (k .before .seek2 .result .node)) (sightAfter (s .seek .result .node))
     → (w : Rowed (a .image .now) (a .span .pos) (a .span .end) mostPages)
     → r ≡ sightBeside (a .image .now) (seekSpan (a .span) (w .row) (a .i)) (seekSpan (a .span) (w .row) (suc (a .i)))
 by-choice c x b e f w =
     let k = c .before in
     let s = k .before .before .before .before in
-    let img = s .before .before .args .image .now in
+    let img = s .before .before .before .args .image .now in
     let l = s .seek .result .node in
     let r = k .before .seek2 .result .node in
     let p = s .seek .ensures w .0 in
@@ -63,11 +63,4 @@ returns-2 c = by-choice (c .before .before) _ false (c .before .if1 .left) (c .s
 pub spot-beside-spec : {M : Type 1} → statement M
 spot-beside-spec =
     tie.close
-    (tie.spec
-    seek-requires
-    seek-requires-2
-    right-wins-requires
-    sight-requires
-    returns
-    sight-requires-2
-    returns-2)
+    (tie.spec seek-requires seek-requires-2 right-wins-requires sight-requires returns sight-requires-2 returns-2)

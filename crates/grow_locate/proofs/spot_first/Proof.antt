@@ -14,7 +14,7 @@ sight-requires c κs = search needs
 returns : tie.Need-returns
 returns c =
     let s = c .before .before .before in
-    let span = s .before .before .args .span in
+    let span = s .before .before .before .args .span in
     let right = s .seek .result .node in
     let f : right .found ≡ true = c .before .if1 .taken in
     λ w. c .sight .ensures ∙ sym (ap (λ (b : Bool). cond b (sightBefore right) (sightAt true (span .pos) (span .par) (span .deep))) f)
@@ -26,7 +26,7 @@ sight-requires-2 c κs = search needs
 returns-2 : tie.Need-returns-2
 returns-2 c =
     let s = c .before .before .before in
-    let span = s .before .before .args .span in
+    let span = s .before .before .before .args .span in
     let right = s .seek .result .node in
     let f : right .found ≡ false = c .before .if1 .left in
     λ w. c .sight2 .ensures ∙ sym (ap (λ (b : Bool). cond b (sightBefore right) (sightAt true (span .pos) (span .par) (span .deep))) f)

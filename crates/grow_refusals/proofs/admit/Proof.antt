@@ -13,7 +13,7 @@ use Rattle.grow_refusals.proofs.admit.Statement.{statement}
 use Rattle.grow_refusals.proofs.admit.Tie as tie
 
 -- The arguments alone pass.
-formed : (c : tie.Else4) → let s = c .before .before .before .before .before .before .before .before in
+formed : (c : tie.Else4) → let s = c .before .before .before .before .before .before .before .before .before in
     Formed (s .args .path .now) (s .args .kind) (s .args .origin) (s .args .content .now)
 formed c =
     let k = c .before .before in
@@ -73,17 +73,17 @@ returns-5 c =
     (no-node _ _ _ _ _ _ (formed (f .before)) _ (f .find-in .ensures) (c .before .if5 .taken))
 
 -- The parent's byte.
-parent-at : (f : tie.After-find-in) → (f .find-in .result .number ≡ 0) → let s = f .before .before .before .before .before .before .before .before .before in
+parent-at : (f : tie.After-find-in) → (f .find-in .result .number ≡ 0) → let s = f .before .before .before .before .before .before .before .before .before .before in
     pageSize * f .find-in .result .place .page + f .find-in .result .place .offset ≡ foundAt (s .args .image .now) (s .args .path .now)
 parent-at f z =
-    let s = f .before .before .before .before .before .before .before .before .before in
+    let s = f .before .before .before .before .before .before .before .before .before .before in
     parent-is _ _ (s .args .child) _ _ _ (formed (f .before)) _ (f .find-in .ensures) z refl
 
 -- What is read there.
-parent-node : (f : tie.After-find-in) → (f .find-in .result .number ≡ 0) → let s = f .before .before .before .before .before .before .before .before .before in
+parent-node : (f : tie.After-find-in) → (f .find-in .result .number ≡ 0) → let s = f .before .before .before .before .before .before .before .before .before .before in
     (n : Node) × ReadAt (s .args .image .now) n (pageSize * f .find-in .result .place .page + f .find-in .result .place .offset)
 parent-node f z =
-    let s = f .before .before .before .before .before .before .before .before .before in
+    let s = f .before .before .before .before .before .before .before .before .before .before in
     let (t, r) = passing (s .args .image .now) (s .pre .0) in
     parent-read _ _ (s .args .child) _ _ _ (formed (f .before)) _ (f .find-in .ensures) z (t .0) (t .1) r (parent-at f z)
 
@@ -96,7 +96,7 @@ add-parent c = omega (arith, read-room (parent-node (c .before .before .before .
 try-parent-requires : tie.Need-try-parent-requires
 try-parent-requires c κs =
     let f = c .before .before .before .before .before in
-    (parent-node f (c .before .before .before .if5 .left), f .before .before .before .before .before .before .before .before .before .pre .1)
+    (parent-node f (c .before .before .before .if5 .left), f .before .before .before .before .before .before .before .before .before .before .pre .1)
 
 returns-6 : tie.Need-returns-6
 returns-6 c =
@@ -109,5 +109,4 @@ returns-6 c =
 pub admit-spec : {M : Type 1} → statement M
 admit-spec =
     tie.close
-    (tie.spec refused-requires returns kind-bad-requires refused-requires-2 returns-2 refused-requires-3 returns-3 refused-requires-4 returns-4 find-in-requires
-    refused-requires-5 returns-5 mul-parent add-parent try-parent-requires returns-6)
+    (tie.spec refused-requires returns kind-bad-requires refused-requires-2 returns-2 refused-requires-3 returns-3 refused-requires-4 returns-4 find-in-requires refused-requires-5 returns-5 mul-parent add-parent try-parent-requires returns-6)

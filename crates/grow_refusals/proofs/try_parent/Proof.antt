@@ -10,7 +10,7 @@ use Rattle.grow_refusals.proofs.try_parent.Statement.{statement}
 use Rattle.grow_refusals.proofs.try_parent.Tie as tie
 
 shared-slice-read-if1 : tie.Need-shared-slice-read-if1
-shared-slice-read-if1 c = omega (arith, read-room (c .before .before .pre .0 .1))
+shared-slice-read-if1 c = omega (arith, read-room (c .before .before .before .pre .0 .1))
 
 refused-requires : tie.Need-refused-requires
 refused-requires c κs = search needs
@@ -21,7 +21,7 @@ returns c =
     (λ n r. ap (λ (r : Admitted). r .number) e ∙ is-literal r _ (c .before .if1 .taken), (not-zero _ 8 (omega arith) e, not-zero _ 8 (omega arith) e))
 
 find-spot-requires : tie.Need-find-spot-requires
-find-spot-requires c κs = let s = c .before .before .before in (searched (s .pre .0 .1) (c .if1 .left), s .pre .1)
+find-spot-requires c κs = let s = c .before .before .before .before in (searched (s .pre .0 .1) (c .if1 .left), s .pre .1)
 
 refused-requires-2 : tie.Need-refused-requires-2
 refused-requires-2 c κs = search needs

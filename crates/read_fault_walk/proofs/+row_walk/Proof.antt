@@ -59,18 +59,21 @@ abbrev μ-loop : row-walk-lts.MeasureT-loop
 -- Out of a record.
 out-at : (t : ℕ) (c : row-walk-lts.Else2 (claims t) (row-walk-at t) row-walk.Post Inv-loop μ-loop)
     → let l = c .before .before .loop in
-    let a = c .before .before .before .before .args in
+    let a = c .before .before .before .before .before .args in
     Out (now (a .image)) (callOf (a .start) (a .stop) (a .holder) (a .level) (a .left) (now (a .marks)) (now (a .back))) (l .marks) (l .back)
     (l .holder) (l .level) (getD (l .back) (l .at / pageSize) 0) (l .rest) (l .depth - 1)
 out-at t c = going-out (c .before .before .loop .inv) (c .before .if1 .taken) (c .if2 .left)
 
 row-walk-loop-holds : (t : ℕ) → row-walk-lts.Need-loop-holds (claims t) (row-walk-at t) row-walk.Post Inv-loop μ-loop
 row-walk-loop-holds t c =
-    let p = c .before .pre .1 in
+    let p = c .before .before .pre .1 in
     going-start _ _ _ (p .1) (p .2) (p .3) (p .4) (p .5)
 
 row-walk-went-requires : (t : ℕ) → row-walk-lts.Need-went-requires (claims t) (row-walk-at t) row-walk.Post Inv-loop μ-loop
 row-walk-went-requires t c κs = search needs
+
+row-walk-same-length : (t : ℕ) → row-walk-lts.Need-same-length (claims t) (row-walk-at t) row-walk.Post Inv-loop μ-loop
+row-walk-same-length t c = c .before .before .before .loop .inv .long
 
 row-walk-returns : (t : ℕ) → row-walk-lts.Need-returns (claims t) (row-walk-at t) row-walk.Post Inv-loop μ-loop
 row-walk-returns t c =
@@ -80,15 +83,15 @@ row-walk-returns t c =
 row-walk-mul-at : (t : ℕ) → row-walk-lts.Need-mul-at (claims t) (row-walk-at t) row-walk.Post Inv-loop μ-loop
 row-walk-mul-at t c =
     let c2 = c .before .before in
-    omega (arith, c2 .loop .inv .row .on, c2 .before .before .pre .1 .0)
+    omega (arith, c2 .loop .inv .row .on, c2 .before .before .before .pre .1 .0)
 
-row-walk-element-copy-out-at : (t : ℕ) → row-walk-lts.Need-element-copy-out-at (claims t) (row-walk-at t) row-walk.Post Inv-loop μ-loop
-row-walk-element-copy-out-at t c =
-    let c2 = c .before .before in
-    omega (arith, c2 .loop .inv .row .on, c2 .before .before .pre .1 .0, c2 .loop .inv .long)
+row-walk-slice-read-at : (t : ℕ) → row-walk-lts.Need-slice-read-at (claims t) (row-walk-at t) row-walk.Post Inv-loop μ-loop
+row-walk-slice-read-at t c =
+    let now = c .before .before .before .loop .inv in
+    omega (arith, now .row .on, now .long, now .enough)
 
 row-walk-cast-at : (t : ℕ) → row-walk-lts.Need-cast-at (claims t) (row-walk-at t) row-walk.Post Inv-loop μ-loop
-row-walk-cast-at t c = omega (arith, out-at t (c .before) .fits, c .before .before .before .before .before .good)
+row-walk-cast-at t c = omega (arith, out-at t (c .before) .fits, c .before .before .before .before .before .before .good)
 
 row-walk-sub-depth : (t : ℕ) → row-walk-lts.Need-sub-depth (claims t) (row-walk-at t) row-walk.Post Inv-loop μ-loop
 row-walk-sub-depth t c = omega (arith, c .before .if2 .left)
@@ -115,10 +118,13 @@ row-walk-loop-again-2 t c = out-at t (c .before .before .before) .outer-row (c .
 row-walk-first-requires : (t : ℕ) → row-walk-lts.Need-first-requires (claims t) (row-walk-at t) row-walk.Post Inv-loop μ-loop
 row-walk-first-requires t c κs =
     let c2 = c .before .before in
-    (c2 .before .before .pre .1 .0, c2 .loop .inv .row, c2 .loop .inv .within)
+    (c2 .before .before .before .pre .1 .0, c2 .loop .inv .row, c2 .loop .inv .within)
 
 row-walk-stopped-requires : (t : ℕ) → row-walk-lts.Need-stopped-requires (claims t) (row-walk-at t) row-walk.Post Inv-loop μ-loop
 row-walk-stopped-requires t c κs = search needs
+
+row-walk-same-length-2 : (t : ℕ) → row-walk-lts.Need-same-length-2 (claims t) (row-walk-at t) row-walk.Post Inv-loop μ-loop
+row-walk-same-length-2 t c = c .before .before .before .before .before .before .loop .inv .long
 
 row-walk-returns-2 : (t : ℕ) → row-walk-lts.Need-returns-2 (claims t) (row-walk-at t) row-walk.Post Inv-loop μ-loop
 row-walk-returns-2 t c =
@@ -132,13 +138,13 @@ row-walk-add-back : (t : ℕ) → row-walk-lts.Need-add-back (claims t) (row-wal
 row-walk-add-back t c =
     let c7 = c .before .before .before .before .before .before .before in
     let now = c7 .loop .inv in
-    omega (arith, now .row .fits, now .row .on, now .within, c7 .before .before .pre .1 .0)
+    omega (arith, now .row .fits, now .row .on, now .within, c7 .before .before .before .pre .1 .0)
 
 row-walk-cast-back : (t : ℕ) → row-walk-lts.Need-cast-back (claims t) (row-walk-at t) row-walk.Post Inv-loop μ-loop
 row-walk-cast-back t c =
     let c7 = c .before .before .before .before .before .before .before in
     let now = c7 .loop .inv in
-    omega (arith, now .row .fits, now .row .on, now .within, c7 .before .before .pre .1 .0)
+    omega (arith, now .row .fits, now .row .on, now .within, c7 .before .before .before .pre .1 .0)
 
 row-walk-mul-back : (t : ℕ) → row-walk-lts.Need-mul-back (claims t) (row-walk-at t) row-walk.Post Inv-loop μ-loop
 row-walk-mul-back t c =
@@ -146,15 +152,15 @@ row-walk-mul-back t c =
     let now = f .before .before .before .loop .inv in
     let here = f .before .before .if1 .left in
     let ok = c .before .before .before .if4 .left in
-    omega (arith, going-record now here (f .first .ensures) ok (c .before .if5 .taken) .row .on, f .before .before .before .before .before .pre .1 .0)
+    omega (arith, going-record now here (f .first .ensures) ok (c .before .if5 .taken) .row .on, f .before .before .before .before .before .before .pre .1 .0)
 
-row-walk-element-write-back : (t : ℕ) → row-walk-lts.Need-element-write-back (claims t) (row-walk-at t) row-walk.Post Inv-loop μ-loop
-row-walk-element-write-back t c =
+row-walk-slice-write-back : (t : ℕ) → row-walk-lts.Need-slice-write-back (claims t) (row-walk-at t) row-walk.Post Inv-loop μ-loop
+row-walk-slice-write-back t c =
     let f = c .before .before .before .before .before in
     let now = f .before .before .before .loop .inv in
     let here = f .before .before .if1 .left in
     let ok = c .before .before .before .if4 .left in
-    omega (arith, going-record now here (f .first .ensures) ok (c .before .if5 .taken) .row .on, f .before .before .before .before .before .pre .1 .0, now .long)
+    omega (arith, going-record now here (f .first .ensures) ok (c .before .if5 .taken) .row .on, now .long, now .enough)
 
 row-walk-add-depth : (t : ℕ) → row-walk-lts.Need-add-depth (claims t) (row-walk-at t) row-walk.Post Inv-loop μ-loop
 row-walk-add-depth t c =
@@ -162,7 +168,7 @@ row-walk-add-depth t c =
     let now = f .before .before .before .loop .inv in
     let here = f .before .before .if1 .left in
     let ok = c .before .before .before .if4 .left in
-    omega (arith, now .fewer, entered now here (f .first .ensures) ok (c .before .if5 .taken), f .before .before .before .before .before .good)
+    omega (arith, now .fewer, entered now here (f .first .ensures) ok (c .before .if5 .taken), f .before .before .before .before .before .before .good)
 
 row-walk-loop-less-3 : (t : ℕ) → row-walk-lts.Need-loop-less-3 (claims t) (row-walk-at t) row-walk.Post Inv-loop μ-loop
 row-walk-loop-less-3 t c =
@@ -250,46 +256,49 @@ row-walk-row-walk-requires t c κs =
     let none = e .before .before .before .before .if5 .left in
     let four = e .before .before .if6 .left in
     let w = deeper-row now here (f .first .ensures) ok none four (e .if7 .left) in
-    let top = f .before .before .before .before .before in (
+    let top = f .before .before .before .before .before .before in (
       omega (arith, deeper-falls now here (f .first .ensures) ok none four (e .if7 .left), top .pre .0),
-      (top .pre .1 .0, w .0, w .1, λ z. omega arith, deeper-marks now here (f .first .ensures) ok none four (e .if7 .left), now .long),
+      (top .pre .1 .0, w .0, w .1, λ z. omega arith, deeper-marks now here (f .first .ensures) ok none four (e .if7 .left), omega (arith, now .long, now .enough)),
     )
+
+row-walk-same-length-3 : (t : ℕ) → row-walk-lts.Need-same-length-3 (claims t) (row-walk-at t) row-walk.Post Inv-loop μ-loop
+row-walk-same-length-3 t c = omega (arith, c .before .before .before .before .before .before .before .before .before .before .before .before .before .before .before .before .before .before .before .before .loop .inv .long)
 
 row-walk-returns-3 : (t : ℕ) → row-walk-lts.Need-returns-3 (claims t) (row-walk-at t) row-walk.Post Inv-loop μ-loop
 row-walk-returns-3 t c =
-    let e = c .before .before .before .before .before .before .before in
+    let e = c .before .before .before .before .before .before .before .before .before in
     let f = e .before .before .before .before .before .before .before .before in
     let now = f .before .before .before .loop .inv in
     let here = f .before .before .if1 .left in
     let ok = e .before .before .before .before .before .before .if4 .left in
     let none = e .before .before .before .before .if5 .left in
     let four = e .before .before .if6 .left in
-    let r = c .before .before .row-walk .ensures in
+    let r = c .before .before .before .before .row-walk .ensures in
     (going-halts now here (f .first .ensures) ok none four (e .if7 .left) (r .0) (c .if9 .taken), halt-stays (c .if9 .taken))
 
 row-walk-loop-less-7 : (t : ℕ) → row-walk-lts.Need-loop-less-7 (claims t) (row-walk-at t) row-walk.Post Inv-loop μ-loop
 row-walk-loop-less-7 t c =
-    let e = c .before .before .before .before .before .before .before in
+    let e = c .before .before .before .before .before .before .before .before .before in
     let f = e .before .before .before .before .before .before .before .before in
     let now = f .before .before .before .loop .inv in
     let here = f .before .before .if1 .left in
     let ok = e .before .before .before .before .before .before .if4 .left in
     let none = e .before .before .before .before .if5 .left in
     let four = e .before .before .if6 .left in
-    let r = c .before .before .row-walk .ensures in
+    let r = c .before .before .before .before .row-walk .ensures in
     let last = deeper-end now here (f .first .ensures) ok none four (e .if7 .left) in
     omega (arith, forth now here (f .first .ensures) ok none .1, last, r .1 .less (c .if9 .left))
 
 row-walk-loop-again-7 : (t : ℕ) → row-walk-lts.Need-loop-again-7 (claims t) (row-walk-at t) row-walk.Post Inv-loop μ-loop
 row-walk-loop-again-7 t c =
-    let e = c .before .before .before .before .before .before .before in
+    let e = c .before .before .before .before .before .before .before .before .before in
     let f = e .before .before .before .before .before .before .before .before in
     let now = f .before .before .before .loop .inv in
     let here = f .before .before .if1 .left in
     let ok = e .before .before .before .before .before .before .if4 .left in
     let none = e .before .before .before .before .if5 .left in
     let four = e .before .before .if6 .left in
-    let r = c .before .before .row-walk .ensures in
+    let r = c .before .before .before .before .row-walk .ensures in
     going-aggregate now here (f .first .ensures) ok none four (e .if7 .left) (r .0) (r .1) (c .if9 .left)
 
 pub +row-walk-spec : {M : Type 1} → statement M
@@ -300,9 +309,10 @@ pub +row-walk-spec : {M : Type 1} → statement M
     μ-loop
     (row-walk-loop-holds t)
     (row-walk-went-requires t)
+    (row-walk-same-length t)
     (row-walk-returns t)
     (row-walk-mul-at t)
-    (row-walk-element-copy-out-at t)
+    (row-walk-slice-read-at t)
     (row-walk-cast-at t)
     (row-walk-sub-depth t)
     (row-walk-loop-less t)
@@ -312,11 +322,12 @@ pub +row-walk-spec : {M : Type 1} → statement M
     (row-walk-loop-again-2 t)
     (row-walk-first-requires t)
     (row-walk-stopped-requires t)
+    (row-walk-same-length-2 t)
     (row-walk-returns-2 t)
     (row-walk-add-back t)
     (row-walk-cast-back t)
     (row-walk-mul-back t)
-    (row-walk-element-write-back t)
+    (row-walk-slice-write-back t)
     (row-walk-add-depth t)
     (row-walk-loop-less-3 t)
     (row-walk-loop-again-3 t)
@@ -328,6 +339,7 @@ pub +row-walk-spec : {M : Type 1} → statement M
     (row-walk-loop-less-6 t)
     (row-walk-loop-again-6 t)
     (row-walk-row-walk-requires t)
+    (row-walk-same-length-3 t)
     (row-walk-returns-3 t)
     (row-walk-loop-less-7 t)
     (row-walk-loop-again-7 t)

@@ -16,7 +16,7 @@ record-walk-requires c κs =
     let s = c .before .before in
     let img = now (s .args .image) in
     let p = s .pre .0 in
-    ((length-says (length img) (p .0) .many, p .1), first-holds img (p .0) (p .1), first-some img (p .0) (p .1), marks-none)
+    ((length-says (length img) (p .0) .many, p .1), first-holds img (p .0) (p .1), first-some img (p .0) (p .1), marks-none, p .0)
 
 returns : tie.Need-returns
 returns c =

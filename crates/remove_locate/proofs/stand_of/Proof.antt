@@ -14,7 +14,7 @@ seek-child-requires c κs = search needs
 
 sub-t8 : tie.Need-sub-t8
 sub-t8 c =
-    let s = c .before .before .before .before .before in
+    let s = c .before .before .before .before .before .before in
     let w = s .pre .0 in
     let e = c .before .before .before .seek-child .ensures w in
     let o = seek-order (s .args .parent + 6) (s .args .parent % pageSize) 0 (w .row) (s .args .k) in

@@ -34,17 +34,17 @@ nowhere-requires-2 c κs = search needs
 returns-2 : tie.Need-returns-2
 returns-2 c =
     let f = c .before .before .before in
-    let s = f .before .before .before .before .before in
+    let s = f .before .before .before .before .before .before in
     λ st root r. no-parent _ st root r (now (s .args .path)) (f .before .before .if1 .left) (s .pre .1 .1 .0) (s .pre .1 .1 .1) _ (f .find-in .ensures) _
     (c .before .if2 .taken)
     (c .nowhere2 .ensures)
 
 -- the parent's byte, and its room
-parent : (f : tie.After-find-in) → f .find-in .result .number ≡ 0 → let s = f .before .before .before .before .before in
+parent : (f : tie.After-find-in) → f .find-in .result .number ≡ 0 → let s = f .before .before .before .before .before .before in
     let pos = pageSize * f .find-in .result .place .page + f .find-in .result .place .offset in
     (pos + 16 ≤ length (now (s .args .image))) × (pos < mostBytes)
 parent f z =
-    let s = f .before .before .before .before .before in
+    let s = f .before .before .before .before .before .before in
     let (t, r) = passing (now (s .args .image)) (s .pre .0) in
     read-room (node-read _ (t .0) (t .1) r (now (s .args .path)) (f .before .before .if1 .left) (s .pre .1 .1 .0) (s .pre .1 .1 .1) _
     (f .find-in .ensures) z _ refl .1)
@@ -65,7 +65,7 @@ returns-3 : tie.Need-returns-3
 returns-3 c =
     let i = c .before .before .before .before .before .before in
     let f = i .before .before in
-    let s = f .before .before .before .before .before in
+    let s = f .before .before .before .before .before .before in
     λ st root r. literal-located _ st root r (now (s .args .path)) (f .before .before .if1 .left) (s .pre .1 .1 .0) (s .pre .1 .1 .1) _
     (f .find-in .ensures) (i .if2 .left) _ refl _
     (c .before .if3 .taken) (c .nowhere3 .ensures)
@@ -77,7 +77,7 @@ stand-of-requires : tie.Need-stand-of-requires
 stand-of-requires c κs =
     let i = c .before .before .before .before .before .before in
     let f = i .before .before in
-    let s = f .before .before .before .before .before in
+    let s = f .before .before .before .before .before .before in
     let (t, r) = passing (now (s .args .image)) (s .pre .0) in (
       kids _ (t .0) (t .1) r (now (s .args .path)) (f .before .before .if1 .left) (s .pre .1 .1 .0) (s .pre .1 .1 .1) _ (f .find-in .ensures)
           (i .if2 .left) _ refl (c .before .if3 .left),
@@ -89,7 +89,7 @@ returns-4 c =
     let d = c .before in
     let i = d .before .before .before .before .before .before in
     let f = i .before .before in
-    let s = f .before .before .before .before .before in
+    let s = f .before .before .before .before .before .before in
     λ st root r. child-located _ st root r (now (s .args .path)) (f .before .before .if1 .left) (s .pre .1 .1 .0) (s .pre .1 .1 .1) _
     (f .find-in .ensures) (i .if2 .left) _ refl _ _
     (d .four .ensures) (d .before .if3 .left) (c .stand-of .ensures)
@@ -97,5 +97,4 @@ returns-4 c =
 pub locate-spec : {M : Type 1} → statement M
 locate-spec =
     tie.close
-    (tie.spec nowhere-requires returns sub-up slice-aggregate-find-in find-in-requires nowhere-requires-2 returns-2 mul-parent add-parent shared-slice-read-if3
-    nowhere-requires-3 returns-3 four-requires stand-of-requires returns-4)
+    (tie.spec nowhere-requires returns sub-up slice-aggregate-find-in find-in-requires nowhere-requires-2 returns-2 mul-parent add-parent shared-slice-read-if3 nowhere-requires-3 returns-3 four-requires stand-of-requires returns-4)
