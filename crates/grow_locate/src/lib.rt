@@ -69,7 +69,7 @@ fn nowhere() -> Located
 }
 
 // How many nodes the one at pos shows: a proxy those of its record, by the table.
-fn shown_by(image: &[u8], widths: &[u32; Settings::PAGES], pos: usize) -> usize
+fn shown_by(image: &[u8], widths: &[u32], pos: usize) -> usize
     requires { ⌜ SomeRow (now image) pos × Widths (now image) (now widths) ⌝ }
     ensures { λ r. ⌜ ((w : SomeRow (now (image .entry)) pos) → r ≡ firstWidth (w .rowed .row)) ⌝ }
 {
@@ -141,7 +141,7 @@ fn closer(next: Span, after: Span) -> Span
 
 // Node k of those that the span shows, or its proxy, if it is a record's root; `widths` has how many nodes each record shows, so that only records that
 // hold the node are read. What follows it are the nodes behind it in its record or, with none, those behind the nearest proxy on the way down that has some.
-fn seek(image: &[u8], widths: &[u32; Settings::PAGES], from: Span, k: usize) -> Sought
+fn seek(image: &[u8], widths: &[u32], from: Span, k: usize) -> Sought
     requires { ⌜ Rowed (now image) (from .pos) (from .end) mostPages × Widths (now image) (now widths) × (from .deep ≤ mostPages) ⌝ }
     ensures { λ r. ⌜ Finds (now (image .entry)) from k r ⌝ }
 {
@@ -190,7 +190,7 @@ fn children(image: &[u8], parent: usize) -> Span
 }
 
 // Child k of the aggregate at the byte `parent` of the image, or its proxy.
-pub fn seek_child(image: &[u8], widths: &[u32; Settings::PAGES], parent: usize, k: usize) -> Located
+pub fn seek_child(image: &[u8], widths: &[u32], parent: usize, k: usize) -> Located
     requires { ⌜ Rowed (now image) (parent + 6) (parent + sizeAt (now image) parent) mostPages × Widths (now image) (now widths) ⌝ }
     ensures { λ r. ⌜ ((w : Rowed (now (image .entry)) (parent + 6) (parent + sizeAt (now (image .entry)) parent) mostPages)
         → r ≡ seekSpan (childrenSpan (now (image .entry)) parent) (w .row) k) ⌝ }
@@ -234,7 +234,7 @@ fn sight(found: bool, pos: usize, par: usize, deep: usize) -> Sighted
 }
 
 // The first child goes before its right sibling; with none, where the children would stand.
-fn spot_first(image: &[u8], widths: &[u32; Settings::PAGES], span: Span) -> Sighted
+fn spot_first(image: &[u8], widths: &[u32], span: Span) -> Sighted
     requires { ⌜ Rowed (now image) (span .pos) (span .end) mostPages × Widths (now image) (now widths) × (span .deep ≡ 0) ⌝ }
     ensures { λ r. ⌜ ((w : Rowed (now (image .entry)) (span .pos) (span .end) mostPages) → r ≡ sightFirst span (seekSpan span (w .row) 0)) ⌝ }
 {
@@ -247,7 +247,7 @@ fn spot_first(image: &[u8], widths: &[u32; Settings::PAGES], span: Span) -> Sigh
 }
 
 // A child with left sibling i goes after it or before its right one, whose search begins with what follows the left one.
-fn spot_beside(image: &[u8], widths: &[u32; Settings::PAGES], span: Span, i: usize) -> Sighted
+fn spot_beside(image: &[u8], widths: &[u32], span: Span, i: usize) -> Sighted
     requires { ⌜ Rowed (now image) (span .pos) (span .end) mostPages × Widths (now image) (now widths) × (span .deep ≡ 0) ⌝ }
     ensures { λ r. ⌜ ((w : Rowed (now (image .entry)) (span .pos) (span .end) mostPages)
         → r ≡ sightBeside (now (image .entry)) (seekSpan span (w .row) i) (seekSpan span (w .row) (suc i))) ⌝ }
@@ -264,7 +264,7 @@ fn spot_beside(image: &[u8], widths: &[u32; Settings::PAGES], span: Span, i: usi
 }
 
 // Where child k of the aggregate at the byte `parent` of the image goes.
-pub fn find_spot(image: &[u8], widths: &[u32; Settings::PAGES], parent: usize, k: usize) -> Sighted
+pub fn find_spot(image: &[u8], widths: &[u32], parent: usize, k: usize) -> Sighted
     requires { ⌜ Rowed (now image) (parent + 6) (parent + sizeAt (now image) parent) mostPages × Widths (now image) (now widths) ⌝ }
     ensures { λ r. ⌜ ((w : Rowed (now (image .entry)) (parent + 6) (parent + sizeAt (now (image .entry)) parent) mostPages)
         → r ≡ sightChild (now (image .entry)) (childrenSpan (now (image .entry)) parent) (w .row) k) ⌝ }
