@@ -26,11 +26,11 @@ use Rattle.remove_node.specs.Going.{Going}
 use Rattle.remove_node.specs.Gone.{Gone}
 
 -- The number, and the image, the table and the map that are left.
-pub record Answers (img path : List ℕ) (n : ℕ) (after entries map : List ℕ) : Type 0 where
+pub record Answers (img path : List ℕ) (n : ℕ) (after entries next : List ℕ) : Type 0 where
   pub number : n ≡ removeOf img path .0
   pub image : after ≡ removeOf img path .1
   pub table : Widths after entries
-  pub map : Mapped after map
+  pub map : Mapped after next
 
 -- ── the tests ──
 
@@ -95,7 +95,7 @@ module _ {img u m : List ℕ} {st : Config} {root : Row} (r : Reads img st root)
           map = map;
         }
 
-        pub accepted : (after entries map : List ℕ) → Gone going after entries map → Answers img path 0 after entries map
+        pub accepted : (after entries next : List ℕ) → Gone going after entries next → Answers img path 0 after entries next
         unfolding going
         accepted after entries next g =
             let o = remove-accepted img st root r path number-is in

@@ -279,7 +279,7 @@ module _ {img u m : List ℕ} {s : Standing} (w : Going img u m s) where
           (lifted-by (w .st) (w .root) (v w) (w .new) t (w .leaves) (pageOf img) (pageOf img) all d (y .position) q (y .settled) (y .rest) x (y .is)
           (pageOf mid) is-wiped) in
           let low : 1 ≤ q = omega (arith, own-low, ap lastPage (y .is)) in
-          let bits : q < 8 * length map = omega (arith, own-bit w free, own-page) in
+          let bits : q < 8 * length map = omega (arith, own-bit free, own-page) in
           let is-map : next ≡ unmarked map q = k ∙ ap (unmarked map) own-page in
           let is-whole = goes img (w .st) (w .root) (w .reads) (w .new) t (w .leaves) d (y .position) q (y .settled) (y .rest) x (y .is) in
           let long = ap length is-map ∙ length-unmark map q ∙ free .map-long in
