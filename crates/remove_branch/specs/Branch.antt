@@ -1,23 +1,25 @@
 -- A branch whose records are freed.
 use mathlib.Core.Path.{_≡_, refl, sym, ap, _∙_}
+use mathlib.Core.Bool.{false}
 use mathlib.Core.List.{List}
-use Prim.Native.Nat.{ℕ, _+_, _-_, _≤_}
+use Prim.Native.Nat.{ℕ, _+_, _*_, _-_, _≤_}
 use native.Mathlib.Omega.{arith}
-use lib.ListN.{length, getD, take, drop, length-map}
-use Rattle.model.specs.Limits.{mostPages}
+use lib.ListN.{length, take, drop, length-map}
+use Rattle.model.specs.Limits.{mostPages, pageSize}
 use Rattle.model.specs.Row.{Row, nil, agg, lit, rec, _⊹_, size, nodeCount, Held, count, Config}
 use Rattle.model.specs.Tree.{Tree}
 use Rattle.model.specs.Reading.{Reads, pageOf, kindAt}
 use Rattle.model.specs.Spot.{fill, Stand}
 use Rattle.theory_rows.specs.Fits.{Valid}
 use Rattle.theory_rows.specs.Laws.{nodes-nil, nodes-size}
-use Rattle.theory_decoding.specs.Reading.{reads-valid}
+use Rattle.theory_decoding.specs.Reading.{reads-length, reads-valid}
 use Rattle.theory_decoding.specs.Steps.{recordCount, few-records}
 use Rattle.theory_row_bytes.specs.RowAt.{kindOf, row-part}
 use Rattle.theory_layout.specs.Here.{Here, view}
 use Rattle.theory_growth.specs.Parts.{Part, part-fill, part-whole}
 use Rattle.theory_removal.specs.Stand.{Leaves, stand-once}
 use Rattle.theory_page_memory.specs.Memory.{blank}
+use Rattle.grow_map.specs.Map.{usedBy}
 use Rattle.grow_pages.specs.Links.{below-count}
 use Rattle.remove_branch.specs.Own.{names, own, pages-own, has-own, weight-own, length-weight, own-stand}
 use Rattle.remove_branch.specs.Listed.{Listing, Listed}
@@ -33,19 +35,19 @@ pub record Branched (img : List ℕ) : Type 0 where
   pub leaves : Leaves root new t
 
 -- The node that goes stands from start to end, in the record of a page.
-pub record Branch (img u : List ℕ) (start end : ℕ) : Type 0 where
+pub record Branch (img m : List ℕ) (start end : ℕ) : Type 0 where
   pub b : Branched img
   pub page : ℕ
   pub here : Here img page start (b .t .node)
   pub ends : end ≡ start + size (b .t .node)
-  pub long : length u ≡ mostPages
+  pub map-long : length img ≤ pageSize * (8 * length m)
 
--- The pages of the node's records are blank and have no entry; all else is as it was.
-pub record Freed {img u : List ℕ} {start end : ℕ} (w : Branch img u start end) (after entries : List ℕ) : Type 0 where
+-- The pages of the node's records are blank and free in the map; all else is as it was.
+pub record Freed {img m : List ℕ} {start end : ℕ} (w : Branch img m start end) (after map : List ℕ) : Type 0 where
   pub long : length after ≡ length img
-  pub table : length entries ≡ length u
-  pub gone : (q : ℕ) → 1 ≤ count q (w .b .t .node) → (pageOf after q ≡ blank) × (getD entries q 0 ≡ 0)
-  pub other : (q : ℕ) → count q (w .b .t .node) ≡ 0 → (pageOf after q ≡ pageOf img q) × (getD entries q 0 ≡ getD u q 0)
+  pub map-long : length map ≡ length m
+  pub gone : (q : ℕ) → 1 ≤ count q (w .b .t .node) → (pageOf after q ≡ blank) × (usedBy map q ≡ false)
+  pub other : (q : ℕ) → count q (w .b .t .node) ≡ 0 → (pageOf after q ≡ pageOf img q) × (usedBy map q ≡ usedBy m q)
 
 -- A literal names no page.
 bare : (q : ℕ) (r : Row) → nodeCount r ≡ 1 → kindOf r ≡ 2 → count q r ≡ 0
@@ -71,7 +73,7 @@ count-front (agg h cs rest) b = omega (arith, count-front rest b)
 count-front (lit h c rest) b = count-front rest b
 count-front (rec p s r rest) b = omega (arith, count-front rest b)
 
-module _ {img u : List ℕ} {start end : ℕ} (w : Branch img u start end) where
+module _ {img m : List ℕ} {start end : ℕ} (w : Branch img m start end) where
   abbrev node : Row
   node = w .b .t .node
 
@@ -81,20 +83,14 @@ module _ {img u : List ℕ} {start end : ℕ} (w : Branch img u start end) where
   v : Valid (w .b .st) (w .b .root)
   v = reads-valid img (w .b .st) (w .b .root) (w .b .reads)
 
-  pub room : (start + 6 ≤ length img) × (end ≤ length img) × (start ≤ end)
-  room =
-      let h = w .here in
-      let n = nodes-size node (omega (arith, w .b .leaves .one)) in
-      (omega (arith, h .room, h .on .inside, n), omega (arith, h .room, h .on .inside, w .ends), omega (arith, w .ends))
-
   -- A literal has no records below it.
-  pub literal-freed : kindAt img start ≡ 2 → Freed w img u
+  pub literal-freed : kindAt img start ≡ 2 → Freed w img m
   literal-freed e =
       let one = w .b .leaves .one in
       let is : kindOf node ≡ 2 = sym (view (w .here) (omega (arith, nodes-size node (omega (arith, one)))) .kind-is) ∙ e in
-      record { long = refl; table = refl; gone = λ q h. absurd (omega (arith, bare q node one is)); other = λ q h. (refl, refl) }
+      record { long = refl; map-long = refl; gone = λ q h. absurd (omega (arith, bare q node one is)); other = λ q h. (refl, refl) }
 
-  few : recordCount node ≤ mostPages
+  few : recordCount node ≤ w .b .st .pages
   few =
       let t = w .b .t in
       omega (
@@ -104,14 +100,16 @@ module _ {img u : List ℕ} {start end : ℕ} (w : Branch img u start end) where
         part-whole recordCount count-part (t .chain) (fill (t .position) (node ⊹ t .rest)),
         ap recordCount (w .b .leaves .held),
         few-records (w .b .st) (w .b .root) v,
-        v .ranges .many,
       )
 
   names-long : length (names node) ≡ length (own page node)
   names-long = ap length (sym (pages-own page node)) ∙ length-map (own page node) (λ (h : Held). h .page)
 
   -- The list begins with the pages that the node names itself.
-  module _ (list : List ℕ) (wide : length list ≡ mostPages) where
+  module _ (list : List ℕ) (wide : length img ≤ pageSize * length list) (small : length list ≤ mostPages) where
+    list-long : recordCount node ≤ length list
+    list-long = omega (arith, few, reads-length img (w .b .st) (w .b .root) (w .b .reads))
+
     pub listing : Listing (take (end - start) (drop start img)) list 0
     listing = record {
       linked =
@@ -121,30 +119,30 @@ module _ {img u : List ℕ} {start end : ℕ} (w : Branch img u start end) where
             below = below-count mostPages node (λ q k. w .here .names q k .high);
             small = omega (arith, w .here .room);
           };
-      long = wide;
-      room = omega (arith, names-long, length-weight (own page node), weight-own page node, few);
+      room = omega (arith, names-long, length-weight (own page node), weight-own page node, list-long);
+      small = small;
     }
 
     module _ (now : List ℕ) (n : ℕ) (l : Listed listing now n) where
-      pub freeing : Freeing img u now n
+      pub freeing : Freeing img m now n
       unfolding listing
       freeing = record {
         records = own page node;
         stand = own-stand (pageOf img) page node (w .here .fits) (w .here .stored);
         inside = λ q h. w .here .names q (omega (arith, has-own q page node));
         once = λ q. omega (arith, has-own q page node, stand-once (w .b .root) (w .b .new) (w .b .t) (w .b .leaves) q (w .b .st) v);
-        few = omega (arith, weight-own page node, few);
+        few = omega (arith, weight-own page node, list-long, l .long);
         is = l .is ∙ sym (pages-own page node);
         listed = omega (arith, l .many, names-long);
-        long = l .long;
-        table = w .long;
+        small = omega (arith, l .long, small);
+        map-long = w .map-long;
       }
 
-      pub branch-freed : (after entries : List ℕ) → Emptied freeing after entries → Freed w after entries
+      pub branch-freed : (after map : List ℕ) → Emptied freeing after map → Freed w after map
       unfolding freeing
-      branch-freed after entries c = record {
+      branch-freed after map c = record {
         long = c .long;
-        table = c .table;
+        map-long = c .map-long;
         gone = λ q h. c .gone q (omega (arith, has-own q page node));
         other = λ q h. c .other q (omega (arith, has-own q page node));
       }

@@ -3,7 +3,7 @@ use mathlib.Core.Path.{_≡_, refl, sym, ap, ap₂, subst, _∙_}
 use mathlib.Core.List.{List, [], _∷_, _++_, map-append}
 use Prim.Native.Nat.{ℕ, _+_, _*_, _-_, _≤_, _<_}
 use native.Mathlib.Omega.{arith}
-use lib.ListN.{length, getD, set, take, drop, length-append, length-map}
+use lib.ListN.{length, getD, take, drop, length-append, length-map}
 use lib.Seq.{getD-take, getD-drop, drop-drop, drop-append-le, length-take-le}
 use lib.Dec.{eqb}
 use Rattle.model.specs.Limits.{mostPages, pageSize, capacity}
@@ -13,6 +13,7 @@ use Rattle.theory_rows.specs.Image.{Stored}
 use Rattle.theory_rows.specs.Pages.{bit}
 use Rattle.theory_decoding.specs.Decode.{used-page}
 use Rattle.theory_decoding.specs.Steps.{recordCount}
+use Rattle.theory_check.specs.Tests.{unmarked}
 use Rattle.theory_row_bytes.specs.RowAt.{RowAt, RecordAt, record-row, record-first, row-part, page-record, number-on}
 use Rattle.theory_layout.specs.Here.{PageIn}
 use Rattle.theory_page_memory.specs.Memory.{blank}
@@ -26,32 +27,32 @@ use Rattle.remove_branch.specs.Listed.{Listing, Listed}
 use Rattle.remove_branch.specs.Cleared.{Cleared, cleared-none, cleared-page}
 
 -- The first n of the list are the pages of these records, which stand with all below them, each page named one time.
-pub record Freeing (img u list : List ℕ) (n : ℕ) : Type 0 where
+pub record Freeing (img m list : List ℕ) (n : ℕ) : Type 0 where
   pub records : List Held
   pub stand : AllStand (pageOf img) records
   pub inside : (q : ℕ) → 1 ≤ total (has q) records → PageIn img q
   pub once : (q : ℕ) → total (has q) records ≤ 1
-  pub few : total weight records ≤ mostPages
+  pub few : total weight records ≤ length list
   pub is : take n list ≡ pages records
   pub listed : n ≡ length records
-  pub long : length list ≡ mostPages
-  pub table : length u ≡ mostPages
+  pub small : length list ≤ mostPages
+  pub map-long : length img ≤ pageSize * (8 * length m)
 
 -- Their pages are freed, and those of all records below them.
-abbrev pub Emptied : {img u list : List ℕ} {n : ℕ} → Freeing img u list n → (after entries : List ℕ) → Type 0
-Emptied {img} {u} w after entries = Cleared (λ q. total (has q) (w .records)) img u after entries
+abbrev pub Emptied : {img m list : List ℕ} {n : ℕ} → Freeing img m list n → (after map : List ℕ) → Type 0
+Emptied {img} {m} w after map = Cleared (λ q. total (has q) (w .records)) img m after map
 
 -- The first k of the list are freed: `times` says which pages they are. The others are the pages of the records that are left.
-pub record Turn {img u list : List ℕ} {n : ℕ} (w : Freeing img u list n) (after entries now : List ℕ) (many k : ℕ) : Type 0 where
+pub record Turn {img m list : List ℕ} {n : ℕ} (w : Freeing img m list n) (after map now : List ℕ) (many k : ℕ) : Type 0 where
   pub times : ℕ → ℕ
   pub left : List Held
   pub all : (q : ℕ) → times q + total (has q) left ≡ total (has q) (w .records)
-  pub cleared : Cleared times img u after entries
+  pub cleared : Cleared times img m after map
   pub stand : AllStand (pageOf img) left
-  pub few : k + total weight left ≤ mostPages
+  pub few : k + total weight left ≤ length list
   pub is : drop k (take many now) ≡ pages left
   pub listed : many ≡ k + length left
-  pub long : length now ≡ mostPages
+  pub long : length now ≡ length list
 
 pub record First (l : List Held) : Type 0 where
   pub head : Held
@@ -62,28 +63,30 @@ first-of : (l : List Held) → 1 ≤ length l → First l
 first-of [] h = absurd (omega arith)
 first-of (x ∷ l) h = record { head = x; tail = l; is = refl }
 
-module _ {img u list : List ℕ} {n : ℕ} (w : Freeing img u list n) where
-  pub turn-start : Turn w img u list n 0
+module _ {img m list : List ℕ} {n : ℕ} (w : Freeing img m list n) where
+  pub turn-start : Turn w img m list n 0
   turn-start = record {
     times = λ q. 0;
     left = w .records;
     all = λ q. omega arith;
-    cleared = cleared-none img u;
+    cleared = cleared-none img m;
     stand = w .stand;
     few = omega (arith, w .few);
     is = w .is;
     listed = omega (arith, w .listed);
-    long = w .long;
+    long = refl;
   }
 
-  module _ {after entries now : List ℕ} {many k : ℕ} (t : Turn w after entries now many k) where
-    pub turn-few : many ≤ mostPages
-    turn-few = omega (arith, t .listed, t .few, length-weight (t .left))
+  module _ {after map now : List ℕ} {many k : ℕ} (t : Turn w after map now many k) where
+    pub turn-few : (many ≤ length now) × (many ≤ mostPages)
+    turn-few =
+        let low : many ≤ length list = omega (arith, t .listed, t .few, length-weight (t .left)) in
+        (omega (arith, t .long), omega (arith, w .small))
 
-    pub turn-end : many ≤ k → Emptied w after entries
+    pub turn-end : many ≤ k → Emptied w after map
     turn-end h = record {
       long = t .cleared .long;
-      table = t .cleared .table;
+      map-long = t .cleared .map-long;
       gone = λ q g. t .cleared .gone q (omega (arith, same q));
       other = λ q g. t .cleared .other q (omega (arith, same q));
     }
@@ -128,6 +131,10 @@ module _ {img u list : List ℕ} {n : ℕ} (w : Freeing img u list n) where
           let i = inside p (omega (arith, self p)) in
           record { low = i .low; high = i .high; inside = omega (arith, i .inside, t .cleared .long) }
 
+      -- The map has a bit for it.
+      pub turn-bit : p < 8 * length map
+      turn-bit = omega (arith, turn-page .inside, t .cleared .long, t .cleared .map-long, w .map-long)
+
       -- It is as it was.
       page-is : pageOf after (f .head .page) ≡ recordPage (f .head)
       page-is =
@@ -160,10 +167,10 @@ module _ {img u list : List ℕ} {n : ℕ} (w : Freeing img u list n) where
                 below = below-count mostPages row (λ q h. inside q (omega arith) .high);
                 small = omega (arith, stands .0 .small);
               };
-          long = t .long;
           room =
               omega (
                 arith,
+                t .long,
                 t .listed,
                 t .few,
                 ap length (f .is),
@@ -171,6 +178,7 @@ module _ {img u list : List ℕ} {n : ℕ} (w : Freeing img u list n) where
                 length-weight (f .tail),
                 names-few,
               );
+          small = omega (arith, t .long, w .small);
         }
           where
             names-few : length (names row) ≤ recordCount row
@@ -183,7 +191,7 @@ module _ {img u list : List ℕ} {n : ℕ} (w : Freeing img u list n) where
                   weight-own p row,
                 )
 
-        pub turn-again : (next : List ℕ) (r : ℕ) → Listed turn-listing next r → Turn w (setPage p blank after) (set entries p 0) next r (k + 1)
+        pub turn-again : (next : List ℕ) (r : ℕ) → Listed turn-listing next r → Turn w (setPage p blank after) (unmarked map p) next r (k + 1)
         unfolding turn-listing
         turn-again next r l =
             let o = turn-page in
@@ -191,7 +199,7 @@ module _ {img u list : List ℕ} {n : ℕ} (w : Freeing img u list n) where
               times = λ q. bit (eqb q p) + t .times q;
               left = later;
               all = λ q. omega (arith, parts q, total-++ (has q) (f .tail) (own p row), has-own q p row);
-              cleared = cleared-page (t .cleared) p (o .inside) (omega (arith, o .high, t .cleared .table, w .table));
+              cleared = cleared-page (t .cleared) p (o .inside) turn-bit;
               stand = stand-++ (pageOf img) (f .tail) (own p row) (stands .1)
                   (own-stand (pageOf img) p row (stands .0 .fits) (subst (λ (n : ℕ). Stored (pageOf img) n row) (sym first-page) (stands .0 .stored)));
               few = omega (arith, t .few, ap (total weight) (f .is), total-++ weight (f .tail) (own p row), weight-own p row);
@@ -206,7 +214,7 @@ module _ {img u list : List ℕ} {n : ℕ} (w : Freeing img u list n) where
                     ap length (pages-own p row),
                     length-map (own p row) (λ (h : Held). h .page),
                   );
-              long = l .long;
+              long = l .long ∙ t .long;
             }
           where
             rest-is : drop (k + 1) (take many now) ≡ pages (f .tail)
@@ -216,6 +224,6 @@ module _ {img u list : List ℕ} {n : ℕ} (w : Freeing img u list n) where
             is =
                 ap (drop (k + 1)) (l .is)
                 ∙ drop-append-le (k + 1) (take many now) (names row)
-                (omega (arith, length-take-le many now (omega (arith, turn-few, t .long))))
+                (omega (arith, length-take-le many now (turn-few .0)))
                 ∙ ap₂ (λ (a b : List ℕ). a ++ b) rest-is (sym (pages-own p row))
                 ∙ sym (map-append (λ (h : Held). h .page) (f .tail) (own p row))

@@ -4,7 +4,7 @@ use mathlib.Core.Bool.{Bool, false, cond, true≢false}
 use mathlib.Core.List.{List}
 use Prim.Native.Nat.{ℕ, _+_, _*_, _≤_, _<_}
 use native.Mathlib.Omega.{arith}
-use lib.ListN.{length, getD}
+use lib.ListN.{length}
 use lib.Dec.{eqb}
 use Rattle.model.specs.Limits.{mostPages, pageSize, capacity}
 use Rattle.model.specs.Row.{Row, rec, store, _⊹_, size, base, nodeCount, lone, recordPage, recordOn, count, Config}
@@ -16,7 +16,7 @@ use Rattle.theory_rows.specs.Bound.{fits-parts}
 use Rattle.theory_rows.specs.Laws.{size-⊹}
 use Rattle.theory_rows.specs.Pages.{bit, count-⊹}
 use Rattle.theory_decoding.specs.Decode.{in-trailer}
-use Rattle.theory_decoding.specs.Reading.{reads-valid}
+use Rattle.theory_decoding.specs.Reading.{reads-length, reads-valid}
 use Rattle.theory_places.specs.Widths.{Table}
 use Rattle.theory_row_bytes.specs.RowAt.{byte-on, row-split}
 use Rattle.theory_layout.specs.Here.{PageIn, Here, OnPage}
@@ -26,15 +26,16 @@ use Rattle.theory_growth.specs.Stand.{NotAlone}
 use Rattle.theory_removal.specs.Stand.{Leaves, stand-names, stand-once}
 use Rattle.theory_page_memory.specs.Links.{stored-parted}
 use Rattle.theory_page_memory.specs.Removing.{own-apart}
-use Rattle.grow_widths.specs.Raised.{Raising, hang-length, entryAnew, lowered, changed-long, changed-other}
+use Rattle.grow_map.specs.Mapped.{Mapped}
+use Rattle.grow_widths.specs.Raised.{Raising, hang-length, lowered}
 use Rattle.grow_splice.specs.Position.{isInside}
 use Rattle.remove_branch.specs.Branch.{Branch}
 use Rattle.remove_locate.specs.declared.Standing.{Standing}
 use Rattle.remove_locate.specs.Leave.{standingOf}
 use Rattle.remove_record.specs.Reduced.{Removing}
 
--- The image reads as a store with this table, and the code has found where the node stands.
-pub record Going (img u : List ℕ) (s : Standing) : Type 0 where
+-- The image reads as a store with this table and this map, and the code has found where the node stands.
+pub record Going (img u m : List ℕ) (s : Standing) : Type 0 where
   pub st : Config
   pub root : Row
   pub reads : Reads img st root
@@ -43,6 +44,7 @@ pub record Going (img u : List ℕ) (s : Standing) : Type 0 where
   pub leaves : Leaves root new t
   pub found : s ≡ standingOf t
   pub table : Table st root u
+  pub map : Mapped img m
 
 -- The first nodes of a row that stands.
 front : (img : List ℕ) (page pos : ℕ) (a b : Row) → Here img page pos (a ⊹ b) → Here img page pos a
@@ -56,7 +58,7 @@ front img page pos a b h = record {
   names = λ q k. h .names q (omega (arith, count-⊹ q a b));
 }
 
-module _ {img u : List ℕ} {s : Standing} (w : Going img u s) where
+module _ {img u m : List ℕ} {s : Standing} (w : Going img u m s) where
   abbrev pub c : Chain
   c = w .t .chain
 
@@ -136,7 +138,7 @@ module _ {img u : List ℕ} {s : Standing} (w : Going img u s) where
     is = w .leaves .held;
     last = page-is;
     enough = omega (arith, ap (λ (s : Standing). s .deep) (w .found), hang-length c (w .t .position));
-    long = w .table .long;
+    long = omega (arith, w .table .long, reads-length img (w .st) (w .root) (w .reads));
   }
 
   -- A node at the top of a row has another beside it.
@@ -187,15 +189,11 @@ module _ {img u : List ℕ} {s : Standing} (w : Going img u s) where
   pub one-time : (q : ℕ) → beside c q + along c q + count q (fill (w .t .position) (w .t .rest)) + count q (w .t .node) ≤ 1
   one-time q = stand-once (w .root) (w .new) (w .t) (w .leaves) q (w .st) v
 
-  -- Beside the chain it is as it was.
-  pub less-other : (q : ℕ) → along c q ≡ 0 → getD less q 0 ≡ getD u q 0
-  less-other q e = changed-other (entryAnew false) (s .deep) c u q e
-
-  abbrev pub branch : (u₁ : List ℕ) → u₁ ≡ less → Branch img u₁ (pageSize * s .page + s .at) (pageSize * s .page + s .at + s .gone)
-  branch u₁ e = record {
+  abbrev pub branch : Branch img m (pageSize * s .page + s .at) (pageSize * s .page + s .at + s .gone)
+  branch = record {
     b = record { st = w .st; root = w .root; reads = w .reads; new = w .new; t = w .t; leaves = w .leaves };
     page = s .page;
     here = stands-here;
     ends = omega (arith, gone-is);
-    long = ap length e ∙ changed-long (entryAnew false) (s .deep) c u ∙ w .table .long;
+    map-long = w .map .long;
   }

@@ -1,12 +1,11 @@
--- What a removal leaves: the image and the table of the store without the node.
+-- What a removal leaves: the image, the table and the map of the store without the node.
 use mathlib.Core.Path.{_≡_, refl, sym, ap, subst, _∙_}
-use mathlib.Core.Bool.{Bool, true, false, true≢false}
+use mathlib.Core.Bool.{Bool, true, false, cond, true≢false}
 use mathlib.Core.List.{List}
 use Prim.Native.Nat.{ℕ, _+_, _*_, _≤_, _<_}
 use native.Mathlib.Omega.{arith}
 use borrow.Author.Tests.{ne-eqb}
-use lib.ListN.{length, take, getD, set, length-set}
-use lib.Seq.{getD-set-same, getD-set-other}
+use lib.ListN.{length, take}
 use lib.Dec.{eqb}
 use Rattle.model.specs.Limits.{pageSize, capacity}
 use Rattle.model.specs.Row as rows
@@ -22,20 +21,25 @@ use Rattle.theory_decoding.specs.Steps.{named-inside}
 use Rattle.theory_places.specs.Widths.{Told, Table}
 use Rattle.theory_layout.specs.Here.{PageIn, OnPage}
 use Rattle.theory_growth.specs.Chain.{lastSettled, along, chain-fits}
-use Rattle.theory_growth.specs.Told.{ToldAlong, told-along, along-same}
+use Rattle.theory_growth.specs.Told.{ToldAlong, told-along}
 use Rattle.theory_insert_point.specs.Bytes.{chain-page, chain-bytes}
 use Rattle.theory_removal.specs.Keeps.{Proxy, proxy-of, root-stays}
 use Rattle.theory_removal.specs.Keeps as keeps
 use Rattle.theory_removal.specs.Table.{Fewer, table-stays, table-goes}
+use Rattle.theory_removal.specs.Used.{used-less, names-stays, names-goes}
+use Rattle.theory_check.specs.Tests.{unmarked}
+use Rattle.theory_check.specs.Marks.{length-unmark}
 use Rattle.theory_page_memory.specs.Memory.{Mem}
 use Rattle.theory_page_memory.specs.Links.{self}
 use Rattle.theory_page_memory.specs.Around.{beyond-own}
 use Rattle.theory_page_memory.specs.Removing.{Wiped, Rewritten, Lifted, own-apart, stands, stays, goes, rewritten-by, rewritten-image, lifted-by, lifted-image}
 use Rattle.base_numbers.specs.Over.{take-over}
+use Rattle.grow_map.specs.Map.{usedBy, used-unmarked}
+use Rattle.grow_map.specs.Mapped.{Right}
 use Rattle.grow_pages.specs.Write.{setPage, pageBytesOf, recordPage-is}
 use Rattle.grow_pages.specs.Paged.{length-setPage}
 use Rattle.grow_pages.specs.Relinked.{mem-set}
-use Rattle.grow_widths.specs.Raised.{lowered, entryAnew, changed-long, lowered-along}
+use Rattle.grow_widths.specs.Raised.{lowered, entryAnew, changed-long, changed-other, lowered-along}
 use Rattle.grow_replace_proxy.specs.Above.{above-once}
 use Rattle.remove_branch.specs.Branch.{Freed}
 use Rattle.remove_lift.specs.Rename.{Renaming}
@@ -44,13 +48,15 @@ use Rattle.remove_locate.specs.declared.Standing.{Standing}
 use Rattle.remove_record.specs.declared.Remnant.{Remnant}
 use Rattle.remove_record.specs.Reduced.{Reduced}
 use Rattle.remove_node.specs.Going.{Going, c, row, old, v, page-is, on-page, settled-is, holder-is, apart, removing, less, named, one-time}
-use Rattle.remove_node.specs.Going.{less-other, branch}
+use Rattle.remove_node.specs.Going.{room, branch}
 
-pub record Gone {img u : List ℕ} {s : Standing} (w : Going img u s) (after entries : List ℕ) : Type 0 where
+pub record Gone {img u m : List ℕ} {s : Standing} (w : Going img u m s) (after entries map : List ℕ) : Type 0 where
   pub image : after ≡ rows.image (w .st) (without (w .t))
   pub table : Table (w .st) (without (w .t)) entries
+  pub map-long : length map ≡ length m
+  pub right : Right (w .st) (without (w .t)) map
 
-module _ {img u : List ℕ} {s : Standing} (w : Going img u s) where
+module _ {img u m : List ℕ} {s : Standing} (w : Going img u m s) where
   abbrev t : Stand
   t = w .t
 
@@ -61,13 +67,13 @@ module _ {img u : List ℕ} {s : Standing} (w : Going img u s) where
 
   inside : (q : ℕ) → 1 ≤ along (c w) q → q < length u
   inside q h =
-      omega (arith, named w q, named-inside (w .st) (w .root) (v w) q (omega (arith, named w q)) .1, v w .ranges .many, w .table .long)
+      omega (arith, named-inside (w .st) (w .root) (v w) q (omega (arith, named w q)) .1, w .table .long)
 
   less-shows : ToldAlong (less w) (c w) left
   less-shows =
       subst (λ (n : ℕ). ToldAlong (lowered n (c w) u) (c w) left) (sym (ap (λ (s : Standing). s .deep) (w .found)))
       (lowered-along (c w) (t .position) (row w) (t .rest) u (omega (arith, width-⊹ (t .node) (t .rest), w .leaves .wide))
-      (subst (λ (r : Row). Fits (store r)) (sym (w .leaves .held)) (v w .rows)) (w .leaves .not-alone) (λ q. omega (arith, one-time w q)) inside
+      (λ q. omega (arith, one-time w q)) inside
       (told-along u (c w) (old w) (subst (Told u) (sym (w .leaves .held)) (w .table .told))))
 
   none-first : count 0 (t .node) ≡ 0
@@ -121,18 +127,25 @@ module _ {img u : List ℕ} {s : Standing} (w : Going img u s) where
           let o = f .proxy x in
           record { upper = c; position = p; page = q; settled = b; rest = rest; proxy = x; is = k; names = o .0; kid = o .1 }
 
-  -- The branch's pages are freed.
-  module _ {u₁ : List ℕ} (is-less : u₁ ≡ less w) {mid entries : List ℕ} (free : Freed (branch w u₁ is-less) mid entries) where
-    entry-other : (q : ℕ) → count q (t .node) ≡ 0 → getD entries q 0 ≡ getD (less w) q 0
-    entry-other q h = free .other q h .1 ∙ ap (λ (l : List ℕ). getD l q 0) is-less
+  -- The record's own page has a bit in the map.
+  pub own-bit : {mid map : List ℕ} → Freed (branch w) mid map → s .page < 8 * length map
+  own-bit f = omega (arith, room w, w .map .long, f .map-long)
 
+  -- The branch's pages are freed.
+  module _ {entries : List ℕ} (is-less : entries ≡ less w) {mid map : List ℕ} (free : Freed (branch w) mid map) where
     fewer : Fewer t u entries
-    fewer = record {
-      long = free .table ∙ ap length is-less ∙ changed-long (entryAnew false) (s .deep) (c w) u;
-      shows = along-same (less w) entries (c w) left (λ q h. entry-other q (omega (arith, one-time w q))) less-shows;
-      branch = λ q h. free .gone q h .1;
-      other = λ q h k. entry-other q h ∙ less-other w q k;
-    }
+    fewer = subst (Fewer t u) (sym is-less) (record {
+      long = changed-long (entryAnew false) (s .deep) (c w) u;
+      shows = less-shows;
+      other = λ q h. changed-other (entryAnew false) (s .deep) (c w) u q h;
+    })
+
+    -- A map is right that has the pages free that are named no more, and all others as they were.
+    right-by : (gone : ℕ → ℕ) → ((q : ℕ) → count q (without t) + gone q ≡ count q (w .root)) → (next : List ℕ) → length next ≡ length m
+        → ((q : ℕ) → 1 ≤ gone q → usedBy next q ≡ false) → ((q : ℕ) → gone q ≡ 0 → usedBy next q ≡ usedBy m q) → Right (w .st) (without t) next
+    right-by gone sum next long free other q h =
+        used-less (w .st) (w .root) (without t) (v w) gone sum (8 * length m) (usedBy m) (usedBy next) (w .map .store (w .st) (w .root) (w .reads))
+        (λ q h. free q) (λ q h. other q) q (omega arith)
 
     is-wiped : Wiped t (pageOf img) (pageOf mid)
     is-wiped = record { named = λ p h. free .gone p h .0; other = λ p h. free .other p h .0 }
@@ -153,7 +166,7 @@ module _ {img u : List ℕ} {s : Standing} (w : Going img u s) where
       page = recordPage (recordOn (lastPage (c w)) (lastSettled (c w)) (lastHolder (c w)) left)
 
       pub gone-stays : (content after : List ℕ) (settled holder : ℕ) → content ≡ take (r .len) is → settled ≡ settledAt img (pageSize * s .page)
-          → holder ≡ backAt img (pageSize * s .page) → after ≡ setPage (s .page) (pageBytesOf content settled holder) mid → Gone w after entries
+          → holder ≡ backAt img (pageSize * s .page) → after ≡ setPage (s .page) (pageBytesOf content settled holder) mid → Gone w after entries map
       gone-stays content after settled holder a b h e =
           let long : length page ≡ pageSize =
           length-recordPage (recordOn (lastPage (c w)) (lastSettled (c w)) (lastHolder (c w)) left) (left-record-fits alone) in
@@ -164,6 +177,7 @@ module _ {img u : List ℕ} {s : Standing} (w : Going img u s) where
           let is : after ≡ setPage (lastPage (c w)) page mid = e ∙ (λ i. setPage (page-is w i) (bytes i) mid) in
           let pages = ap pageOf is ∙ mem-set (lastPage (c w)) page mid long room in
           let all = stands img (w .st) (w .root) (w .reads) (w .new) t (w .leaves) in
+          let is-whole = stays img (w .st) (w .root) (w .reads) (w .new) t (w .leaves) alone (c w) in
           let x : Rewritten t (pageOf img) (pageOf after) =
           subst (Rewritten t (pageOf img)) (sym pages)
           (rewritten-by (w .st) (w .root) (v w) (w .new) t (w .leaves) (pageOf img) (pageOf img) all (pageOf mid) is-wiped) in
@@ -171,7 +185,10 @@ module _ {img u : List ℕ} {s : Standing} (w : Going img u s) where
             image = rewritten-image img (w .st) (w .root) (w .reads) (w .new) t (w .leaves) after
                 (ap length is ∙ length-setPage (lastPage (c w)) page mid long room ∙ free .long) (x .others 0 none-first (far _ own-low)) alone x;
             table = table-stays (w .st) (w .root) (v w) (w .new) t (w .leaves) u entries (w .table) fewer
-                (stays img (w .st) (w .root) (w .reads) (w .new) t (w .leaves) alone (c w));
+                is-whole;
+            map-long = free .map-long;
+            right = right-by (λ q. count q (t .node)) (names-stays (w .root) (w .new) t (w .leaves) is-whole) map (free .map-long)
+                (λ q h. free .gone q h .1) (λ q h. free .other q h .1);
           }
 
     -- ── one proxy takes its place ──
@@ -249,10 +266,10 @@ module _ {img u : List ℕ} {s : Standing} (w : Going img u s) where
           (λ g. g own-lifting)
           (subst (λ (n : ℕ). (l : Lifting mid n child) → after ≡ lifted l mid) own-page f)
 
-      pub gone-goes : (after table : List ℕ) → ((l : Lifting mid (s .page) child) → after ≡ lifted l mid) → table ≡ set entries (s .page) 0
-          → Gone w after table
+      pub gone-goes : (after next : List ℕ) → ((l : Lifting mid (s .page) child) → after ≡ lifted l mid) → next ≡ unmarked map (s .page)
+          → Gone w after entries next
       unfolding own-lifting renaming
-      gone-goes after table f k =
+      gone-goes after next f k =
           let x = y .proxy in
           let is = lift-is after f in
           let all = stands img (w .st) (w .root) (w .reads) (w .new) t (w .leaves) in
@@ -262,15 +279,27 @@ module _ {img u : List ℕ} {s : Standing} (w : Going img u s) where
           (lifted-by (w .st) (w .root) (v w) (w .new) t (w .leaves) (pageOf img) (pageOf img) all d (y .position) q (y .settled) (y .rest) x (y .is)
           (pageOf mid) is-wiped) in
           let low : 1 ≤ q = omega (arith, own-low, ap lastPage (y .is)) in
-          let high : q < length entries = omega (arith, fewer .long, w .table .long, on-page w .here .on .high, ap lastPage (y .is)) in
-          let is-table : table ≡ set entries q 0 = k ∙ ap (λ (n : ℕ). set entries n 0) own-page in
+          let bits : q < 8 * length map = omega (arith, own-bit free, own-page) in
+          let is-map : next ≡ unmarked map q = k ∙ ap (unmarked map) own-page in
+          let is-whole = goes img (w .st) (w .root) (w .reads) (w .new) t (w .leaves) d (y .position) q (y .settled) (y .rest) x (y .is) in
+          let long = ap length is-map ∙ length-unmark map q ∙ free .map-long in
           record {
             image = lifted-image img (w .st) (w .root) (w .reads) (w .new) t (w .leaves) after (ap length is ∙ lifted-long own-lifting ∙ free .long)
                 (l .others 0 none-first (far q low) (far (x .page) (y .kid .low)) (far (lastPage d) (above .here .on .low)))
                 d (y .position) q (y .settled) (y .rest) x (y .is) l;
-            table = subst (Table (w .st) (without t)) (sym is-table)
-                (table-goes (w .st) (w .root) (v w) (w .new) t (w .leaves) u entries (w .table) fewer d (y .position) q (y .settled) (y .rest) x (y .is)
-                (goes img (w .st) (w .root) (w .reads) (w .new) t (w .leaves) d (y .position) q (y .settled) (y .rest) x (y .is)) (set entries q 0)
-                (length-set entries q 0) (getD-set-same entries q 0 0 high)
-                (λ n h. getD-set-other entries q n 0 0 (λ z. omega (arith, h, self n, ap (λ (i : ℕ). bit (eqb n i)) (sym z)))));
+            table = table-goes (w .st) (w .root) (v w) (w .new) t (w .leaves) u entries (w .table) fewer d (y .position) q (y .settled) (y .rest) x (y .is)
+                is-whole;
+            map-long = long;
+            right = right-by (λ n. bit (eqb n q) + count n (t .node))
+                (names-goes (w .root) (w .new) t (w .leaves) d (y .position) q (y .settled) (y .rest) x (y .is) is-whole) next long
+                (λ n h. ap (λ (l : List ℕ). usedBy l n) is-map ∙ used-unmarked map q bits n ∙ gone n (eqb n q) h)
+                (λ n h. ap (λ (l : List ℕ). usedBy l n) is-map ∙ used-unmarked map q bits n ∙ other n (eqb n q) h);
           }
+        where
+          gone : (n : ℕ) (b : Bool) → 1 ≤ bit b + count n (t .node) → cond b false (usedBy map n) ≡ false
+          gone n true h = refl
+          gone n false h = free .gone n (omega arith) .1
+
+          other : (n : ℕ) (b : Bool) → bit b + count n (t .node) ≡ 0 → cond b false (usedBy map n) ≡ usedBy m n
+          other n true h = absurd (omega arith)
+          other n false h = free .other n (omega arith) .1

@@ -18,10 +18,10 @@ loop-holds : tie.Need-loop-holds Inv-loop μ-loop
 loop-holds c = along-start
 
 -- what the scan finds at pos
-seen : (c : tie.In-loop Inv-loop μ-loop) → let s = c .before .before .before in
+seen : (c : tie.In-loop Inv-loop μ-loop) → let s = c .before .before .before .before in
     let l = c .before .loop in
     WalkStep (s .args .part .now) mostPages add (l .pos) (take (l .many) (l .list)) (each add (s .pre .linked .row) (take (s .args .n) (s .args .list .now)))
-seen c = let w = c .before .before .before .pre in along-step w (c .before .loop .inv w) (c .loop-test .taken)
+seen c = let w = c .before .before .before .before .pre in along-step w (c .before .loop .inv w) (c .loop-test .taken)
 
 shared-slice-read-kind : tie.Need-shared-slice-read-kind Inv-loop μ-loop
 shared-slice-read-kind c = omega arith
@@ -46,18 +46,19 @@ cast-list : tie.Need-cast-list Inv-loop μ-loop
 cast-list c = omega (arith, c .name-at .ensures .1)
 
 -- a page that is named has room
-room : (c : tie.After-name-at Inv-loop μ-loop) → c .before .before .before .before .before .loop .many < mostPages
+room : (c : tie.After-name-at Inv-loop μ-loop) → let l = c .before .before .before .before .before .loop in
+    (l .many < length (l .list)) × (l .many < mostPages)
 room c =
     let i = c .before .before .before .before in
-    let w = i .before .before .before .pre in
+    let w = i .before .before .before .before .pre in
     let a = i .before .loop .inv w in
     along-room w a _ _ (seen i .proxy (c .before .if2 .taken) .1 .1)
 
 mul-list : tie.Need-mul-list Inv-loop μ-loop
 mul-list c = omega (arith, room c)
 
-element-write-list : tie.Need-element-write-list Inv-loop μ-loop
-element-write-list c = omega (arith, room c)
+slice-write-list : tie.Need-slice-write-list Inv-loop μ-loop
+slice-write-list c = room c .0
 
 add-many : tie.Need-add-many Inv-loop μ-loop
 add-many c = omega (arith, room c)
@@ -91,11 +92,14 @@ loop-again-3 c =
     let a = i .before .loop .inv w in
     rw (c .size-at .ensures .0) (along-on w a _ (along-step w a (i .loop-test .taken) .past (c .before .before .if1 .left) (c .before .if2 .left)))
 
+same-length : tie.Need-same-length Inv-loop μ-loop
+same-length c = c .before .loop .inv (c .before .before .before .before .pre) .long
+
 returns : tie.Need-returns Inv-loop μ-loop
 returns c = λ w. along-end w (c .before .loop .inv w) (c .loop-test .left)
 
 pub list-direct-spec : {M : Type 1} → statement M
 list-direct-spec =
     tie.close
-    (tie.spec Inv-loop μ-loop loop-holds shared-slice-read-kind add-pos loop-less loop-again name-at-requires cast-list mul-list element-write-list add-many
-    add-pos-2 loop-less-2 loop-again-2 size-at-requires add-pos-3 loop-less-3 loop-again-3 returns)
+    (tie.spec Inv-loop μ-loop loop-holds shared-slice-read-kind add-pos loop-less loop-again name-at-requires cast-list mul-list slice-write-list add-many
+    add-pos-2 loop-less-2 loop-again-2 size-at-requires add-pos-3 loop-less-3 loop-again-3 same-length returns)
