@@ -21,7 +21,7 @@ find-in-requires : tie.Need-find-in-requires
 find-in-requires c κs =
     let e = c .before .before .before .before .check-widths .ensures in
     let passes = c .before .if1 .left in
-    (sym (e .0) ∙ passes, e .1 passes .widths)
+    (sym (e .0) ∙ passes, e .1 passes)
 
 same-length-2 : tie.Need-same-length-2
 same-length-2 c = search needs

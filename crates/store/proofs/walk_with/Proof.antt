@@ -26,7 +26,7 @@ walk-of-requires : tie.Need-walk-of-requires
 walk-of-requires c κs =
     let e = c .before .before .before .before .before .check-widths .ensures in
     let passes = c .before .before .if1 .left in
-    (sym (e .0) ∙ passes, e .1 passes .widths)
+    (sym (e .0) ∙ passes, e .1 passes)
 
 same-length-2 : tie.Need-same-length-2
 same-length-2 c = search needs
