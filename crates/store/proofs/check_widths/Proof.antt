@@ -11,7 +11,7 @@ use Rattle.store.proofs.check_widths.Statement.{statement}
 use Rattle.store.proofs.check_widths.Tie as tie
 
 check-widths-requires : tie.Need-check-widths-requires
-check-widths-requires c κs = c .before .before .before .pre .long
+check-widths-requires c κs = c .before .before .before .pre
 
 same-length : tie.Need-same-length
 same-length c = search needs
@@ -23,7 +23,7 @@ returns c =
     let img = now (s .args .image) in
     let e = k .check-widths .ensures in
     let all : (i : ℕ) → getD img i 0 < 256 = λ i. omega (arith, k .before .before .before .shared-slice-known .given i) in
-    (e .0 ∙ exact img all, λ z. table img (now (s .args .widths)) _ all (sym (e .0) ∙ z) (s .pre) (e .1 z))
+    (e .0 ∙ exact img all, λ z. table img all (sym (e .0) ∙ z) (now (s .args .widths)) _ (s .pre) (e .1 z))
 
 pub check-widths-spec : {M : Type 1} → statement M
 check-widths-spec = tie.close (tie.spec check-widths-requires same-length returns)

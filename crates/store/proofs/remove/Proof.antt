@@ -1,45 +1,34 @@
+-- `store::remove`: the size chosen is enough for an image of an allowed length.
+use mathlib.Core.Path.{sym, _∙_}
+use Rattle.base_ranges.specs.Tables.{tables-fit}
 use borrow.Author.Needs.{needs}
 use Rattle.store.proofs.remove.Statement.{statement}
 use Rattle.store.proofs.remove.Tie as tie
-use Rattle.store.proofs.remove.Reads as reads
-use Rattle.store.proofs.remove.Lts as lts
-use Rattle.base_ranges.proofs.tables_for.Reads as tables-for-reads
-use Rattle.store.proofs.remove_few.Reads as remove-few-reads
-use Rattle.store.proofs.remove_many.Reads as remove-many-reads
 
--- src/lib.rt:220:11
 tables-for-requires : tie.Need-tables-for-requires
 tables-for-requires c κs = search needs
 
--- src/lib.rt:221:35
 enum-told : tie.Need-enum-told
 enum-told c = search needs
 
--- src/lib.rt:221:24
 remove-few-requires : tie.Need-remove-few-requires
 remove-few-requires c κs = ?
 
--- src/lib.rt:222:37
 enum-told-2 : tie.Need-enum-told-2
 enum-told-2 c = search needs
 
--- src/lib.rt:222:25
 remove-many-requires : tie.Need-remove-many-requires
 remove-many-requires c κs = ?
 
--- src/lib.rt:216:1
 same-length : tie.Need-same-length
 same-length c = search needs
 
--- src/lib.rt:216:1
 returns : tie.Need-returns
 returns c = search needs
 
--- src/lib.rt:216:1
 same-length-2 : tie.Need-same-length-2
 same-length-2 c = search needs
 
--- src/lib.rt:216:1
 returns-2 : tie.Need-returns-2
 returns-2 c = search needs
 

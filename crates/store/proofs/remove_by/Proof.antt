@@ -1,32 +1,27 @@
+-- `store::remove_by`: the check's marks with the pages that are never taken are the map.
+use Rattle.grow_map.specs.Mapped.{shut-mapped}
 use borrow.Author.Needs.{needs}
 use Rattle.store.proofs.remove_by.Statement.{statement}
 use Rattle.store.proofs.remove_by.Tie as tie
-use Rattle.store.proofs.remove_by.Reads as reads
-use Rattle.store.proofs.remove_by.Lts as lts
-use Rattle.grow_map.proofs.shut.Reads as shut-reads
-use Rattle.remove_node.proofs.remove_of.Reads as remove-of-reads
 
--- src/lib.rt:179:5
 shut-requires : tie.Need-shut-requires
 shut-requires c κs = search needs
 
--- src/lib.rt:180:5
 remove-of-requires : tie.Need-remove-of-requires
-remove-of-requires c κs = ?
+remove-of-requires c κs =
+    let f = c .before .before .before .before .before in
+    let s = f .before .before .before .before .before .before in
+    (s .pre .0, s .pre .1, shut-mapped _ _ _ (s .pre .2) (f .shut .ensures))
 
--- src/lib.rt:174:1
 same-length : tie.Need-same-length
 same-length c = search needs
 
--- src/lib.rt:174:1
 same-length-2 : tie.Need-same-length-2
 same-length-2 c = search needs
 
--- src/lib.rt:174:1
 same-length-3 : tie.Need-same-length-3
 same-length-3 c = search needs
 
--- src/lib.rt:174:1
 returns : tie.Need-returns
 returns c = search needs
 
