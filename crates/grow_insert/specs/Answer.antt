@@ -27,7 +27,7 @@ use Rattle.model.specs.Claims.{GrowthHolds}
 use Rattle.model.specs.Calls.Find.{findOf}
 use Rattle.theory_calls.specs.Growth.{growth}
 use Rattle.theory_calls.specs.Spot.{spot-accepted}
-use Rattle.grow_groups.specs.Used.{InUse}
+use Rattle.grow_groups.specs.Used.{Tables, InUse, Holds}
 use Rattle.grow_path.specs.Path.{find-more}
 use Rattle.theory_calls.specs.Open.{opens}
 use Rattle.theory_calls.specs.Paths.{path-length, whole-path}
@@ -108,10 +108,11 @@ module _ {img path : List ℕ} {child kind origin label : ℕ} {content : List �
   pub receiver-is : d .receiver ≡ receiverOf (spot .0)
   receiver-is = p .takes (aim refl)
 
-  -- What a run of the insert requires; the table has the pages in use.
-  abbrev pub begin : (dry : Bool) → {i u : List ℕ} → i ≡ img → InUse u (atRest (p .st) (p .root)) → (dry ≡ false → Awaits u (spot .0))
+  -- What a run of the insert requires; the map has the pages in use.
+  abbrev pub begin : (dry : Bool) → {i : List ℕ} {u : Tables} → i ≡ img → Holds (p .st .pages) u → InUse u (atRest (p .st) (p .root))
+      → (dry ≡ false → Awaits (u .widths) (spot .0))
       → {node : List ℕ} → node ≡ bytes (asRow (p .st) X nil) → (dry ≡ false → made .1 .full ≡ false) → Begin dry i u (d .parent) (d .receiver) label node
-  begin dry e m t b room = record {
+  begin dry e l m t b room = record {
     k = child;
     aim = aim e;
     receiver = receiver-is;
@@ -120,6 +121,7 @@ module _ {img path : List ℕ} {child kind origin label : ℕ} {content : List �
     named = refl;
     is = b;
     short = short;
+    holds = l;
     marked = m;
     room = room;
     told = t;

@@ -1,15 +1,15 @@
 -- The table of an insert: with one node more before growth, and the new store's after it.
-use mathlib.Core.Path.{_≡_, sym, ap, subst, _∙_}
-use mathlib.Core.Bool.{not-eq-not, true, false, or-true}
+use mathlib.Core.Path.{_≡_, refl, sym, ap, subst, _∙_}
+use mathlib.Core.Bool.{Bool, true, false, _||_}
 use mathlib.Core.List.{List}
 use Prim.Native.Nat.{ℕ, _+_, _<_, _≤_}
 use native.Mathlib.Omega.{arith}
-use borrow.Author.Tests.{not-false, eqb-true, lt-leb, lt-ltb}
-use lib.Dec.{eqb}
+use borrow.Author.Tests.{lt-ltb, le-ltb}
+use lib.Dec.{ltb}
 use lib.ListN.{length, getD}
-use Rattle.model.specs.Row.{Row, store, count, outside, Config}
+use Rattle.model.specs.Row.{Row, count, outside, Config}
 use Rattle.model.specs.Spot.{fill, Spot}
-use Rattle.model.specs.Growth.{Out, atRest}
+use Rattle.model.specs.Growth.{Out}
 use Rattle.theory_rows.specs.Fits.{Valid}
 use Rattle.theory_rows.specs.Image.{once}
 use Rattle.theory_rows.specs.Population.{population}
@@ -18,14 +18,13 @@ use Rattle.theory_decoding.specs.Steps.{named-inside, few-nodes}
 use Rattle.theory_places.specs.Widths.{Told, Table, told-same}
 use Rattle.theory_growth.specs.Chain.{wholeOf, beside, along, count-chain, hang}
 use Rattle.theory_growth.specs.Told.{Awaits, ToldAlong, told-chain, told-along, around-same}
-use Rattle.grow_pages.specs.Write.{usedBy}
-use Rattle.grow_widths.specs.Raised.{entryAnew, raised, anew-some, changed-long, changed-other, changed-used, raised-along, Raising, hang-length}
-use Rattle.grow_groups.specs.Used.{InUse}
+use Rattle.grow_widths.specs.Raised.{entryAnew, raised, changed-other, raised-along, Raising, hang-length}
+use Rattle.grow_map.specs.Mapped.{Right}
+use Rattle.grow_groups.specs.Used.{Tables, Holds}
 use Rattle.grow_locate.specs.declared.Receiver.{Receiver}
-use Rattle.grow_new_node.specs.Marks.{past-first}
 use Rattle.grow_refusals.specs.declared.Admitted.{Admitted}
-use Rattle.grow_cascade.specs.Rising.{LeftTable}
-use Rattle.theory_decoding.specs.Reading.{reads-valid}
+use Rattle.grow_cascade.specs.Rising.{LeftTables}
+use Rattle.theory_decoding.specs.Reading.{reads-valid, reads-length}
 use Rattle.theory_growth.specs.Gap.{spot-whole}
 use Rattle.model.specs.Common.{pathOf}
 use Rattle.grow_insert.specs.Answer.{Passed, spot, reads-as, receiver-is}
@@ -33,8 +32,7 @@ use Rattle.grow_insert.specs.Answer.{Passed, spot, reads-as, receiver-is
 -- ── one node more at the spot ──
 
 module _ {img path : List ℕ} {child kind origin label : ℕ} {content : List ℕ} {d : Admitted} (p : Passed img path child kind origin label content d)
-    {u : List ℕ}
-    (b : Table (p .st) (p .root) u) where
+    {u : List ℕ} (b : Table (p .st) (p .root) u) where
   abbrev t : Spot
   t = spot p .0
 
@@ -73,7 +71,7 @@ module _ {img path : List ℕ} {child kind origin label : ℕ} {content : List �
     is = held;
     last = ap (λ (r : Receiver). r .page) (receiver-is p);
     enough = omega (arith, deep, hang-length (t .chain) (t .position));
-    long = b .long;
+    long = omega (arith, ap length e, reads-length img (p .st) (p .root) (p .reads), b .long);
   }
 
   other : (q : ℕ) → 1 ≤ beside (t .chain) q + count q row → getD more q 0 ≡ getD u q 0
@@ -91,29 +89,18 @@ module _ {img path : List ℕ} {child kind origin label : ℕ} {content : List �
             (λ q. omega (arith, alone q)) inside (told-along u (t .chain) row told));
       }
 
-  pub more-marks : InUse u (atRest (p .st) (p .root)) → InUse more (atRest (p .st) (p .root))
-  more-marks m = record {
-    long = changed-long (entryAnew true) (d .receiver .deep) (t .chain) u ∙ m .long;
-    same = λ q h. changed-used (entryAnew true) (anew-some true) (d .receiver .deep) (t .chain) u q (λ p k. (inside p k, used p k)) ∙ m .same q h;
-  }
-    where
-      used : (q : ℕ) → 1 ≤ along (t .chain) q → usedBy u q ≡ true
-      used q k =
-          m .same q (omega (arith, inside q k, b .long)) ∙ rw (lt-ltb 0 (count q (p .root)) (omega (arith, named q))) (or-true (outside (p .st .pages) q))
-
 -- ── after growth ──
 
--- What growth leaves is the new store's table.
-pub left-table : (st : Config) (new : Out) → Valid st (new .0) → ((q : ℕ) → reserved st q + count q (new .0) ≡ bit (new .1 .used q)) → {u : List ℕ}
-    → LeftTable new u → Table st (new .0) u
-unfolding usedBy
-left-table st new v tally {u} t = record {
-  long = t .marked .long;
-  told = t .told;
-  free = λ q a b e. eqb-true (getD u q 0) 0 (not-false (eqb (getD u q 0) 0) (t .marked .same q (omega (arith, v .ranges .many)) ∙ unused q a b e));
-}
+-- What growth leaves are the new store's table and map.
+pub left-table : (st : Config) (new : Out) {u : Tables} → Holds (st .pages) u → LeftTables new u → Table st (new .0) (u .widths)
+left-table st new h t = record { long = h .widths; told = t .told }
+
+pub left-map : (st : Config) (new : Out) → ((q : ℕ) → reserved st q + count q (new .0) ≡ bit (new .1 .used q)) → {u : Tables}
+    → LeftTables new u → Right st (new .0) (u .map)
+left-map st new tally {u} t q h = t .marked .same q h ∙ go (new .1 .used q) (outside (st .pages) q) (count q (new .0)) (tally q)
   where
-    unused : (q : ℕ) → 1 ≤ q → q < st .pages → count q (store (new .0)) ≡ 0 → new .1 .used q ≡ false
-    unused q a b e =
-        let k = rw (lt-leb q 1 (past-first (new .0) q (omega (arith, e)) a), lt-leb (st .pages) q b) at (tally q) in
-        not-eq-not {b = false} .0 (λ f. omega (arith, k ∙ ap bit f))
+    go : (b o : Bool) (n : ℕ) → bit o + n ≡ bit b → b ≡ (o || ltb 0 n)
+    go true true n e = refl
+    go true false n e = sym (lt-ltb 0 n (omega arith))
+    go false true n e = absurd (omega arith)
+    go false false n e = sym (le-ltb 0 n (omega arith))

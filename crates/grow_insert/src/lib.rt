@@ -1,9 +1,9 @@
-// An insert on an image that passes the check: its refusals, then a dry run, then one that writes.
+// An insert on an image that passes the check: its refusals, among them that no page is free, then a run that writes.
 use base_layout::setup_on;
 use grow_new_node::put_node;
-use grow_new_node::shut;
 use grow_path::child_path;
 use grow_refusals::admit;
+use grow_run::is_full;
 use grow_run::once;
 use grow_widths::one_more;
 use model::InsertAnswer;
@@ -15,6 +15,7 @@ ghost use Rattle.model.specs.Answers.{insertRefused};
 ghost use Rattle.model.specs.Calls.Check.{checkOf};
 ghost use Rattle.model.specs.Calls.Insert.{insertOf};
 ghost use Rattle.theory_layout.specs.Widths.{Widths};
+ghost use Rattle.grow_map.specs.Mapped.{Mapped};
 
 fn refused(number: u32) -> InsertAnswer
     ensures { λ r. ⌜ r ≡ insertRefused number ⌝ }
@@ -27,12 +28,13 @@ fn refused(number: u32) -> InsertAnswer
     }
 }
 
-// Insert, on an image that passes the check, with its table. The dry run, on a copy of the table, finds whether the store is full, so that a refused insert
-// alters no byte. All that is read of the caller's path and content is read before the first write: they may lie in the image. The table is right for the image
-// that is left.
+// Insert, on an image that passes the check, with its table and its map. Whether the store is full is found before the first write, so that a refused insert
+// alters no byte. All that is read of the caller's path and content is read before it too: they may lie in the image. Table and map are right for the image that
+// is left.
 pub fn insert_of(
     image: &mut [u8],
-    widths: &mut [u32; Settings::PAGES],
+    widths: &mut [u32],
+    map: &mut [u8],
     path: &[u8],
     child: u32,
     kind: usize,
@@ -40,10 +42,11 @@ pub fn insert_of(
     label: u16,
     content: &[u8],
 ) -> InsertAnswer
-    requires { ⌜ (checkOf (now image) ≡ 0) × Widths (now image) (now widths) ⌝ }
+    requires { ⌜ (checkOf (now image) ≡ 0) × Widths (now image) (now widths) × Mapped (now image) (now map) ⌝ }
     ensures answer { λ r. ⌜ r ≡ insertOf (now (image .entry)) (now (path .entry)) child kind origin label (now (content .entry)) .0 ⌝ }
     ensures image { λ _. ⌜ now (image .exit) ≡ insertOf (now (image .entry)) (now (path .entry)) child kind origin label (now (content .entry)) .1 ⌝ }
     ensures table { λ _. ⌜ Widths (now (image .exit)) (now (widths .exit)) ⌝ }
+    ensures map { λ _. ⌜ Mapped (now (image .exit)) (now (map .exit)) ⌝ }
 {
     let k = child as usize;
     let l = label as usize;
@@ -57,14 +60,11 @@ pub fn insert_of(
     let mut node = [0u8; Settings::NODE];
     let n = put_node(&mut node, kind, origin, l, content);
     let setup = setup_on(image);
-    shut(widths, setup.pages);
-    let mut trial = *widths;
-    let tried = once(image, &mut trial, a.parent, t, l, &node[..n], true);
-    if tried.full {
+    if is_full(image, widths, map, setup, a.parent, t, l, &node[..n]) {
         return refused(12);
     }
     one_more(image, widths, t.page, t.deep);
-    let made = once(image, widths, a.parent, t, l, &node[..n], false);
+    let made = once(image, widths, map, setup, a.parent, t, l, &node[..n], false);
     let at = find_in(image, widths, &whole[..end]).place;
     InsertAnswer {
         number: 0,

@@ -1,5 +1,6 @@
 // The map of the pages in use, a bit a page: by it an insert or a removal knows which pages are free. Pages 0 and 1 and those past the image's end are set.
 use base_numbers::wide;
+use model::Settings;
 ghost use mathlib.Core.Path.{_≡_};
 ghost use Prim.Native.Nat.{ℕ, _+_, _*_, _/_, _≤_, _<_};
 ghost use lib.ListN.{length, getD};
@@ -7,6 +8,7 @@ ghost use Rattle.model.specs.Row.{Config};
 ghost use Rattle.model.specs.Growth.{freeFrom};
 ghost use Rattle.theory_check.specs.Tests.{marked, unmarked};
 ghost use Rattle.grow_map.specs.Map.{usedBy, mostMap, Past, Shut};
+ghost use Rattle.grow_map.specs.Mapped.{mapBytes};
 ghost use Rattle.grow_map.specs.Search.{Up};
 
 // Whether page p is used.
@@ -39,6 +41,13 @@ pub fn set_free(map: &mut [u8], p: usize)
     let k = p % 8;
     let m = map[i];
     map[i] = m & (255 - (1 << k));
+}
+
+// The bytes of a map for an image of n bytes: nothing behind the byte of its last page is looked at.
+pub fn map_bytes(n: usize) -> usize
+    ensures { λ r. ⌜ r ≡ mapBytes n ⌝ }
+{
+    (n / Settings::PAGE + 7) / 8
 }
 
 // Marks the pages that growth never takes as used: 0, 1 and those from `pages` on, to the map's end.

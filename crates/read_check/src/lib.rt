@@ -9,49 +9,59 @@ use read_walk::walk_ok;
 ghost use mathlib.Core.Path.{_≡_};
 ghost use mathlib.Core.Bool.{true};
 ghost use Prim.Native.Nat.{_*_, _≤_};
-ghost use lib.ListN.{length};
-ghost use Rattle.model.specs.Limits.{mostPages, pageSize};
+ghost use lib.ListN.{length, replicate};
+ghost use Rattle.model.specs.Limits.{mostPages, markBytes, pageSize};
 ghost use Rattle.model.specs.Reading.{lengthOk};
 ghost use Rattle.theory_check.specs.Check.{trailersOf, walkOf, checkBy};
 ghost use Rattle.theory_check.specs.Widths.{widthsAfter};
 ghost use Rattle.base_ranges.specs.Tables.{fewPages};
 ghost use Rattle.read_walk.specs.Asked.{Ready, Walked};
+ghost use Rattle.read_check.specs.Passed.{Passed};
 
 // ── the walk, with ways back of the size that the image takes ──
 
-fn walk_few(image: &[u8], left: usize, widths: &mut [u32]) -> bool
-    requires { ⌜ Ready (now image) left (now widths) × (length (now image) ≤ pageSize * fewPages) ⌝ }
-    ensures { λ r. ⌜ Walked (now (image .entry)) left (now (widths .entry)) (now (widths .exit)) r ⌝ }
+fn walk_few(
+    image: &[u8],
+    left: usize,
+    marks: &mut [u8; Settings::MARKS],
+    widths: &mut [u32],
+) -> bool
+    requires { ⌜ Ready (now image) left (now marks) (now widths) × (length (now image) ≤ pageSize * fewPages) ⌝ }
+    ensures { λ r. ⌜ Walked (now (image .entry)) left (now (widths .entry)) (now (widths .exit)) (now (marks .exit)) r ⌝ }
 {
     let mut back = [0u32; FEW];
-    walk_ok(image, left, widths, &mut back)
+    walk_ok(image, left, marks, widths, &mut back)
 }
 
-fn walk_many(image: &[u8], left: usize, widths: &mut [u32]) -> bool
-    requires { ⌜ Ready (now image) left (now widths) × (length (now image) ≤ pageSize * mostPages) ⌝ }
-    ensures { λ r. ⌜ Walked (now (image .entry)) left (now (widths .entry)) (now (widths .exit)) r ⌝ }
+fn walk_many(
+    image: &[u8],
+    left: usize,
+    marks: &mut [u8; Settings::MARKS],
+    widths: &mut [u32],
+) -> bool
+    requires { ⌜ Ready (now image) left (now marks) (now widths) × (length (now image) ≤ pageSize * mostPages) ⌝ }
+    ensures { λ r. ⌜ Walked (now (image .entry)) left (now (widths .entry)) (now (widths .exit)) (now (marks .exit)) r ⌝ }
 {
     let mut back = [0u32; Settings::PAGES];
-    walk_ok(image, left, widths, &mut back)
+    walk_ok(image, left, marks, widths, &mut back)
 }
 
-fn walk(image: &[u8], left: usize, widths: &mut [u32]) -> bool
-    requires { ⌜ Ready (now image) left (now widths) ⌝ }
-    ensures { λ r. ⌜ Walked (now (image .entry)) left (now (widths .entry)) (now (widths .exit)) r ⌝ }
+fn walk(image: &[u8], left: usize, marks: &mut [u8; Settings::MARKS], widths: &mut [u32]) -> bool
+    requires { ⌜ Ready (now image) left (now marks) (now widths) ⌝ }
+    ensures { λ r. ⌜ Walked (now (image .entry)) left (now (widths .entry)) (now (widths .exit)) (now (marks .exit)) r ⌝ }
 {
     match tables_for(image.len()) {
-        Tables::Few => walk_few(image, left, widths),
-        Tables::Many => walk_many(image, left, widths),
+        Tables::Few => walk_few(image, left, marks, widths),
+        Tables::Many => walk_many(image, left, marks, widths),
     }
 }
 
 // ── the check ──
 
-// The check, which leaves in a table how many nodes the record on each page shows.
-pub fn check_widths(image: &[u8], widths: &mut [u32]) -> u32
-    requires { ⌜ (lengthOk (length (now image)) ≡ true → length (now image) ≤ pageSize * length (now widths)) ⌝ }
-    ensures { λ r. ⌜ (r ≡ checkBy (now (image .entry)))
-        × (r ≡ 0 → now (widths .exit) ≡ widthsAfter (walkOf (now (image .entry)) (trailersOf (now (image .entry))) .row) (now (widths .entry))) ⌝ }
+// The check, which leaves in a table how many nodes the record on each page shows, and in the marks which pages the walk reached.
+pub fn check_tables(image: &[u8], marks: &mut [u8; Settings::MARKS], widths: &mut [u32]) -> u32
+    requires { ⌜ (lengthOk (length (now image)) ≡ true → length (now image) ≤ pageSize * length (now widths)) × (now marks ≡ replicate markBytes 0) ⌝ }
+    ensures { λ r. ⌜ Passed (now (image .entry)) (now (widths .entry)) (now (widths .exit)) (now (marks .exit)) r ⌝ }
 {
     if !length_ok(image.len()) {
         return 1;
@@ -60,7 +70,21 @@ pub fn check_widths(image: &[u8], widths: &mut [u32]) -> u32
     if left == 0 {
         return 3;
     }
-    if walk(image, left, widths) { 0 } else { 3 }
+    if walk(image, left, marks, widths) {
+        0
+    } else {
+        3
+    }
+}
+
+// The same for calls that need no marks afterwards. They stand here by value during the walk.
+pub fn check_widths(image: &[u8], widths: &mut [u32]) -> u32
+    requires { ⌜ (lengthOk (length (now image)) ≡ true → length (now image) ≤ pageSize * length (now widths)) ⌝ }
+    ensures { λ r. ⌜ (r ≡ checkBy (now (image .entry)))
+        × (r ≡ 0 → now (widths .exit) ≡ widthsAfter (walkOf (now (image .entry)) (trailersOf (now (image .entry))) .row) (now (widths .entry))) ⌝ }
+{
+    let mut marks = [0u8; Settings::MARKS];
+    check_tables(image, &mut marks, widths)
 }
 
 fn check_few(image: &[u8]) -> u32

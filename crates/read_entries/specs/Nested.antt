@@ -6,7 +6,7 @@ use Prim.Native.Nat.{ℕ, _+_, _*_, _-_, _≤_, _<_}
 use native.Mathlib.Omega.{arith}
 use lib.ListN.{length, getD}
 use lib.Dec.{eqb}
-use Rattle.model.specs.Limits.{mostLevels, mostPages, mostBytes, pageSize}
+use Rattle.model.specs.Limits.{mostLevels, mostBytes, pageSize}
 use Rattle.model.specs.Row.{rec, size, base, height, count}
 use Rattle.model.specs.Reading.{kindAt, nameAt}
 use Rattle.model.specs.Tree.{width}

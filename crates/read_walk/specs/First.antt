@@ -74,12 +74,12 @@ module _ (img : List ℕ) (n e : ℕ) (ends : e ≡ pageSize + usedAt img pageSi
       go false q = simp q
 
   -- an aggregate
-  module _ (one : root ≡ 1) (tail : tailZero img 1 ≡ true) (r : ℕ) (m old new was back : List ℕ)
+  module _ (one : root ≡ 1) (tail : tailZero img 1 ≡ true) (start : List ℕ) (none : start ≡ replicate markBytes 0) (r : ℕ) (m old new was back : List ℕ)
       (came : (h : ℕ) → 1 ≡ passingKind (bytes img pageSize e) h
-      → Ended (nodeOf img (bytes img pageSize e) (pageSize / pageSize) h 1 (state n (replicate markBytes 0))) r (replicate markBytes 0) m old new was back) where
-    same : nodeOf img (bytes img pageSize e) (pageSize / pageSize) 0 1 (state n (replicate markBytes 0)) ≡ walkOf img n
+      → Ended (nodeOf img (bytes img pageSize e) (pageSize / pageSize) h 1 (state n start)) r start m old new was back) where
+    same : nodeOf img (bytes img pageSize e) (pageSize / pageSize) 0 1 (state n start) ≡ walkOf img n
     unfolding walkOf
-    same = ap (λ (x : List ℕ). nodeOf img x 1 0 1 (state n (replicate markBytes 0))) (record-is img 1 e ends)
+    same = λ i. nodeOf img (record-is img 1 e ends i) 1 0 1 (state n (none i))
 
     ended : outcome (state r m) new ≡ outcomeOf (walkOf img n) old
     ended = came 0 (sym one ∙ is-root) .came ∙ ap (λ (d : Decoded). outcomeOf d old) same
@@ -94,3 +94,6 @@ module _ (img : List ℕ) (n e : ℕ) (ends : e ≡ pageSize + usedAt img pageSi
 
     pub first-table : eqb r 1 ≡ true → new ≡ widthsAfter (walkOf img n .row) old
     first-table t = reaches (walkOf img n) r m old new ended (λ z. omega (arith, eqb-true r 1 t)) .table
+
+    pub first-marks : eqb r 1 ≡ true → m ≡ walkOf img n .walk .marks
+    first-marks t = sym (ap (λ (v : State). v .marks) (reaches (walkOf img n) r m old new ended (λ z. omega (arith, eqb-true r 1 t)) .walk))

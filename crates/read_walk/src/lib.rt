@@ -18,7 +18,7 @@ use read_walker::past;
 use read_walker::reach;
 use read_walker::refused;
 ghost use mathlib.Core.Path.{_≡_};
-ghost use mathlib.Core.Bool.{true, false};
+ghost use mathlib.Core.Bool.{false};
 ghost use Prim.Native.Nat.{ℕ, _+_, _*_, _/_, _≤_};
 ghost use lib.ListN.{length};
 ghost use Rattle.model.specs.Limits.{mostPages, mostLevels, pageSize};
@@ -197,9 +197,15 @@ fn list_check<'a>(
 
 // Whether the walk from page 1, whose root is an aggregate, reaches every record page one time. It is made only where the part before it passes. What `back`
 // holds does not matter.
-pub fn walk_ok(image: &[u8], left: usize, widths: &mut [u32], back: &mut [u32]) -> bool
-    requires { ⌜ Ready (now image) left (now widths) × (length (now image) ≤ pageSize * length (now back)) ⌝ }
-    ensures { λ r. ⌜ Walked (now (image .entry)) left (now (widths .entry)) (now (widths .exit)) r ⌝ }
+pub fn walk_ok(
+    image: &[u8],
+    left: usize,
+    marks: &mut [u8; Settings::MARKS],
+    widths: &mut [u32],
+    back: &mut [u32],
+) -> bool
+    requires { ⌜ Ready (now image) left (now marks) (now widths) × (length (now image) ≤ pageSize * length (now back)) ⌝ }
+    ensures { λ r. ⌜ Walked (now (image .entry)) left (now (widths .entry)) (now (widths .exit)) (now (marks .exit)) r ⌝ }
 {
     if !tail_zero(image, 1) {
         return false;
@@ -209,16 +215,6 @@ pub fn walk_ok(image: &[u8], left: usize, widths: &mut [u32], back: &mut [u32]) 
     if head(record, 0) != 1 {
         return false;
     }
-    let mut marks = [0u8; Settings::MARKS];
-    let r = node_check(
-        image,
-        record,
-        Settings::PAGE,
-        1,
-        left,
-        &mut marks,
-        widths,
-        back,
-    );
+    let r = node_check(image, record, Settings::PAGE, 1, left, marks, widths, back);
     r == 1
 }

@@ -2,6 +2,8 @@
 use base_ranges::FEW;
 use base_ranges::Tables;
 use base_ranges::tables_for;
+use grow_map::map_bytes;
+use grow_map::shut;
 use model::Diagnosis;
 use model::FindAnswer;
 use model::InsertAnswer;
@@ -15,8 +17,8 @@ use model::WriteAnswer;
 ghost use mathlib.Core.Path.{_≡_};
 ghost use mathlib.Core.Bool.{true};
 ghost use Prim.Native.Nat.{_*_, _≤_};
-ghost use lib.ListN.{length};
-ghost use Rattle.model.specs.Limits.{mostPages, pageSize};
+ghost use lib.ListN.{length, replicate};
+ghost use Rattle.model.specs.Limits.{mostPages, markBytes, pageSize};
 ghost use Rattle.model.specs.Reading.{lengthOk};
 ghost use Rattle.model.specs.Calls.Format.{formatOf};
 ghost use Rattle.model.specs.Calls.Check.{checkOf};
@@ -30,7 +32,9 @@ ghost use Rattle.model.specs.Calls.Records.{recordsOf};
 ghost use Rattle.model.specs.Calls.Walk.{walkOf};
 ghost use Rattle.model.specs.Calls.Diagnose.{diagnoseOf};
 ghost use Rattle.base_ranges.specs.Tables.{fewPages};
-ghost use Rattle.store.specs.Widths.{Blank, Checked};
+ghost use Rattle.theory_layout.specs.Widths.{Widths};
+ghost use Rattle.grow_map.specs.Mapped.{Reached};
+ghost use Rattle.store.specs.Widths.{Enough, Named};
 ghost use Rattle.store.specs.Part.{slice, startIn, byteOf};
 ghost use Rattle.read_records.specs.Up.{upPages};
 
@@ -48,12 +52,103 @@ pub fn check(image: &[u8]) -> u32
     read_check::check(image)
 }
 
-// The check, for calls that count the nodes of rows: it leaves in a table of zeros how many nodes the record on each page shows, and 0 for a free page.
+// The check, for calls that count the nodes of rows: it leaves in a table how many nodes the record on each page shows.
 fn check_widths(image: &[u8], widths: &mut [u32]) -> u32
-    requires { ⌜ Blank (now image) (now widths) ⌝ }
-    ensures { λ r. ⌜ (r ≡ checkOf (now (image .entry))) × (r ≡ 0 → Checked (now (image .entry)) (now (widths .exit))) ⌝ }
+    requires { ⌜ Enough (now image) (now widths) ⌝ }
+    ensures { λ r. ⌜ (r ≡ checkOf (now (image .entry))) × (r ≡ 0 → Widths (now (image .entry)) (now (widths .exit))) ⌝ }
 {
     read_check::check_widths(image, widths)
+}
+
+// The check, for calls that change the image: it leaves in the marks, too, which pages hold the records below the root record.
+fn check_tables(image: &[u8], marks: &mut [u8; Settings::MARKS], widths: &mut [u32]) -> u32
+    requires { ⌜ Enough (now image) (now widths) × (now marks ≡ replicate markBytes 0) ⌝ }
+    ensures { λ r. ⌜ (r ≡ checkOf (now (image .entry))) × (r ≡ 0 → (lengthOk (length (now (image .entry))) ≡ true)
+        × Widths (now (image .entry)) (now (widths .exit)) × Named (now (image .entry)) (now (marks .exit))) ⌝ }
+{
+    read_check::check_tables(image, marks, widths)
+}
+
+// An insert on an image that passes, with the check's marks: they are the map of the used pages once those that are never taken are marked too.
+fn insert_by(
+    image: &mut [u8],
+    widths: &mut [u32],
+    map: &mut [u8],
+    path: &[u8],
+    child: u32,
+    kind: usize,
+    origin: usize,
+    label: u16,
+    content: &[u8],
+) -> InsertAnswer
+    requires { ⌜ (checkOf (now image) ≡ 0) × Widths (now image) (now widths) × Reached (now image) (now map) ⌝ }
+    ensures answer { λ r. ⌜ r ≡ insertOf (now (image .entry)) (now (path .entry)) child kind origin label (now (content .entry)) .0 ⌝ }
+    ensures image { λ _. ⌜ now (image .exit) ≡ insertOf (now (image .entry)) (now (path .entry)) child kind origin label (now (content .entry)) .1 ⌝ }
+{
+    shut(map, image.len() / Settings::PAGE);
+    grow_insert::insert_of(image, widths, map, path, child, kind, origin, label, content)
+}
+
+fn insert_with(
+    image: &mut [u8],
+    widths: &mut [u32],
+    path: &[u8],
+    child: u32,
+    kind: usize,
+    origin: usize,
+    label: u16,
+    content: &[u8],
+) -> InsertAnswer
+    requires { ⌜ Enough (now image) (now widths) ⌝ }
+    ensures answer { λ r. ⌜ r ≡ insertOf (now (image .entry)) (now (path .entry)) child kind origin label (now (content .entry)) .0 ⌝ }
+    ensures image { λ _. ⌜ now (image .exit) ≡ insertOf (now (image .entry)) (now (path .entry)) child kind origin label (now (content .entry)) .1 ⌝ }
+{
+    let mut marks = [0u8; Settings::MARKS];
+    let n = check_tables(image, &mut marks, widths);
+    if n != 0 {
+        return InsertAnswer {
+            number: n,
+            place: Place { page: 0, offset: 0 },
+            splits: 0,
+            lean: 0,
+        };
+    }
+    let k = map_bytes(image.len());
+    insert_by(image, widths, &mut marks[..k], path, child, kind, origin, label, content)
+}
+
+fn insert_few(
+    image: &mut [u8],
+    path: &[u8],
+    child: u32,
+    kind: usize,
+    origin: usize,
+    label: u16,
+    content: &[u8],
+) -> InsertAnswer
+    requires { ⌜ (lengthOk (length (now image)) ≡ true → length (now image) ≤ pageSize * fewPages) ⌝ }
+    ensures answer { λ r. ⌜ r ≡ insertOf (now (image .entry)) (now (path .entry)) child kind origin label (now (content .entry)) .0 ⌝ }
+    ensures image { λ _. ⌜ now (image .exit) ≡ insertOf (now (image .entry)) (now (path .entry)) child kind origin label (now (content .entry)) .1 ⌝ }
+{
+    let mut widths = [0u32; FEW];
+    insert_with(image, &mut widths, path, child, kind, origin, label, content)
+}
+
+fn insert_many(
+    image: &mut [u8],
+    path: &[u8],
+    child: u32,
+    kind: usize,
+    origin: usize,
+    label: u16,
+    content: &[u8],
+) -> InsertAnswer
+    requires { ⌜ (lengthOk (length (now image)) ≡ true → length (now image) ≤ pageSize * mostPages) ⌝ }
+    ensures answer { λ r. ⌜ r ≡ insertOf (now (image .entry)) (now (path .entry)) child kind origin label (now (content .entry)) .0 ⌝ }
+    ensures image { λ _. ⌜ now (image .exit) ≡ insertOf (now (image .entry)) (now (path .entry)) child kind origin label (now (content .entry)) .1 ⌝ }
+{
+    let mut widths = [0u32; Settings::PAGES];
+    insert_with(image, &mut widths, path, child, kind, origin, label, content)
 }
 
 // Puts a new node as child `child` of the aggregate that the path names, and gives its place, how many records were split and the lean of the first split.
@@ -69,26 +164,52 @@ pub fn insert(
     ensures answer { λ r. ⌜ r ≡ insertOf (now (image .entry)) (now (path .entry)) child kind origin label (now (content .entry)) .0 ⌝ }
     ensures image { λ _. ⌜ now (image .exit) ≡ insertOf (now (image .entry)) (now (path .entry)) child kind origin label (now (content .entry)) .1 ⌝ }
 {
-    let mut widths = [0u32; Settings::PAGES];
-    let n = check_widths(image, &mut widths);
-    if n != 0 {
-        return InsertAnswer {
-            number: n,
-            place: Place { page: 0, offset: 0 },
-            splits: 0,
-            lean: 0,
-        };
+    match tables_for(image.len()) {
+        Tables::Few => insert_few(image, path, child, kind, origin, label, content),
+        Tables::Many => insert_many(image, path, child, kind, origin, label, content),
     }
-    grow_insert::insert_of(
-        image,
-        &mut widths,
-        path,
-        child,
-        kind,
-        origin,
-        label,
-        content,
-    )
+}
+
+// A removal on an image that passes, with the check's marks, as for an insert.
+fn remove_by(image: &mut [u8], widths: &mut [u32], map: &mut [u8], path: &[u8]) -> u32
+    requires { ⌜ (checkOf (now image) ≡ 0) × Widths (now image) (now widths) × Reached (now image) (now map) ⌝ }
+    ensures number { λ r. ⌜ r ≡ removeOf (now (image .entry)) (now (path .entry)) .0 ⌝ }
+    ensures image { λ _. ⌜ now (image .exit) ≡ removeOf (now (image .entry)) (now (path .entry)) .1 ⌝ }
+{
+    shut(map, image.len() / Settings::PAGE);
+    remove_node::remove_of(image, widths, map, path)
+}
+
+fn remove_with(image: &mut [u8], widths: &mut [u32], path: &[u8]) -> u32
+    requires { ⌜ Enough (now image) (now widths) ⌝ }
+    ensures number { λ r. ⌜ r ≡ removeOf (now (image .entry)) (now (path .entry)) .0 ⌝ }
+    ensures image { λ _. ⌜ now (image .exit) ≡ removeOf (now (image .entry)) (now (path .entry)) .1 ⌝ }
+{
+    let mut marks = [0u8; Settings::MARKS];
+    let n = check_tables(image, &mut marks, widths);
+    if n != 0 {
+        return n;
+    }
+    let k = map_bytes(image.len());
+    remove_by(image, widths, &mut marks[..k], path)
+}
+
+fn remove_few(image: &mut [u8], path: &[u8]) -> u32
+    requires { ⌜ (lengthOk (length (now image)) ≡ true → length (now image) ≤ pageSize * fewPages) ⌝ }
+    ensures number { λ r. ⌜ r ≡ removeOf (now (image .entry)) (now (path .entry)) .0 ⌝ }
+    ensures image { λ _. ⌜ now (image .exit) ≡ removeOf (now (image .entry)) (now (path .entry)) .1 ⌝ }
+{
+    let mut widths = [0u32; FEW];
+    remove_with(image, &mut widths, path)
+}
+
+fn remove_many(image: &mut [u8], path: &[u8]) -> u32
+    requires { ⌜ (lengthOk (length (now image)) ≡ true → length (now image) ≤ pageSize * mostPages) ⌝ }
+    ensures number { λ r. ⌜ r ≡ removeOf (now (image .entry)) (now (path .entry)) .0 ⌝ }
+    ensures image { λ _. ⌜ now (image .exit) ≡ removeOf (now (image .entry)) (now (path .entry)) .1 ⌝ }
+{
+    let mut widths = [0u32; Settings::PAGES];
+    remove_with(image, &mut widths, path)
 }
 
 // Takes out the node that the path names, with all under it.
@@ -96,16 +217,14 @@ pub fn remove(image: &mut [u8], path: &[u8]) -> u32
     ensures number { λ r. ⌜ r ≡ removeOf (now (image .entry)) (now (path .entry)) .0 ⌝ }
     ensures image { λ _. ⌜ now (image .exit) ≡ removeOf (now (image .entry)) (now (path .entry)) .1 ⌝ }
 {
-    let mut widths = [0u32; Settings::PAGES];
-    let n = check_widths(image, &mut widths);
-    if n != 0 {
-        return n;
+    match tables_for(image.len()) {
+        Tables::Few => remove_few(image, path),
+        Tables::Many => remove_many(image, path),
     }
-    remove_node::remove_of(image, &mut widths, path)
 }
 
 fn find_with(image: &[u8], widths: &mut [u32], path: &[u8]) -> FindAnswer
-    requires { ⌜ Blank (now image) (now widths) ⌝ }
+    requires { ⌜ Enough (now image) (now widths) ⌝ }
     ensures { λ r. ⌜ r ≡ findOf (now (image .entry)) (now (path .entry)) ⌝ }
 {
     let n = check_widths(image, widths);
@@ -145,7 +264,7 @@ pub fn find(image: &[u8], path: &[u8]) -> FindAnswer
 }
 
 fn climb_with(image: &[u8], widths: &mut [u32], place: Place, buffer: &mut [u8]) -> WriteAnswer
-    requires { ⌜ Blank (now image) (now widths) ⌝ }
+    requires { ⌜ Enough (now image) (now widths) ⌝ }
     ensures answer { λ r. ⌜ r ≡ climbOf (now (image .entry)) place (now (buffer .entry)) .0 ⌝ }
     ensures buffer { λ _. ⌜ now (buffer .exit) ≡ climbOf (now (image .entry)) place (now (buffer .entry)) .1 ⌝ }
 {
@@ -189,7 +308,7 @@ pub fn climb(image: &[u8], place: Place, buffer: &mut [u8]) -> WriteAnswer
 }
 
 fn read_node_with(image: &[u8], widths: &mut [u32], place: Place) -> ReadNode
-    requires { ⌜ Blank (now image) (now widths) ⌝ }
+    requires { ⌜ Enough (now image) (now widths) ⌝ }
     ensures { λ r. ⌜ r ≡ readOf (now (image .entry)) place ⌝ }
 {
     let n = check_widths(image, widths);
@@ -315,7 +434,7 @@ pub fn records(image: &[u8], buffer: &mut [u8]) -> WriteAnswer
 }
 
 fn walk_with(image: &[u8], widths: &mut [u32], place: Place, entries: &mut [u32]) -> WalkAnswer
-    requires { ⌜ Blank (now image) (now widths) ⌝ }
+    requires { ⌜ Enough (now image) (now widths) ⌝ }
     ensures answer { λ r. ⌜ r ≡ walkOf (now (image .entry)) place (now (entries .entry)) .0 ⌝ }
     ensures entries { λ _. ⌜ now (entries .exit) ≡ walkOf (now (image .entry)) place (now (entries .entry)) .1 ⌝ }
 {

@@ -5,8 +5,8 @@ use mathlib.Core.Bool.{Bool, true, false, cond, not, _||_, and-false, true≢fal
 use Prim.Native.Nat.{ℕ, _+_, _-_, _*_, _%_, _≤_, _<_}
 use native.Mathlib.Omega.{arith}
 use lib.ListN.{length, getD, replicate}
-use lib.Dec.{eqb, leb}
-use borrow.Author.Tests.{eqb-true, ne-eqb, leb-false}
+use lib.Dec.{eqb, leb, ltb}
+use borrow.Author.Tests.{eqb-true, ne-eqb, leb-false, lt-ltb, le-ltb}
 use Rattle.model.specs.Limits.{mostPages, pageSize, capacity, markBytes}
 use Rattle.model.specs.Row.{Row, store, Config, count, outside, recordPage, standing, mayStand, recordOn}
 use Rattle.model.specs.Reading.{Reads, lengthOk, configOn, pageOf, backAt, settledAt}
@@ -23,14 +23,14 @@ use Rattle.theory_check.specs.Tests.{isMarked}
 use Rattle.theory_check.specs.Walk.{State, state, node}
 use Rattle.theory_check.specs.Check.{inUse, trailersOf, walkOf, walkOk, checkBy}
 use Rattle.theory_check.specs.Before.{before-says, first-used, used-fits, trailers-are}
-use Rattle.theory_check.specs.Marks.{marks-none}
+use Rattle.theory_check.specs.Marks.{marks-none, none-marked}
 use Rattle.theory_check.specs.Heads.{AllBytes}
 use Rattle.theory_check.specs.Trailers.{TrailerIs, trailer-says, blank-page, SettingsIs, settings-say}
 use Rattle.theory_check.specs.Passes.{Passes, passes, record-bytes}
 use Rattle.theory_check.specs.Rows.{node-is, first-byte, record-fits, fits, levels}
 use Rattle.theory_check.specs.Parts.{page-bytes, page-long, page-byte, page-two, page-record}
 use Rattle.theory_check.specs.Sums.{sum, sum-add, only, sum-only, sum-tight}
-use Rattle.theory_check.specs.Reached.{marks, hasRecord, others, left, stored}
+use Rattle.theory_check.specs.Reached.{bit, marks, hasRecord, others, left, stored}
 use Rattle.theory_check.specs.Images.{image-is}
 
 -- ── what the check says ──
@@ -180,6 +180,20 @@ sound-row img bytes e =
     let j = node (recordOf img 1) 1 0 1 (state (trailersOf img) (replicate markBytes 0)) in
     let p = passes img bytes j (record-bytes img bytes 1) (λ z. omega (arith, c .ended)) in
     is-read img bytes c _ _ p (c .ended)
+
+-- Its marks are those of the pages that the row names.
+pub sound-marks : (img : List ℕ) → ((i : ℕ) → getD img i 0 < 256) → checkBy img ≡ 0 → (q : ℕ) → q < mostPages
+    → isMarked (walkOf img (trailersOf img) .walk .marks) q ≡ ltb 0 (count q (walkOf img (trailersOf img) .row))
+unfolding walkOf
+sound-marks img bytes e q h =
+    let c = check-says img e in
+    let j = node (recordOf img 1) 1 0 1 (state (trailersOf img) (replicate markBytes 0)) in
+    let p = passes img bytes j (record-bytes img bytes 1) (λ z. omega (arith, c .ended)) in
+    named _ _ (rw (none-marked q) at (marks p marks-none .once q h))
+  where
+    named : (b : Bool) (n : ℕ) → 0 + n ≡ bit b → b ≡ ltb 0 n
+    named true n e = sym (lt-ltb 0 n (omega arith))
+    named false n e = sym (le-ltb 0 n (omega arith))
 
 pub sound : (img : List ℕ) → ((i : ℕ) → getD img i 0 < 256) → checkBy img ≡ 0 → (s : Config × Row) × Reads img (s .0) (s .1)
 sound img bytes e = ((st img, walkOf img (trailersOf img) .row), sound-row img bytes e)

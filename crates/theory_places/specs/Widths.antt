@@ -25,11 +25,6 @@ pub record Table (st : Config) (root : Row) (c : List ℕ) : Type 0 where
   pub long : st .pages ≤ length c
   pub told : Told c root
 
--- The same as the check leaves it: 0 for the free pages.
-pub record Counted (st : Config) (root : Row) (c : List ℕ) : Type 0 where
-  pub table : Table st root c
-  pub free : (q : ℕ) → 1 ≤ q → q < st .pages → count q (store root) ≡ 0 → getD c q 0 ≡ 0
-
 -- A table with the same entries on a row's pages is as right for it.
 pub told-same : (a b : List ℕ) (row : Row) → ((q : ℕ) → 1 ≤ count q row → getD b q 0 ≡ getD a q 0) → Told a row → Told b row
 told-same a b nil e t = tt

@@ -13,16 +13,16 @@ enum-told c = search needs
 
 walk-few-requires : tie.Need-walk-few-requires
 walk-few-requires c κs =
-    let r = c .before .before .before .before .before .before .pre in
-    (r, tables-fit _ _ (sym (c .before .enum-told .given .1) ∙ c .before .before .before .tables-for .ensures) (r .long))
+    let r = c .before .before .before .before .before .before .before .pre in
+    (r, tables-fit _ _ (sym (c .before .before .enum-told .given .1) ∙ c .before .before .before .before .tables-for .ensures) (r .long))
 
 enum-told-2 : tie.Need-enum-told-2
 enum-told-2 c = search needs
 
 walk-many-requires : tie.Need-walk-many-requires
 walk-many-requires c κs =
-    let r = c .before .before .before .before .before .before .pre in
-    (r, tables-fit _ _ (sym (c .before .enum-told2 .given .1) ∙ c .before .before .before .tables-for .ensures) (r .long))
+    let r = c .before .before .before .before .before .before .before .pre in
+    (r, tables-fit _ _ (sym (c .before .before .enum-told2 .given .1) ∙ c .before .before .before .before .tables-for .ensures) (r .long))
 
 same-length : tie.Need-same-length
 same-length c = search needs

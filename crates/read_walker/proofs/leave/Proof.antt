@@ -1,7 +1,6 @@
 use mathlib.Core.Path.{refl}
 use denote.Ref.{now}
 use Rattle.read_walker.specs.Turns.{out-own, out-outer}
-use native.Mathlib.Omega.{arith}
 use borrow.Author.Needs.{needs}
 use Rattle.read_walker.proofs.leave.Statement.{statement}
 use Rattle.read_walker.proofs.leave.Tie as tie

@@ -1,34 +1,47 @@
--- `store::climb` meets its contract: an image that does not pass gives the check's number.
-use mathlib.Core.Path.{refl, sym, ap, _∙_}
-use mathlib.Core.List.{List}
-use Prim.Native.Nat.{ℕ}
+-- `store::climb`: the size chosen is enough for an image of an allowed length.
+use mathlib.Core.Path.{sym, _∙_}
 use borrow.Author.Needs.{needs}
-use denote.Ref.{now}
-use Rattle.model.specs.declared.WriteAnswer.{WriteAnswer}
-use Rattle.store.specs.Refused.{climb-refused}
+use Rattle.base_ranges.specs.Tables.{tables-fit}
 use Rattle.store.proofs.climb.Statement.{statement}
 use Rattle.store.proofs.climb.Tie as tie
 
-check-widths-requires : tie.Need-check-widths-requires
-check-widths-requires c κs = refl
+tables-for-requires : tie.Need-tables-for-requires
+tables-for-requires c κs = search needs
 
-returns : tie.Need-returns
-returns c =
-    let a = c .before .before .before .before .before .args in
-    let e = climb-refused (now (a .image)) (c .before .check-widths .result) (c .before .check-widths .ensures .0) (c .if1 .taken) (a .place)
-    (now (a .buffer)) in
-    (sym (ap (λ (o : WriteAnswer × List ℕ). o .0) e), sym (ap (λ (o : WriteAnswer × List ℕ). o .1) e))
+enum-told : tie.Need-enum-told
+enum-told c = search needs
 
-climb-of-requires : tie.Need-climb-of-requires
-climb-of-requires c κs =
-    let e = c .before .before .before .check-widths .ensures in
-    (sym (e .0) ∙ c .before .before .if1 .left, e .1 (c .before .before .if1 .left))
+climb-few-requires : tie.Need-climb-few-requires
+climb-few-requires c κs = tables-fit _ _ (sym (c .before .enum-told .given .1) ∙ c .before .before .before .tables-for .ensures)
+
+enum-told-2 : tie.Need-enum-told-2
+enum-told-2 c = search needs
+
+climb-many-requires : tie.Need-climb-many-requires
+climb-many-requires c κs = tables-fit _ _ (sym (c .before .enum-told2 .given .1) ∙ c .before .before .before .tables-for .ensures)
 
 same-length : tie.Need-same-length
 same-length c = search needs
+
+returns : tie.Need-returns
+returns c = search needs
+
+same-length-2 : tie.Need-same-length-2
+same-length-2 c = search needs
 
 returns-2 : tie.Need-returns-2
 returns-2 c = search needs
 
 pub climb-spec : {M : Type 1} → statement M
-climb-spec = tie.close (tie.spec check-widths-requires returns climb-of-requires same-length returns-2)
+climb-spec =
+    tie.close
+    (tie.spec
+    tables-for-requires
+    enum-told
+    climb-few-requires
+    enum-told-2
+    climb-many-requires
+    same-length
+    returns
+    same-length-2
+    returns-2)

@@ -1,26 +1,39 @@
--- `store::find` meets its contract: an image that does not pass gives the check's number.
-use mathlib.Core.Path.{refl, sym, _∙_}
+-- `store::find`: the size chosen is enough for an image of an allowed length.
+use mathlib.Core.Path.{sym, _∙_}
 use borrow.Author.Needs.{needs}
-use denote.Ref.{now}
-use Rattle.store.specs.Refused.{find-refused}
+use Rattle.base_ranges.specs.Tables.{tables-fit}
 use Rattle.store.proofs.find.Statement.{statement}
 use Rattle.store.proofs.find.Tie as tie
 
-check-widths-requires : tie.Need-check-widths-requires
-check-widths-requires c κs = refl
+tables-for-requires : tie.Need-tables-for-requires
+tables-for-requires c κs = search needs
+
+enum-told : tie.Need-enum-told
+enum-told c = search needs
+
+find-few-requires : tie.Need-find-few-requires
+find-few-requires c κs = tables-fit _ _ (sym (c .enum-told .given .1) ∙ c .before .before .tables-for .ensures)
+
+enum-told-2 : tie.Need-enum-told-2
+enum-told-2 c = search needs
+
+find-many-requires : tie.Need-find-many-requires
+find-many-requires c κs = tables-fit _ _ (sym (c .enum-told2 .given .1) ∙ c .before .before .tables-for .ensures)
 
 returns : tie.Need-returns
-returns c =
-    let a = c .before .before .before .before .before .args in
-    find-refused (now (a .image)) (c .before .check-widths .result) (c .before .check-widths .ensures .0) (c .if1 .taken) (now (a .path))
-
-find-in-requires : tie.Need-find-in-requires
-find-in-requires c κs =
-    let e = c .before .before .check-widths .ensures in
-    (sym (e .0) ∙ c .before .if1 .left, e .1 (c .before .if1 .left))
+returns c = search needs
 
 returns-2 : tie.Need-returns-2
 returns-2 c = search needs
 
 pub find-spec : {M : Type 1} → statement M
-find-spec = tie.close (tie.spec check-widths-requires returns find-in-requires returns-2)
+find-spec =
+    tie.close
+    (tie.spec
+    tables-for-requires
+    enum-told
+    find-few-requires
+    enum-told-2
+    find-many-requires
+    returns
+    returns-2)

@@ -1,34 +1,47 @@
--- `store::walk` meets its contract: an image that does not pass gives the check's number.
-use mathlib.Core.Path.{refl, sym, ap, _∙_}
-use mathlib.Core.List.{List}
-use Prim.Native.Nat.{ℕ}
+-- `store::walk`: the size chosen is enough for an image of an allowed length.
+use mathlib.Core.Path.{sym, _∙_}
 use borrow.Author.Needs.{needs}
-use denote.Ref.{now}
-use Rattle.model.specs.declared.WalkAnswer.{WalkAnswer}
-use Rattle.store.specs.Refused.{walk-refused}
+use Rattle.base_ranges.specs.Tables.{tables-fit}
 use Rattle.store.proofs.walk.Statement.{statement}
 use Rattle.store.proofs.walk.Tie as tie
 
-check-widths-requires : tie.Need-check-widths-requires
-check-widths-requires c κs = refl
+tables-for-requires : tie.Need-tables-for-requires
+tables-for-requires c κs = search needs
 
-returns : tie.Need-returns
-returns c =
-    let a = c .before .before .before .before .before .args in
-    let e = walk-refused (now (a .image)) (c .before .check-widths .result) (c .before .check-widths .ensures .0) (c .if1 .taken) (a .place)
-    (now (a .entries)) in
-    (sym (ap (λ (o : WalkAnswer × List ℕ). o .0) e), sym (ap (λ (o : WalkAnswer × List ℕ). o .1) e))
+enum-told : tie.Need-enum-told
+enum-told c = search needs
 
-walk-of-requires : tie.Need-walk-of-requires
-walk-of-requires c κs =
-    let e = c .before .before .before .check-widths .ensures in
-    (sym (e .0) ∙ c .before .before .if1 .left, e .1 (c .before .before .if1 .left))
+walk-few-requires : tie.Need-walk-few-requires
+walk-few-requires c κs = tables-fit _ _ (sym (c .before .enum-told .given .1) ∙ c .before .before .before .tables-for .ensures)
+
+enum-told-2 : tie.Need-enum-told-2
+enum-told-2 c = search needs
+
+walk-many-requires : tie.Need-walk-many-requires
+walk-many-requires c κs = tables-fit _ _ (sym (c .before .enum-told2 .given .1) ∙ c .before .before .before .tables-for .ensures)
 
 same-length : tie.Need-same-length
 same-length c = search needs
+
+returns : tie.Need-returns
+returns c = search needs
+
+same-length-2 : tie.Need-same-length-2
+same-length-2 c = search needs
 
 returns-2 : tie.Need-returns-2
 returns-2 c = search needs
 
 pub walk-spec : {M : Type 1} → statement M
-walk-spec = tie.close (tie.spec check-widths-requires returns walk-of-requires same-length returns-2)
+walk-spec =
+    tie.close
+    (tie.spec
+    tables-for-requires
+    enum-told
+    walk-few-requires
+    enum-told-2
+    walk-many-requires
+    same-length
+    returns
+    same-length-2
+    returns-2)
