@@ -1,6 +1,5 @@
 -- A branch whose records are freed.
 use mathlib.Core.Path.{_≡_, refl, sym, ap, _∙_}
-use mathlib.Core.Bool.{false}
 use mathlib.Core.List.{List}
 use Prim.Native.Nat.{ℕ, _+_, _*_, _-_, _≤_}
 use native.Mathlib.Omega.{arith}
@@ -18,11 +17,10 @@ use Rattle.theory_row_bytes.specs.RowAt.{kindOf, row-part}
 use Rattle.theory_layout.specs.Here.{Here, view}
 use Rattle.theory_growth.specs.Parts.{Part, part-fill, part-whole}
 use Rattle.theory_removal.specs.Stand.{Leaves, stand-once}
-use Rattle.theory_page_memory.specs.Memory.{blank}
-use Rattle.grow_map.specs.Map.{usedBy}
 use Rattle.grow_pages.specs.Links.{below-count}
 use Rattle.remove_branch.specs.Own.{names, own, pages-own, has-own, weight-own, length-weight, own-stand}
 use Rattle.remove_branch.specs.Listed.{Listing, Listed}
+use Rattle.remove_branch.specs.Cleared.{Cleared, cleared-none, cleared-same}
 use Rattle.remove_branch.specs.Freeing.{Freeing, Emptied}
 
 -- A store, and a node of it that goes.
@@ -43,11 +41,8 @@ pub record Branch (img m : List ℕ) (start end : ℕ) : Type 0 where
   pub map-long : length img ≤ pageSize * (8 * length m)
 
 -- The pages of the node's records are blank and free in the map; all else is as it was.
-pub record Freed {img m : List ℕ} {start end : ℕ} (w : Branch img m start end) (after map : List ℕ) : Type 0 where
-  pub long : length after ≡ length img
-  pub map-long : length map ≡ length m
-  pub gone : (q : ℕ) → 1 ≤ count q (w .b .t .node) → (pageOf after q ≡ blank) × (usedBy map q ≡ false)
-  pub other : (q : ℕ) → count q (w .b .t .node) ≡ 0 → (pageOf after q ≡ pageOf img q) × (usedBy map q ≡ usedBy m q)
+abbrev pub Freed : {img m : List ℕ} {start end : ℕ} → Branch img m start end → (after map : List ℕ) → Type 0
+Freed {img} {m} w after map = Cleared (λ q. count q (w .b .t .node)) img m after map
 
 -- A literal names no page.
 bare : (q : ℕ) (r : Row) → nodeCount r ≡ 1 → kindOf r ≡ 2 → count q r ≡ 0
@@ -88,7 +83,7 @@ module _ {img m : List ℕ} {start end : ℕ} (w : Branch img m start end) where
   literal-freed e =
       let one = w .b .leaves .one in
       let is : kindOf node ≡ 2 = sym (view (w .here) (omega (arith, nodes-size node (omega (arith, one)))) .kind-is) ∙ e in
-      record { long = refl; map-long = refl; gone = λ q h. absurd (omega (arith, bare q node one is)); other = λ q h. (refl, refl) }
+      cleared-same (λ q. sym (bare q node one is)) (cleared-none img m)
 
   few : recordCount node ≤ w .b .st .pages
   few =
@@ -140,9 +135,4 @@ module _ {img m : List ℕ} {start end : ℕ} (w : Branch img m start end) where
 
       pub branch-freed : (after map : List ℕ) → Emptied freeing after map → Freed w after map
       unfolding freeing
-      branch-freed after map c = record {
-        long = c .long;
-        map-long = c .map-long;
-        gone = λ q h. c .gone q (omega (arith, has-own q page node));
-        other = λ q h. c .other q (omega (arith, has-own q page node));
-      }
+      branch-freed after map c = cleared-same (λ q. has-own q page node) c

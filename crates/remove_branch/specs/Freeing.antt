@@ -24,7 +24,7 @@ use Rattle.grow_pages.specs.Links.{below-count}
 use Rattle.remove_branch.specs.Own.{names, own, pages, pages-own, total, total-++, has, has-own, weight, weight-own, length-weight}
 use Rattle.remove_branch.specs.Own.{Stands, AllStand, stand-++, own-stand}
 use Rattle.remove_branch.specs.Listed.{Listing, Listed}
-use Rattle.remove_branch.specs.Cleared.{Cleared, cleared-none, cleared-page}
+use Rattle.remove_branch.specs.Cleared.{Cleared, cleared-none, cleared-same, cleared-page}
 
 -- The first n of the list are the pages of these records, which stand with all below them, each page named one time.
 pub record Freeing (img m list : List ℕ) (n : ℕ) : Type 0 where
@@ -84,12 +84,7 @@ module _ {img m list : List ℕ} {n : ℕ} (w : Freeing img m list n) where
         (omega (arith, t .long), omega (arith, w .small))
 
     pub turn-end : many ≤ k → Emptied w after map
-    turn-end h = record {
-      long = t .cleared .long;
-      map-long = t .cleared .map-long;
-      gone = λ q g. t .cleared .gone q (omega (arith, same q));
-      other = λ q g. t .cleared .other q (omega (arith, same q));
-    }
+    turn-end h = cleared-same same (t .cleared)
       where
         none : (l : List Held) (q : ℕ) → length l ≡ 0 → total (has q) l ≡ 0
         none [] q e = refl
@@ -133,12 +128,12 @@ module _ {img m list : List ℕ} {n : ℕ} (w : Freeing img m list n) where
 
       -- The map has a bit for it.
       pub turn-bit : p < 8 * length map
-      turn-bit = omega (arith, turn-page .inside, t .cleared .long, t .cleared .map-long, w .map-long)
+      turn-bit = omega (arith, turn-page .inside, t .cleared .long, t .cleared .marks .long, w .map-long)
 
       -- It is as it was.
       page-is : pageOf after (f .head .page) ≡ recordPage (f .head)
       page-is =
-          subst (λ (n : ℕ). pageOf after n ≡ pageOf img n) first-page (t .cleared .other p (omega (arith, parts p, self p, w .once p)) .0)
+          subst (λ (n : ℕ). pageOf after n ≡ pageOf img n) first-page (t .cleared .other p (omega (arith, parts p, self p, w .once p)))
           ∙ stands .0 .is
 
       stands-at : RecordAt after (pageSize * f .head .page) row

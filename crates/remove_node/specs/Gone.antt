@@ -1,6 +1,6 @@
 -- What a removal leaves: the image, the table and the map of the store without the node.
 use mathlib.Core.Path.{_≡_, refl, sym, ap, subst, _∙_}
-use mathlib.Core.Bool.{Bool, true, false, cond, true≢false}
+use mathlib.Core.Bool.{Bool, true, false, true≢false}
 use mathlib.Core.List.{List}
 use Prim.Native.Nat.{ℕ, _+_, _*_, _≤_, _<_}
 use native.Mathlib.Omega.{arith}
@@ -28,19 +28,19 @@ use Rattle.theory_removal.specs.Keeps as keeps
 use Rattle.theory_removal.specs.Table.{Fewer, table-stays, table-goes}
 use Rattle.theory_removal.specs.Used.{used-less, names-stays, names-goes}
 use Rattle.theory_check.specs.Tests.{unmarked}
-use Rattle.theory_check.specs.Marks.{length-unmark}
 use Rattle.theory_page_memory.specs.Memory.{Mem}
 use Rattle.theory_page_memory.specs.Links.{self}
 use Rattle.theory_page_memory.specs.Around.{beyond-own}
 use Rattle.theory_page_memory.specs.Removing.{Wiped, Rewritten, Lifted, own-apart, stands, stays, goes, rewritten-by, rewritten-image, lifted-by, lifted-image}
 use Rattle.base_numbers.specs.Over.{take-over}
-use Rattle.grow_map.specs.Map.{usedBy, used-unmarked}
+use Rattle.grow_map.specs.Map.{usedBy}
 use Rattle.grow_map.specs.Mapped.{Right}
 use Rattle.grow_pages.specs.Write.{setPage, pageBytesOf, recordPage-is}
 use Rattle.grow_pages.specs.Paged.{length-setPage}
 use Rattle.grow_pages.specs.Relinked.{mem-set}
 use Rattle.grow_widths.specs.Raised.{lowered, entryAnew, changed-long, changed-other, lowered-along}
 use Rattle.grow_replace_proxy.specs.Above.{above-once}
+use Rattle.remove_branch.specs.Cleared.{Unmarked, unmarked-page}
 use Rattle.remove_branch.specs.Branch.{Freed}
 use Rattle.remove_lift.specs.Rename.{Renaming}
 use Rattle.remove_lift.specs.Lifting.{Lifting, lifted, lifted-long, lifted-pages}
@@ -127,9 +127,16 @@ module _ {img u m : List ℕ} {s : Standing} (w : Going img u m s) where
           let o = f .proxy x in
           record { upper = c; position = p; page = q; settled = b; rest = rest; proxy = x; is = k; names = o .0; kid = o .1 }
 
+  -- A map is right that has the pages free that are named no more.
+  right-by : (gone : ℕ → ℕ) → ((q : ℕ) → count q (without t) + gone q ≡ count q (w .root)) → (next : List ℕ) → Unmarked gone m next
+      → Right (w .st) (without t) next
+  right-by gone sum next k q h =
+      used-less (w .st) (w .root) (without t) (v w) gone sum (8 * length m) (usedBy m) (usedBy next) (w .map .store (w .st) (w .root) (w .reads))
+      (λ q h. k .gone q) (λ q h. k .other q) q (omega (arith, k .long))
+
   -- The record's own page has a bit in the map.
   pub own-bit : {mid map : List ℕ} → Freed (branch w) mid map → s .page < 8 * length map
-  own-bit f = omega (arith, room w, w .map .long, f .map-long)
+  own-bit f = omega (arith, room w, w .map .long, f .marks .long)
 
   -- The branch's pages are freed.
   module _ {entries : List ℕ} (is-less : entries ≡ less w) {mid map : List ℕ} (free : Freed (branch w) mid map) where
@@ -140,15 +147,8 @@ module _ {img u m : List ℕ} {s : Standing} (w : Going img u m s) where
       other = λ q h. changed-other (entryAnew false) (s .deep) (c w) u q h;
     })
 
-    -- A map is right that has the pages free that are named no more, and all others as they were.
-    right-by : (gone : ℕ → ℕ) → ((q : ℕ) → count q (without t) + gone q ≡ count q (w .root)) → (next : List ℕ) → length next ≡ length m
-        → ((q : ℕ) → 1 ≤ gone q → usedBy next q ≡ false) → ((q : ℕ) → gone q ≡ 0 → usedBy next q ≡ usedBy m q) → Right (w .st) (without t) next
-    right-by gone sum next long free other q h =
-        used-less (w .st) (w .root) (without t) (v w) gone sum (8 * length m) (usedBy m) (usedBy next) (w .map .store (w .st) (w .root) (w .reads))
-        (λ q h. free q) (λ q h. other q) q (omega arith)
-
     is-wiped : Wiped t (pageOf img) (pageOf mid)
-    is-wiped = record { named = λ p h. free .gone p h .0; other = λ p h. free .other p h .0 }
+    is-wiped = record { named = free .gone; other = free .other }
 
     -- ── the record stays ──
 
@@ -186,9 +186,8 @@ module _ {img u m : List ℕ} {s : Standing} (w : Going img u m s) where
                 (ap length is ∙ length-setPage (lastPage (c w)) page mid long room ∙ free .long) (x .others 0 none-first (far _ own-low)) alone x;
             table = table-stays (w .st) (w .root) (v w) (w .new) t (w .leaves) u entries (w .table) fewer
                 is-whole;
-            map-long = free .map-long;
-            right = right-by (λ q. count q (t .node)) (names-stays (w .root) (w .new) t (w .leaves) is-whole) map (free .map-long)
-                (λ q h. free .gone q h .1) (λ q h. free .other q h .1);
+            map-long = free .marks .long;
+            right = right-by (λ q. count q (t .node)) (names-stays (w .root) (w .new) t (w .leaves) is-whole) map (free .marks);
           }
 
     -- ── one proxy takes its place ──
@@ -279,27 +278,17 @@ module _ {img u m : List ℕ} {s : Standing} (w : Going img u m s) where
           (lifted-by (w .st) (w .root) (v w) (w .new) t (w .leaves) (pageOf img) (pageOf img) all d (y .position) q (y .settled) (y .rest) x (y .is)
           (pageOf mid) is-wiped) in
           let low : 1 ≤ q = omega (arith, own-low, ap lastPage (y .is)) in
-          let bits : q < 8 * length map = omega (arith, own-bit free, own-page) in
-          let is-map : next ≡ unmarked map q = k ∙ ap (unmarked map) own-page in
+          let marks : Unmarked (λ n. bit (eqb n q) + count n (t .node)) m next =
+          subst (Unmarked (λ n. bit (eqb n q) + count n (t .node)) m) (sym (k ∙ ap (unmarked map) own-page))
+          (unmarked-page (free .marks) q (omega (arith, own-bit free, own-page))) in
           let is-whole = goes img (w .st) (w .root) (w .reads) (w .new) t (w .leaves) d (y .position) q (y .settled) (y .rest) x (y .is) in
-          let long = ap length is-map ∙ length-unmark map q ∙ free .map-long in
           record {
             image = lifted-image img (w .st) (w .root) (w .reads) (w .new) t (w .leaves) after (ap length is ∙ lifted-long own-lifting ∙ free .long)
                 (l .others 0 none-first (far q low) (far (x .page) (y .kid .low)) (far (lastPage d) (above .here .on .low)))
                 d (y .position) q (y .settled) (y .rest) x (y .is) l;
             table = table-goes (w .st) (w .root) (v w) (w .new) t (w .leaves) u entries (w .table) fewer d (y .position) q (y .settled) (y .rest) x (y .is)
                 is-whole;
-            map-long = long;
+            map-long = marks .long;
             right = right-by (λ n. bit (eqb n q) + count n (t .node))
-                (names-goes (w .root) (w .new) t (w .leaves) d (y .position) q (y .settled) (y .rest) x (y .is) is-whole) next long
-                (λ n h. ap (λ (l : List ℕ). usedBy l n) is-map ∙ used-unmarked map q bits n ∙ gone n (eqb n q) h)
-                (λ n h. ap (λ (l : List ℕ). usedBy l n) is-map ∙ used-unmarked map q bits n ∙ other n (eqb n q) h);
+                (names-goes (w .root) (w .new) t (w .leaves) d (y .position) q (y .settled) (y .rest) x (y .is) is-whole) next marks;
           }
-        where
-          gone : (n : ℕ) (b : Bool) → 1 ≤ bit b + count n (t .node) → cond b false (usedBy map n) ≡ false
-          gone n true h = refl
-          gone n false h = free .gone n (omega arith) .1
-
-          other : (n : ℕ) (b : Bool) → bit b + count n (t .node) ≡ 0 → cond b false (usedBy map n) ≡ usedBy m n
-          other n true h = absurd (omega arith)
-          other n false h = free .other n (omega arith) .1

@@ -108,7 +108,7 @@ same-length : tie.Need-same-length Inv-loop μ-loop
 same-length c = c .before .loop .inv (c .before .before .before .before .before .pre) .cleared .long
 
 same-length-2 : tie.Need-same-length-2 Inv-loop μ-loop
-same-length-2 c = c .before .loop .inv (c .before .before .before .before .before .pre) .cleared .map-long
+same-length-2 c = c .before .loop .inv (c .before .before .before .before .before .pre) .cleared .marks .long
 
 same-length-3 : tie.Need-same-length-3 Inv-loop μ-loop
 same-length-3 c = c .before .loop .inv (c .before .before .before .before .before .pre) .long
