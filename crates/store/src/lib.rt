@@ -64,7 +64,8 @@ fn check_widths(image: &[u8], widths: &mut [u32]) -> u32
 fn check_tables(image: &[u8], marks: &mut [u8; Settings::MARKS], widths: &mut [u32]) -> u32
     requires { ⌜ Enough (now image) (now widths) × (now marks ≡ replicate markBytes 0) ⌝ }
     ensures { λ r. ⌜ (r ≡ checkOf (now (image .entry))) × (r ≡ 0 → (lengthOk (length (now (image .entry))) ≡ true)
-        × Widths (now (image .entry)) (now (widths .exit)) × Named (now (image .entry)) (now (marks .exit))) ⌝ }
+        × Widths (now (image .entry)) (now (widths .exit)) × Named (now (image .entry)) (now (marks .exit))
+        × (length (now (marks .exit)) ≡ markBytes)) ⌝ }
 {
     read_check::check_tables(image, marks, widths)
 }
@@ -86,7 +87,17 @@ fn insert_by(
     ensures image { λ _. ⌜ now (image .exit) ≡ insertOf (now (image .entry)) (now (path .entry)) child kind origin label (now (content .entry)) .1 ⌝ }
 {
     shut(map, image.len() / Settings::PAGE);
-    grow_insert::insert_of(image, widths, map, path, child, kind, origin, label, content)
+    grow_insert::insert_of(
+        image,
+        widths,
+        map,
+        path,
+        child,
+        kind,
+        origin,
+        label,
+        content,
+    )
 }
 
 fn insert_with(
@@ -114,7 +125,17 @@ fn insert_with(
         };
     }
     let k = map_bytes(image.len());
-    insert_by(image, widths, &mut marks[..k], path, child, kind, origin, label, content)
+    insert_by(
+        image,
+        widths,
+        &mut marks[..k],
+        path,
+        child,
+        kind,
+        origin,
+        label,
+        content,
+    )
 }
 
 fn insert_few(
@@ -131,7 +152,16 @@ fn insert_few(
     ensures image { λ _. ⌜ now (image .exit) ≡ insertOf (now (image .entry)) (now (path .entry)) child kind origin label (now (content .entry)) .1 ⌝ }
 {
     let mut widths = [0u32; FEW];
-    insert_with(image, &mut widths, path, child, kind, origin, label, content)
+    insert_with(
+        image,
+        &mut widths,
+        path,
+        child,
+        kind,
+        origin,
+        label,
+        content,
+    )
 }
 
 fn insert_many(
@@ -148,7 +178,16 @@ fn insert_many(
     ensures image { λ _. ⌜ now (image .exit) ≡ insertOf (now (image .entry)) (now (path .entry)) child kind origin label (now (content .entry)) .1 ⌝ }
 {
     let mut widths = [0u32; Settings::PAGES];
-    insert_with(image, &mut widths, path, child, kind, origin, label, content)
+    insert_with(
+        image,
+        &mut widths,
+        path,
+        child,
+        kind,
+        origin,
+        label,
+        content,
+    )
 }
 
 // Puts a new node as child `child` of the aggregate that the path names, and gives its place, how many records were split and the lean of the first split.

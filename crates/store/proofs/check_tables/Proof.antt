@@ -5,7 +5,7 @@ use native.Mathlib.Omega.{arith}
 use denote.Ref.{now}
 use lib.ListN.{getD}
 use Rattle.theory_check.specs.Exact.{exact}
-use Rattle.store.specs.Widths.{passes-length, table, named}
+use Rattle.store.specs.Widths.{passes-length, table, named, marks-long}
 use borrow.Author.Needs.{needs}
 use Rattle.store.proofs.check_tables.Statement.{statement}
 use Rattle.store.proofs.check_tables.Tie as tie
@@ -26,7 +26,7 @@ returns c =
       e .answer ∙ exact img all,
       λ z.
           let ok = sym (e .answer) ∙ z in
-          (passes-length img all ok, table img all ok (now (s .args .widths)) _ (s .pre .0) (e .table z), named img all ok _ (e .reached z)),
+          (passes-length img all ok, table img all ok (now (s .args .widths)) _ (s .pre .0) (e .table z), named img all ok _ (e .reached z), marks-long img all ok _ (e .reached z)),
     )
 
 pub check-tables-spec : {M : Type 1} → statement M

@@ -12,13 +12,13 @@ enum-told : tie.Need-enum-told
 enum-told c = search needs
 
 insert-few-requires : tie.Need-insert-few-requires
-insert-few-requires c κs = ?
+insert-few-requires c κs = tables-fit _ _ (sym (c .before .enum-told .given .1) ∙ c .before .before .before .tables-for .ensures)
 
 enum-told-2 : tie.Need-enum-told-2
 enum-told-2 c = search needs
 
 insert-many-requires : tie.Need-insert-many-requires
-insert-many-requires c κs = ?
+insert-many-requires c κs = tables-fit _ _ (sym (c .before .enum-told2 .given .1) ∙ c .before .before .before .tables-for .ensures)
 
 same-length : tie.Need-same-length
 same-length c = search needs

@@ -12,13 +12,13 @@ enum-told : tie.Need-enum-told
 enum-told c = search needs
 
 remove-few-requires : tie.Need-remove-few-requires
-remove-few-requires c κs = ?
+remove-few-requires c κs = tables-fit _ _ (sym (c .before .enum-told .given .1) ∙ c .before .before .before .tables-for .ensures)
 
 enum-told-2 : tie.Need-enum-told-2
 enum-told-2 c = search needs
 
 remove-many-requires : tie.Need-remove-many-requires
-remove-many-requires c κs = ?
+remove-many-requires c κs = tables-fit _ _ (sym (c .before .enum-told2 .given .1) ∙ c .before .before .before .tables-for .ensures)
 
 same-length : tie.Need-same-length
 same-length c = search needs

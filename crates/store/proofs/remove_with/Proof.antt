@@ -1,5 +1,7 @@
 -- `store::remove_with`: an image that does not pass gives the check's number; else the check's table and marks are handed on.
-use mathlib.Core.Path.{sym, _∙_}
+use mathlib.Core.Path.{sym, ap, _∙_}
+use mathlib.Core.List.{List}
+use Prim.Native.Nat.{ℕ, _≤_}
 use native.Mathlib.Omega.{arith}
 use denote.Ref.{now}
 use lib.ListN.{length}
@@ -21,19 +23,35 @@ same-length-2 : tie.Need-same-length-2
 same-length-2 c = search needs
 
 returns : tie.Need-returns
-returns c = ?
+returns c =
+    let k = c .before .before .before in
+    let s = c .before .before .before .before .before .before .before .before .before .before in
+    let e = remove-refused (now (s .args .image)) (k .check-tables .result) (k .check-tables .ensures .0) (c .if1 .taken) (now (s .args .path)) in
+    (ap (λ (z : ℕ × List ℕ). z .0) e, ap (λ (z : ℕ × List ℕ). z .1) e)
 
 map-bytes-requires : tie.Need-map-bytes-requires
 map-bytes-requires c κs = search needs
 
+-- the map's bytes are some of the marks
+fits : (m : tie.After-map-bytes) → m .map-bytes .result ≤ length (m .before .before .before .before .check-tables .last .1 .0)
+fits m =
+    let k = m .before .before .before .before in
+    let e = k .check-tables .ensures .1 (m .before .if1 .left) in
+    omega (arith, m .map-bytes .ensures, e .3, length-says _ (e .0) .many)
+
 array-borrow-prefix-marks : tie.Need-array-borrow-prefix-marks
-array-borrow-prefix-marks c = ?
+array-borrow-prefix-marks c = fits (c .before .before)
 
 slice-aggregate-remove-by : tie.Need-slice-aggregate-remove-by
-slice-aggregate-remove-by c = ?
+slice-aggregate-remove-by c = sym (length-take-le _ _ (fits (c .before .before .before)))
 
 remove-by-requires : tie.Need-remove-by-requires
-remove-by-requires c κs = ?
+remove-by-requires c κs =
+    let m = c .before .before .before in
+    let k = m .before .before .before .before in
+    let ok = m .before .if1 .left in
+    let e = k .check-tables .ensures .1 ok in
+    (sym (k .check-tables .ensures .0) ∙ ok, e .1, reached-part _ _ _ (m .map-bytes .ensures) (e .3) (e .0) (e .2))
 
 same-length-3 : tie.Need-same-length-3
 same-length-3 c = search needs
