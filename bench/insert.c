@@ -62,12 +62,9 @@ static int count(uint8_t *image, uint8_t *copy, unsigned pages, uint32_t splits)
     return checked || inserted || answer[2] != splits;
 }
 
-int main(int argc, char **argv) {
+static int rows(uint8_t *image, uint8_t *copy) {
     static const unsigned splits[] = {0, 1, 5}, sizes[] = {4, 40, 400, 1000};
-    uint8_t *image = malloc(LEN), *copy = malloc(LEN);
     int bad = 0;
-    if (!image || !copy) return 2;
-    if (argc == 3) return count(image, copy, (unsigned)atoi(argv[1]), (uint32_t)atoi(argv[2]));
     puts("microseconds   at         pages  splits      check     insert  insert/check");
     for (size_t f = 0; f < sizeof fills / sizeof *fills; f++)
         for (int last = 0; last < 2; last++) {
@@ -85,6 +82,16 @@ int main(int argc, char **argv) {
             uint32_t child = make_few(image, sizes[i], splits[s]);
             bad |= row("full records", "front", image, sizes[i], copy, child, splits[s]);
         }
+    return bad;
+}
+
+/* Without arguments the rows; with a number of pages, 4 or 40 to 1,024, and of splits what is to be counted. */
+int main(int argc, char **argv) {
+    unsigned pages = argc == 3 ? (unsigned)atoi(argv[1]) : 4, splits = argc == 3 ? (unsigned)atoi(argv[2]) : 0;
+    uint8_t *image = malloc(LEN), *copy = malloc(LEN);
+    if (!image || !copy) return 2;
+    if ((pages != 4 && pages < 40) || pages > PAGES || splits > (pages < 40 ? 1 : 15)) return 2;
+    int bad = argc == 3 ? count(image, copy, pages, splits) : rows(image, copy);
     free(image);
     free(copy);
     return bad;
