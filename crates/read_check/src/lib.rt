@@ -29,7 +29,7 @@ fn walk_few(
     requires { ⌜ Ready (now image) left (now marks) (now widths) × (length (now image) ≤ pageSize * fewPages) ⌝ }
     ensures { λ r. ⌜ Walked (now (image .entry)) left (now (widths .entry)) (now (widths .exit)) (now (marks .exit)) r ⌝ }
 {
-    let mut back = [0u32; FEW];
+    let mut back = [0u16; FEW];
     walk_ok(image, left, marks, widths, &mut back)
 }
 
@@ -42,7 +42,7 @@ fn walk_many(
     requires { ⌜ Ready (now image) left (now marks) (now widths) × (length (now image) ≤ pageSize * mostPages) ⌝ }
     ensures { λ r. ⌜ Walked (now (image .entry)) left (now (widths .entry)) (now (widths .exit)) (now (marks .exit)) r ⌝ }
 {
-    let mut back = [0u32; Settings::PAGES];
+    let mut back = [0u16; Settings::PAGES];
     walk_ok(image, left, marks, widths, &mut back)
 }
 

@@ -2,7 +2,7 @@
 use mathlib.Core.Path.{_≡_, refl, sym, ap, subst, _∙_}
 use mathlib.Core.Bool.{Bool, true, false, cond}
 use mathlib.Core.List.{List, [], _∷_}
-use Prim.Native.Nat.{ℕ, suc, _+_, _-_, _*_, _/_, _≤_, _<_}
+use Prim.Native.Nat.{ℕ, suc, _+_, _-_, _*_, _/_, _%_, _≤_, _<_}
 use native.Mathlib.Numerals.{add-one}
 use native.Mathlib.Omega.{arith}
 use lib.ListN.{length, getD, set, take, drop, length-take, length-set}
@@ -12,7 +12,7 @@ use borrow.Author.Tests.{eqb-true, eq-eqb, ne-eqb}
 use Rattle.model.specs.Limits.{mostPages, pageSize, capacity, mostLevels}
 use Rattle.model.specs.Row.{count}
 use Rattle.model.specs.Tree.{width}
-use Rattle.model.specs.Reading.{usedAt, settledAt, nameAt}
+use Rattle.model.specs.Reading.{usedAt, settledAt, nameAt, backAt}
 use Rattle.model.specs.WalkTests.{wholeSize, passingKind, recordOf}
 use Rattle.theory_check.specs.Tests.{isMarked, marked}
 use Rattle.theory_check.specs.Marks.{IsMarks, marks-kept, is-marked}
@@ -25,6 +25,7 @@ use Rattle.read_nodes.specs.Stand.{Holds, one, four}
 use Rattle.theory_check.specs.Levels.{Outcome, refused, reached, outcome, outcomeOf, bytes, Frame, frame, pageIn, holderIn, endIn, resume}
 use Rattle.theory_check.specs.Levels.{resume-end, resume-out, resume-turn, resume-bad, resume-in, node-proxy, proxy-in}
 use Rattle.theory_check.specs.Stays.{stays-marked, fresh-other, marked-stays}
+use Rattle.read_walker.specs.Turns.{wayBack}
 
 -- ── what a call comes to ──
 
@@ -76,7 +77,7 @@ module _ (img : List ℕ) (page level last : ℕ) where
     pub inside : pageSize * f .page + pageSize ≤ length img
     pub used : usedAt img (pageSize * f .page) ≤ capacity
     pub marked : isMarked marks (f .page) ≡ true
-    pub to : getD back (f .page) 0 ≡ f .to
+    pub to : wayBack img back (f .page) ≡ f .to
     pub passed : getD table (f .page) 0 ≡ f .passed
     pub few : f .passed ≤ n
     pub place : f .to / pageSize ≡ pageIn img page level last fs
@@ -94,7 +95,7 @@ module _ (img : List ℕ) (page level last : ℕ) where
     inside = h .inside;
     used = h .used;
     marked = x;
-    to = y ∙ h .to;
+    to = ap (λ (n : ℕ). pageSize * backAt img (pageSize * f .page) + n) y ∙ h .to;
     passed = z ∙ h .passed;
     few = h .few;
     place = h .place;
@@ -305,7 +306,7 @@ module _ {img : List ℕ} {g : Goal} (own : Own img g) where
       -- into a helper's record
       pub going-in : (p : ℕ) → size ≡ 8 → p ≡ nameAt (take size onward) 0 → passingKind (take size onward) holder ≡ 3
           → entersOf img p (at / pageSize) here-state ≡ true → passingKind (recordOf img p) 0 ≡ 4 → 6 ≤ length (recordOf img p)
-          → Going img g (marked marks p) (set widths p n) (set back p (at + size)) (kindsIn 4) (cur - 1) n (depth + 1) (pageSize * p + 6)
+          → Going img g (marked marks p) (set widths p n) (set back p ((at + size) % pageSize)) (kindsIn 4) (cur - 1) n (depth + 1) (pageSize * p + 6)
           (pageSize * p + usedAt img (pageSize * p))
       unfolding Chain
       going-in p eight name proxy enters helper long =
@@ -341,21 +342,23 @@ module _ {img : List ℕ} {g : Goal} (own : Own img g) where
                 inside = x .names .inside;
                 used = x .names .used;
                 marked = own-mark;
-                to = getD-set-same back p (at + size) 0 (omega (arith, now .back-long, own .back-long, x .names .inside));
+                to =
+                    let z = getD-set-same back p ((at + size) % pageSize) 0 (omega (arith, now .back-long, own .back-long, x .names .inside)) in
+                    omega (arith, z, x .names .holder, s, pg, e1, e2);
                 passed = getD-set-same widths p n 0 (omega (arith, now .wide, own .wide, x .names .inside));
                 few = omega arith;
                 place = omega (arith, s, pg, e1, e2);
                 within = omega (arith, s, e1);
                 apart = chain-apart img (g .page) (g .level) (g .last) marks back widths p n fs (x .fresh) (now .chain);
               },
-              chain-as img (g .page) (g .level) (g .last) marks (marked marks p) back (set back p (at + size)) widths (set widths p n)
-                  (λ q i e. (same q i e, getD-set-other back p q (at + size) 0 (other q e), getD-set-other widths p q n 0 (other q e))) n fs (now .chain),
+              chain-as img (g .page) (g .level) (g .last) marks (marked marks p) back (set back p ((at + size) % pageSize)) widths (set widths p n)
+                  (λ q i e. (same q i e, getD-set-other back p q ((at + size) % pageSize) 0 (other q e), getD-set-other widths p q n 0 (other q e))) n fs (now .chain),
             );
             is-marks = marks-kept marks p (now .is-marks) low;
             on = λ q i e. same q i (now .on q i e);
-            kept = λ q i e. getD-set-other back p q (at + size) 0 (other q (now .on q i e)) ∙ now .kept q i e;
+            kept = λ q i e. getD-set-other back p q ((at + size) % pageSize) 0 (other q (now .on q i e)) ∙ now .kept q i e;
             wide = length-set widths p n ∙ now .wide;
-            back-long = length-set back p (at + size) ∙ now .back-long;
+            back-long = length-set back p ((at + size) % pageSize) ∙ now .back-long;
             few = omega (arith, now .few);
             fewer = λ h. omega (arith, x .room, now .few);
             falls = omega (arith, x .room, now .falls, s, x .names .used);
@@ -397,13 +400,13 @@ module _ {img : List ℕ} {g : Goal} (own : Own img g) where
   pub record Out (marks widths back : List ℕ) (cur n depth at : ℕ) : Type 0 where
     pub inside : pageSize * (at / pageSize) + pageSize ≤ length img
     pub few : getD widths (at / pageSize) 0 ≤ n
-    pub fits : getD back (at / pageSize) 0 ≤ length img
+    pub fits : wayBack img back (at / pageSize) ≤ length img
     pub own-row : depth - 1 ≡ 0 → Going img g marks (set widths (at / pageSize) (n - getD widths (at / pageSize) 0)) back (kindsIn 1) cur n (depth - 1)
-        (getD back (at / pageSize) 0) (g .last)
-    pub outer-row : (depth - 1 ≡ 0 → ⊥) → let q = getD back (at / pageSize) 0 / pageSize in
+        (wayBack img back (at / pageSize)) (g .last)
+    pub outer-row : (depth - 1 ≡ 0 → ⊥) → let q = wayBack img back (at / pageSize) / pageSize in
         (q < mostPages) × (pageSize * q + pageSize ≤ length img)
         × Going img g marks (set widths (at / pageSize) (n - getD widths (at / pageSize) 0)) back (kindsIn 4) cur n (depth - 1)
-        (getD back (at / pageSize) 0) (pageSize * q + usedAt img (pageSize * q))
+        (wayBack img back (at / pageSize)) (pageSize * q + usedAt img (pageSize * q))
 
   module _ {marks widths back : List ℕ} {may : Kinds} {cur n depth at end : ℕ} (now : Going img g marks widths back may cur n depth at end)
       (over : end ≡ at) (in-one : depth ≡ 0 → ⊥) where
@@ -424,8 +427,8 @@ module _ {img : List ℕ} {g : Goal} (own : Own img g) where
       passed-is : getD widths p₀ 0 ≡ f .passed
       passed-is = ap (λ (q : ℕ). getD widths q 0) h ∙ held .passed
 
-      to-is : getD back p₀ 0 ≡ f .to
-      to-is = ap (λ (q : ℕ). getD back q 0) h ∙ held .to
+      to-is : wayBack img back p₀ ≡ f .to
+      to-is = ap (λ (q : ℕ). wayBack img back q) h ∙ held .to
 
       outer : (stops fs ≤ length img) × (stops fs ≤ pageSize * pages fs + capacity) × (pages fs < mostPages)
       outer = row-in marks back widths (f .passed) fs links
@@ -464,29 +467,29 @@ module _ {img : List ℕ} {g : Goal} (own : Own img g) where
             falls = omega (arith, now .falls, o, a, b);
           }
 
-      next' : Going img g marks (set widths p₀ (n - getD widths p₀ 0)) back (kindsIn (holders fs)) cur n (depth - 1) (getD back p₀ 0) (stops fs)
-      next' = subst (λ (t : List ℕ). Going img g marks t back (kindsIn (holders fs)) cur n (depth - 1) (getD back p₀ 0) (stops fs)) (sym table-is)
+      next' : Going img g marks (set widths p₀ (n - getD widths p₀ 0)) back (kindsIn (holders fs)) cur n (depth - 1) (wayBack img back p₀) (stops fs)
+      next' = subst (λ (t : List ℕ). Going img g marks t back (kindsIn (holders fs)) cur n (depth - 1) (wayBack img back p₀) (stops fs)) (sym table-is)
           (subst (λ (t : ℕ). Going img g marks table back (kindsIn (holders fs)) cur n (depth - 1) t (stops fs)) (sym to-is) next)
 
     module _ (f : Frame) where
       own-case : (fs : List Frame) → length (f ∷ fs) ≡ depth → depth - 1 ≡ 0
-          → Going img g marks (set widths p₀ (n - getD widths p₀ 0)) back (kindsIn (holders fs)) cur n (depth - 1) (getD back p₀ 0) (stops fs)
-          → Going img g marks (set widths p₀ (n - getD widths p₀ 0)) back (kindsIn 1) cur n (depth - 1) (getD back p₀ 0) (g .last)
+          → Going img g marks (set widths p₀ (n - getD widths p₀ 0)) back (kindsIn (holders fs)) cur n (depth - 1) (wayBack img back p₀) (stops fs)
+          → Going img g marks (set widths p₀ (n - getD widths p₀ 0)) back (kindsIn 1) cur n (depth - 1) (wayBack img back p₀) (g .last)
       own-case [] k z x = x
       own-case (e ∷ fs) k z x = absurd (omega arith)
 
-      outer-case : (fs : List Frame) → length (f ∷ fs) ≡ depth → (depth - 1 ≡ 0 → ⊥) → Links marks back widths (f .passed) fs → getD back p₀ 0 / pageSize ≡ pages fs
-          → Going img g marks (set widths p₀ (n - getD widths p₀ 0)) back (kindsIn (holders fs)) cur n (depth - 1) (getD back p₀ 0) (stops fs)
-          → let q = getD back p₀ 0 / pageSize in
+      outer-case : (fs : List Frame) → length (f ∷ fs) ≡ depth → (depth - 1 ≡ 0 → ⊥) → Links marks back widths (f .passed) fs → wayBack img back p₀ / pageSize ≡ pages fs
+          → Going img g marks (set widths p₀ (n - getD widths p₀ 0)) back (kindsIn (holders fs)) cur n (depth - 1) (wayBack img back p₀) (stops fs)
+          → let q = wayBack img back p₀ / pageSize in
           (q < mostPages) × (pageSize * q + pageSize ≤ length img)
-          × Going img g marks (set widths p₀ (n - getD widths p₀ 0)) back (kindsIn 4) cur n (depth - 1) (getD back p₀ 0) (pageSize * q + usedAt img (pageSize * q))
+          × Going img g marks (set widths p₀ (n - getD widths p₀ 0)) back (kindsIn 4) cur n (depth - 1) (wayBack img back p₀) (pageSize * q + usedAt img (pageSize * q))
       unfolding Chain
       outer-case [] k z l e x = absurd (z (omega arith))
       outer-case (o ∷ fs) k z l e x =
           let hold = l .0 in (
             omega (arith, e, hold .low),
             omega (arith, e, hold .inside),
-            subst (λ (q : ℕ). Going img g marks (set widths p₀ (n - getD widths p₀ 0)) back (kindsIn 4) cur n (depth - 1) (getD back p₀ 0)
+            subst (λ (q : ℕ). Going img g marks (set widths p₀ (n - getD widths p₀ 0)) back (kindsIn 4) cur n (depth - 1) (wayBack img back p₀)
                 (pageSize * q + usedAt img (pageSize * q))) (sym e) x,
           )
 

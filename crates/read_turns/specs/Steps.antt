@@ -2,7 +2,7 @@
 use mathlib.Core.Path.{_≡_, refl, sym, ap, subst, _∙_}
 use mathlib.Core.Bool.{Bool, true, false}
 use mathlib.Core.List.{List}
-use Prim.Native.Nat.{ℕ, _+_, _-_, _*_, _/_, _≤_, _<_}
+use Prim.Native.Nat.{ℕ, _+_, _-_, _*_, _/_, _%_, _≤_, _<_}
 use native.Mathlib.Omega.{arith}
 use lib.ListN.{length, getD, set, take, drop}
 use lib.Dec.{eqb}
@@ -18,7 +18,7 @@ use Rattle.read_nodes.specs.Leaf.{aggregateOf, literalOf}
 use Rattle.read_nodes.specs.Stand.{kindBy}
 use Rattle.read_leaves.specs.Leafy.{Leafy}
 use Rattle.read_walker.specs.declared.Walker.{Walker}
-use Rattle.read_walker.specs.Turns.{Fits, walker, reachOf, reach-zero, reach-is, markedOf, marked-is, outOf}
+use Rattle.read_walker.specs.Turns.{Fits, wayBack, walker, reachOf, reach-zero, reach-is, markedOf, marked-is, outOf}
 use Rattle.read_turns.specs.Going.{PartAt, Ended, Goal, Own}
 use Rattle.read_turns.specs.Turns.{At, at-short, at-in, at-size, at-part, at-empty, at-literal, at-none, at-leaves, at-bad, at-node, at-node-less}
 use Rattle.read_turns.specs.Turns.{at-not-eight, at-not-enter, at-entered, at-record-part, at-no-root, at-root-long, at-helper, at-deep-record}
@@ -143,7 +143,7 @@ module _ {img marks widths back : List ℕ} {g : Goal} {w : Walker} (s : Standin
     page = w .at / pageSize
 
     abbrev to : ℕ
-    to = getD back page 0
+    to = wayBack img back page
 
     pub record Leaving : Type 0 where
       pub inside : pageSize * page + pageSize ≤ length img
@@ -268,12 +268,12 @@ module _ {img part marks widths back : List ℕ} {g : Goal} {w : Walker} (s : St
 
           -- a helper: the list goes on in its record
           pub turned-helper : root ≡ 4
-              → Turned img g (markedOf p marks) (set widths p (w .count)) (set back p (w .at + 8)) w
+              → Turned img g (markedOf p marks) (set widths p (w .count)) (set back p ((w .at + 8) % pageSize)) w
               (walker (kindsIn 4) (w .left - 1) (w .count) (w .depth + 1) (pageSize * p + 6) e (w .level))
           turned-helper four =
               let t = at-helper (s .own) (s .at) (length part) (n .size) (n .some) 3 three refl eight p name enters e ends root is-root
               (markedOf p marks) (marked-is p marks some) (kindsIn 4) refl four in
-              let a = subst (λ (k : ℕ). At img g (markedOf p marks) (set widths p (w .count)) (set back p (w .at + k)) (kindsIn 4) (w .left - 1) (w .count)
+              let a = subst (λ (k : ℕ). At img g (markedOf p marks) (set widths p (w .count)) (set back p ((w .at + k) % pageSize)) (kindsIn 4) (w .left - 1) (w .count)
               (w .depth + 1) (pageSize * p + 6) e) eight t in
               record {
                 over = λ z. absurd (omega (arith, a .1));

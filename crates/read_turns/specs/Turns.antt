@@ -2,7 +2,7 @@
 use mathlib.Core.Path.{_≡_, refl, sym, ap, subst, _∙_}
 use mathlib.Core.Bool.{Bool, true, false, true≢false}
 use mathlib.Core.List.{List, [], _∷_}
-use Prim.Native.Nat.{ℕ, _+_, _-_, _*_, _/_, _≤_, _<_}
+use Prim.Native.Nat.{ℕ, _+_, _-_, _*_, _/_, _%_, _≤_, _<_}
 use native.Mathlib.Omega.{arith}
 use lib.ListN.{length, getD, set, take, drop, length-take, length-drop}
 use lib.Seq.{length-take-le, getD-take}
@@ -27,6 +27,7 @@ use Rattle.theory_check.specs.Levels.{refused, outcome, outcomeOf, bytes, bytes
 use Rattle.read_nodes.specs.Stand.{kindBy, aggregate-by, literal-by, kind-is, no-helper, Holds}
 use Rattle.theory_check.specs.ByKind.{node-none, node-agg, node-lit, node-deep, node-3-bad, node-3-out, node-wide}
 use Rattle.read_leaves.specs.Leafy.{innermost, Leafy}
+use Rattle.read_walker.specs.Turns.{wayBack}
 use Rattle.read_turns.specs.Going.{PartAt, Ended, reaches, left-none, Goal, Own, Going, Chain, holds, holder, going-page, going-end, first-in, going-bad}
 use Rattle.read_turns.specs.Going.{going-turn, going-in, going-record, Out, going-out}
 
@@ -322,15 +323,15 @@ module _ {img : List ℕ} {g : Goal} (own : Own img g) {marks widths back : List
 
               -- a helper: the list goes on in it
               pub at-helper : (m : List ℕ) → m ≡ marked marks p → (k : Kinds) → k ≡ kindsIn 4 → root ≡ 4
-                  → At img g m (set widths p n) (set back p (at + size)) k (cur - 1) n (depth + 1) (pageSize * p + 6) e
+                  → At img g m (set widths p n) (set back p ((at + size) % pageSize)) k (cur - 1) n (depth + 1) (pageSize * p + 6) e
               at-helper m q k s f =
                   let l : 6 ≤ length (recordOf img p) = passing (recordOf img p) 0 4 (sym root' ∙ f) (λ z. omega arith) .long in
                   let t = going-in own (h .0) size is some ok p eight name three-is enters (sym root' ∙ f) l in
-                  let t1 = subst (λ (v : List ℕ). Going img g v (set widths p n) (set back p (at + size)) (kindsIn 4) (cur - 1) n (depth + 1) (pageSize * p + 6)
+                  let t1 = subst (λ (v : List ℕ). Going img g v (set widths p n) (set back p ((at + size) % pageSize)) (kindsIn 4) (cur - 1) n (depth + 1) (pageSize * p + 6)
                   (pageSize * p + usedAt img (pageSize * p))) (sym q) t in
-                  let t2 = subst (λ (v : Kinds). Going img g m (set widths p n) (set back p (at + size)) v (cur - 1) n (depth + 1) (pageSize * p + 6)
+                  let t2 = subst (λ (v : Kinds). Going img g m (set widths p n) (set back p ((at + size) % pageSize)) v (cur - 1) n (depth + 1) (pageSize * p + 6)
                   (pageSize * p + usedAt img (pageSize * p))) (sym s) t1 in (
-                    subst (λ (v : ℕ). Going img g m (set widths p n) (set back p (at + size)) k (cur - 1) n (depth + 1) (pageSize * p + 6) v) (sym ends) t2,
+                    subst (λ (v : ℕ). Going img g m (set widths p n) (set back p ((at + size) % pageSize)) k (cur - 1) n (depth + 1) (pageSize * p + 6) v) (sym ends) t2,
                     omega (arith, at-entered .room),
                   )
 
@@ -409,17 +410,17 @@ module _ {img : List ℕ} {g : Goal} (own : Own img g) {marks widths back : List
       go (f ∷ fs) k m = m
 
   pub at-own : (k : Kinds) → k ≡ kindsIn 1 → depth - 1 ≡ 0
-      → At img g marks (set widths q₀ (n - getD widths q₀ 0)) back k cur n (depth - 1) (getD back q₀ 0) (g .last)
+      → At img g marks (set widths q₀ (n - getD widths q₀ 0)) back k cur n (depth - 1) (wayBack img back q₀) (g .last)
   at-own k e z = (
-    subst (λ (v : Kinds). Going img g marks (set widths q₀ (n - getD widths q₀ 0)) back v cur n (depth - 1) (getD back q₀ 0) (g .last)) (sym e) (at-out .own-row z),
+    subst (λ (v : Kinds). Going img g marks (set widths q₀ (n - getD widths q₀ 0)) back v cur n (depth - 1) (wayBack img back q₀) (g .last)) (sym e) (at-out .own-row z),
     h .1,
   )
 
-  pub at-outer : (e : ℕ) → (depth - 1 ≡ 0 → ⊥) → e ≡ pageSize * (getD back q₀ 0 / pageSize) + usedAt img (pageSize * (getD back q₀ 0 / pageSize))
-      → At img g marks (set widths q₀ (n - getD widths q₀ 0)) back may cur n (depth - 1) (getD back q₀ 0) e
+  pub at-outer : (e : ℕ) → (depth - 1 ≡ 0 → ⊥) → e ≡ pageSize * (wayBack img back q₀ / pageSize) + usedAt img (pageSize * (wayBack img back q₀ / pageSize))
+      → At img g marks (set widths q₀ (n - getD widths q₀ 0)) back may cur n (depth - 1) (wayBack img back q₀) e
   at-outer e z f = (
-    subst (λ (v : Kinds). Going img g marks (set widths q₀ (n - getD widths q₀ 0)) back v cur n (depth - 1) (getD back q₀ 0) e) (sym may-four)
-        (subst (λ (v : ℕ). Going img g marks (set widths q₀ (n - getD widths q₀ 0)) back (kindsIn 4) cur n (depth - 1) (getD back q₀ 0) v) (sym f)
+    subst (λ (v : Kinds). Going img g marks (set widths q₀ (n - getD widths q₀ 0)) back v cur n (depth - 1) (wayBack img back q₀) e) (sym may-four)
+        (subst (λ (v : ℕ). Going img g marks (set widths q₀ (n - getD widths q₀ 0)) back (kindsIn 4) cur n (depth - 1) (wayBack img back q₀) v) (sym f)
         (at-out .outer-row z .2)),
     h .1,
   )

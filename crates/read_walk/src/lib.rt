@@ -44,7 +44,7 @@ fn node_check<'a>(
     left: usize,
     marks: &mut [u8; Settings::MARKS],
     widths: &mut [u32],
-    back: &mut [u32],
+    back: &mut [u16],
 ) -> usize
     requires { ⌜ (6 ≤ length (now part)) × (level ≤ mostLevels + 1) × (1 ≤ left) × (left ≤ mostPages)
         × PartAt (now image) (now part) at × PassedBefore (now image) × IsMarks (now marks)
@@ -78,7 +78,7 @@ fn proxy_check<'a>(
     w: Walker,
     marks: &mut [u8; Settings::MARKS],
     widths: &mut [u32],
-    back: &mut [u32],
+    back: &mut [u16],
 ) -> Walker
     requires { ⌜ PassedBefore (now image) × NodeAt (now image) (now node) w × (3 ≡ kindBy (now node) (w .kinds))
         × ((g : Goal) × Standing (now image) g (now marks) (now widths) (now back) w) ⌝ }
@@ -119,7 +119,7 @@ fn part_check<'a>(
     w: Walker,
     marks: &mut [u8; Settings::MARKS],
     widths: &mut [u32],
-    back: &mut [u32],
+    back: &mut [u16],
 ) -> Walker
     requires { ⌜ PassedBefore (now image) × NodeAt (now image) (now node) w
         × (literalOf (bytes (now image) (w .at) (w .end)) (length (now node)) (w .kinds .literal) (w .level) ≡ false)
@@ -152,7 +152,7 @@ fn list_check<'a>(
     left: usize,
     marks: &mut [u8; Settings::MARKS],
     widths: &mut [u32],
-    back: &mut [u32],
+    back: &mut [u16],
 ) -> usize
     requires { ⌜ (level ≤ mostLevels + 1) × (1 ≤ left) × (left ≤ mostPages)
         × PartAt (now image) (now part) start × PassedBefore (now image) × IsMarks (now marks)
@@ -202,7 +202,7 @@ pub fn walk_ok(
     left: usize,
     marks: &mut [u8; Settings::MARKS],
     widths: &mut [u32],
-    back: &mut [u32],
+    back: &mut [u16],
 ) -> bool
     requires { ⌜ Ready (now image) left (now marks) (now widths) × (length (now image) ≤ pageSize * length (now back)) ⌝ }
     ensures { λ r. ⌜ Walked (now (image .entry)) left (now (widths .entry)) (now (widths .exit)) (now (marks .exit)) r ⌝ }

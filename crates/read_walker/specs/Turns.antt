@@ -2,13 +2,13 @@
 use mathlib.Core.Path.{_≡_, refl, sym, ap, _∙_}
 use mathlib.Core.Bool.{Bool, true, false, cond, _&&_, and-false}
 use mathlib.Core.List.{List}
-use Prim.Native.Nat.{ℕ, _-_, _/_, _<_}
+use Prim.Native.Nat.{ℕ, _+_, _*_, _-_, _/_, _<_}
 use native.Mathlib.Omega.{arith}
-use lib.ListN.{length}
+use lib.ListN.{length, getD}
 use lib.Dec.{eqb}
 use borrow.Author.Tests.{eq-eqb, ne-eqb, eqb-true}
 use Rattle.model.specs.Limits.{pageSize}
-use Rattle.model.specs.Reading.{nameAt}
+use Rattle.model.specs.Reading.{nameAt, backAt}
 use Rattle.theory_check.specs.Tests.{marked}
 use Rattle.theory_check.specs.Walk.{state, entersOf}
 use Rattle.theory_check.specs.Steps.{entered}
@@ -19,6 +19,10 @@ use Rattle.read_walker.specs.declared.Walker.{Walker}
 
 abbrev pub walker : Kinds → (left count depth at end level : ℕ) → Walker
 walker k n c d a e l = record { kinds = k; left = n; count = c; depth = d; at = a; end = e; level = l }
+
+-- Where the list goes on behind the proxy of page p: on the page whose record holds the proxy, which the trailer names, at the offset that the table has.
+abbrev pub wayBack : (img back : List ℕ) → (page : ℕ) → ℕ
+wayBack img b p = pageSize * backAt img (pageSize * p) + getD b p 0
 
 -- Its numbers are small.
 pub record Fits (w : Walker) : Type 0 where

@@ -1,4 +1,5 @@
 // Where the check's walk over a logical list is, and its turns: past a node, into a helper's record, and back out of it.
+use base_layout::back_at;
 use base_layout::name_at;
 use base_node_kinds::Kinds;
 use base_node_kinds::in_aggregate;
@@ -8,12 +9,12 @@ use read_marks::enters;
 use read_marks::record_end;
 use read_marks::set_mark;
 ghost use mathlib.Core.Path.{_≡_};
-ghost use Prim.Native.Nat.{_+_, _-_, _*_, _/_, _≤_, _<_};
+ghost use Prim.Native.Nat.{_+_, _-_, _*_, _/_, _%_, _≤_, _<_};
 ghost use lib.ListN.{length, getD, set};
 ghost use Rattle.model.specs.Limits.{mostPages, pageSize};
 ghost use Rattle.base_node_kinds.specs.Holders.{kindsIn};
 ghost use Rattle.theory_check.specs.Check.{PassedBefore};
-ghost use Rattle.read_walker.specs.Turns.{Fits, walker, reachOf, markedOf, outOf};
+ghost use Rattle.read_walker.specs.Turns.{Fits, wayBack, walker, reachOf, markedOf, outOf};
 
 // At byte `at` of the image, in a row that ends at `end` and takes these kinds of nodes, which have the level. `left` is one more than the pages that are to
 // be reached, 0 where the walk is refused; `count` nodes are passed, and the list is in `depth` records of helpers.
@@ -87,15 +88,15 @@ pub fn reach(
 }
 
 // Into the record of a helper on page p, which ends at `end`. A helper is no level. Until the list comes out, `widths` has how many nodes were passed before
-// the record, and `back` where in the image the list goes on behind its proxy.
-pub fn enter(w: Walker, p: usize, end: usize, widths: &mut [u32], back: &mut [u32]) -> Walker
+// the record, and `back` at which byte of its page the list goes on behind its proxy; the record's trailer names that page.
+pub fn enter(w: Walker, p: usize, end: usize, widths: &mut [u32], back: &mut [u16]) -> Walker
     requires { ⌜ Fits w × (1 ≤ w .left) × (p < mostPages) × (p < length (now widths)) × (p < length (now back)) ⌝ }
     ensures walker { λ r. ⌜ r ≡ walker (kindsIn 4) (w .left - 1) (w .count) (w .depth + 1) (pageSize * p + 6) end (w .level) ⌝ }
     ensures widths { λ _. ⌜ now (widths .exit) ≡ set (now (widths .entry)) p (w .count) ⌝ }
-    ensures back { λ _. ⌜ now (back .exit) ≡ set (now (back .entry)) p (w .at + 8) ⌝ }
+    ensures back { λ _. ⌜ now (back .exit) ≡ set (now (back .entry)) p ((w .at + 8) % pageSize) ⌝ }
 {
     widths[p] = w.count as u32;
-    back[p] = (w.at + 8) as u32;
+    back[p] = ((w.at + 8) % Settings::PAGE) as u16;
     Walker {
         kinds: in_helper(),
         left: w.left - 1,
@@ -108,20 +109,20 @@ pub fn enter(w: Walker, p: usize, end: usize, widths: &mut [u32], back: &mut [u3
 }
 
 // Out of the record of a helper, at whose end the list is: its width is known now. `last` is where the list's own row ends.
-pub fn leave(image: &[u8], w: Walker, last: usize, widths: &mut [u32], back: &[u32]) -> Walker
+pub fn leave(image: &[u8], w: Walker, last: usize, widths: &mut [u32], back: &[u16]) -> Walker
     requires { ⌜ Fits w × (1 ≤ w .depth) × (pageSize * (w .at / pageSize) + pageSize ≤ length (now image))
         × (getD (now widths) (w .at / pageSize) 0 ≤ w .count) × (length (now image) ≤ pageSize * length (now widths))
-        × (length (now image) ≤ pageSize * length (now back)) × (getD (now back) (w .at / pageSize) 0 ≤ length (now image))
-        × ((w .depth - 1 ≡ 0 → ⊥) → (getD (now back) (w .at / pageSize) 0 / pageSize < mostPages)
-        × (pageSize * (getD (now back) (w .at / pageSize) 0 / pageSize) + pageSize ≤ length (now image))) ⌝ }
-    ensures walker { λ r. ⌜ r ≡ outOf (now (image .entry)) w last (getD (now (back .entry)) (w .at / pageSize) 0) ⌝ }
+        × (length (now image) ≤ pageSize * length (now back)) × (wayBack (now image) (now back) (w .at / pageSize) ≤ length (now image))
+        × ((w .depth - 1 ≡ 0 → ⊥) → (wayBack (now image) (now back) (w .at / pageSize) / pageSize < mostPages)
+        × (pageSize * (wayBack (now image) (now back) (w .at / pageSize) / pageSize) + pageSize ≤ length (now image))) ⌝ }
+    ensures walker { λ r. ⌜ r ≡ outOf (now (image .entry)) w last (wayBack (now (image .entry)) (now (back .entry)) (w .at / pageSize)) ⌝ }
     ensures widths { λ _. ⌜ now (widths .exit)
         ≡ set (now (widths .entry)) (w .at / pageSize) (w .count - getD (now (widths .entry)) (w .at / pageSize) 0) ⌝ }
 {
     let page = w.at / Settings::PAGE;
     let before = widths[page] as usize;
     widths[page] = (w.count - before) as u32;
-    let at = back[page] as usize;
+    let at = Settings::PAGE * back_at(image, Settings::PAGE * page) + back[page] as usize;
     let depth = w.depth - 1;
     let mut r = w;
     r.at = at;

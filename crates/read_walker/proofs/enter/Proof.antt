@@ -33,14 +33,14 @@ in-helper-requires c κs = search needs
 sub-t7 : tie.Need-sub-t7
 sub-t7 c = search needs
 
-add-t9 : tie.Need-add-t9
-add-t9 c = search needs
+add-t11 : tie.Need-add-t11
+add-t11 c = search needs
 
-mul-t12 : tie.Need-mul-t12
-mul-t12 c = search needs
+mul-t9 : tie.Need-mul-t9
+mul-t9 c = search needs
 
-add-t13 : tie.Need-add-t13
-add-t13 c = search needs
+add-t14 : tie.Need-add-t14
+add-t14 c = search needs
 
 same-length : tie.Need-same-length
 same-length c = search needs
@@ -69,9 +69,9 @@ enter-spec =
     slice-write-back
     in-helper-requires
     sub-t7
-    add-t9
-    mul-t12
-    add-t13
+    add-t11
+    mul-t9
+    add-t14
     same-length
     same-length-2
     returns)
