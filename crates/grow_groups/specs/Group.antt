@@ -1,15 +1,13 @@
 -- A group that a split sets apart: what the code of its record and of its proxy needs.
 use mathlib.Core.Path.{_≡_, refl, sym, ap, subst, _∙_}
 use mathlib.Core.Bool.{Bool, true, false, cond, not, _||_, or-false, false≢true, true≢false}
-use mathlib.Core.List.{List, _∷_, _++_}
+use mathlib.Core.List.{List, _++_}
 use Prim.Native.Nat.{ℕ, _+_, _*_, _<_, _≤_}
 use native.Mathlib.Omega.{arith}
-use native.Mathlib.Nat.{zero-add}
 use lib.Dec.{eqb}
-use lib.ListN.{length, take, drop, set, length-set}
-use lib.Seq.{take-at}
+use lib.ListN.{length, set, length-set}
 use Rattle.theory_row_bytes.specs.RowAt.{RowIs, row-long, row-whole}
-use Rattle.model.specs.Limits.{mostPages, capacity}
+use Rattle.model.specs.Limits.{mostPages, pageSize, capacity}
 use Rattle.model.specs.Row.{Row, nil, agg, lit, rec, size, isNil, lone, loneRec, recordSize, two, header, recordBytes, Config, noHead}
 use Rattle.model.specs.Reading.{twoAt}
 use Rattle.model.specs.Growth.{freeFrom, taken, grouped}
@@ -17,7 +15,7 @@ use Rattle.theory_rows.specs.Laws.{cond-case, isNil-nil, size-some, size-nil}
 use Rattle.theory_rows.specs.Fits.{Fits}
 use Rattle.theory_rows.specs.Pages.{or-left, free-found}
 use Rattle.theory_page_memory.specs.Memory.{WorkMem, OutMem, putMem, groupM}
-use Rattle.base_numbers.specs.Over.{over, over-right, over-then}
+use Rattle.base_numbers.specs.Over.{over, over-then}
 use Rattle.base_layout.specs.declared.Growing.{Growing}
 use Rattle.base_layout.specs.Setup.{setupOf}
 use Rattle.base_layout.specs.Growing.{pages-of}
@@ -25,7 +23,7 @@ use Rattle.theory_check.specs.Tests.{marked}
 use Rattle.theory_check.specs.Marks.{length-mark}
 use Rattle.grow_map.specs.Map.{used-marked}
 use Rattle.grow_map.specs.Search.{free-same}
-use Rattle.grow_pages.specs.Write.{setPage, pageBytesOf}
+use Rattle.grow_pages.specs.Write.{setPage, endBytes, pageBytesOf, record-written}
 use Rattle.grow_pages.specs.Links.{Below, Linked}
 use Rattle.grow_pages.specs.Relinked.{written, after-written}
 use Rattle.grow_widths.specs.Tally.{numberOf}
@@ -35,18 +33,37 @@ use Rattle.grow_groups.specs.Used.{Tables, tables, usedBy, Env, Searched
 use Rattle.grow_groups.specs.Tells.{Keeps, keeps-row, own-keeps}
 use Rattle.grow_groups.specs.Step.{InStep, Step}
 
--- ── a proxy ──
+-- ── a proxy, and a helper ──
 
 abbrev pub proxyBytes : ℕ → List ℕ
 proxyBytes q = header 3 noHead 8 ++ two q
 
+-- A helper with the nodes l.
+abbrev pub helperBytes : List ℕ → List ℕ
+helperBytes l = header 4 noHead (length l + 6) ++ l
+
+-- The header of a node, and what stands behind it.
+node-written : (at k n : ℕ) (t o a b c d : List ℕ) → at + (6 + length t) ≤ length o → a ≡ over at (two k) o → b ≡ over (at + 2) (two 0) a
+    → c ≡ over (at + 4) (two n) b → d ≡ over (at + 6) t c
+    → d ≡ over at (two k ++ two 0 ++ two n ++ t) o
+node-written at k n t o a b c d h pa pb pc pd =
+    let w1 : b ≡ over at (two k ++ two 0) o = over-then at (at + 2) (two k) (two 0) o a b pa pb refl (omega arith) in
+    let w2 : c ≡ over at (two k ++ two 0 ++ two n) o = over-then at (at + 4) (two k ++ two 0) (two n) o b c w1 pc refl (omega arith) in
+    over-then at (at + 6) (two k ++ two 0 ++ two n) t o c d w2 pd refl (omega arith)
+
 pub proxy-written : (at q : ℕ) (o a b c d : List ℕ) → at + 8 ≤ length o → a ≡ over at (two 3) o → b ≡ over (at + 2) (two 0) a → c ≡ over (at + 4) (two 8) b
     → d ≡ over (at + 6) (two q) c
     → d ≡ over at (proxyBytes q) o
-proxy-written at q o a b c d h pa pb pc pd =
-    let w1 : b ≡ over at (two 3 ++ two 0) o = over-then at (at + 2) (two 3) (two 0) o a b pa pb refl (omega arith) in
-    let w2 : c ≡ over at (two 3 ++ two 0 ++ two 8) o = over-then at (at + 4) (two 3 ++ two 0) (two 8) o b c w1 pc refl (omega arith) in
-    over-then at (at + 6) (two 3 ++ two 0 ++ two 8) (two q) o c d w2 pd refl (omega arith)
+proxy-written at q o a b c d h pa pb pc pd = node-written at 3 8 (two q) o a b c d (omega arith) pa pb pc pd
+
+pub helper-written : (q : ℕ) (l o a b c d e : List ℕ) → pageSize * q + pageSize ≤ length o → length l + 6 ≤ capacity
+    → a ≡ over (pageSize * q) (two 4) o → b ≡ over (pageSize * q + 2) (two 0) a → c ≡ over (pageSize * q + 4) (two (length l + 6)) b
+    → d ≡ over (pageSize * q + 6) l c → e ≡ over (pageSize * q + (length l + 6)) (endBytes (length l + 6) 0 0) d
+    → e ≡ setPage q (pageBytesOf (helperBytes l) 0 0) o
+helper-written q l o a b c d e h k pa pb pc pd pe =
+    let n : length l + 6 ≡ length (helperBytes l) = omega arith in
+    record-written q 0 0 (helperBytes l) o d e h (omega arith) (node-written (pageSize * q) 4 (length l + 6) l o a b c d (omega arith) pa pb pc pd)
+    (pe ∙ ap (λ (i : ℕ). over (pageSize * q + i) (endBytes i 0 0) d) n)
 
 -- ── the record of a group ──
 
@@ -100,17 +117,10 @@ module _ (l : List ℕ) (n : ℕ) (w : NewRecord l n) where
       let z : 6 + size (w .row) ≤ capacity = rw (not-lone k e h) at (w .small) in
       omega (arith, part-length)
 
-  pub more-nodes : (k : ℕ) (z a b : List ℕ) → k ≡ twoAt l 4 → (k ≡ length l → ⊥) → length z ≡ 4076
-      → a ≡ over 4 (two (length l + 6)) (4 ∷ 0 ∷ 0 ∷ 0 ∷ z) → b ≡ over 6 l a → take (length l + 6) b ≡ recordBytes (w .row)
-  unfolding over
-  more-nodes k z a b e h nz pa pb =
+  pub more-nodes : (k : ℕ) → k ≡ twoAt l 4 → (k ≡ length l → ⊥) → helperBytes l ≡ recordBytes (w .row)
+  more-nodes k e h =
       let s : 6 + size (w .row) ≡ length l + 6 = omega (arith, part-length) in
-      let hd : List ℕ = header 4 noHead (length l + 6) in
-      let t : take (length l + 6) ((hd ++ l) ++ drop (length l) (drop 2 z)) ≡ hd ++ l =
-      take-at (hd ++ l) (drop (length l) (drop 2 z)) (length l + 6) (omega arith) in
-      let v : b ≡ (hd ++ l) ++ drop (length l) (drop 2 z) =
-      pb ∙ ap (over 6 l) pa ∙ over-right 6 0 l hd (drop 2 z) refl ∙ rw (zero-add (length l)) in
-      rw (not-lone k e h, s) (ap (take (length l + 6)) v ∙ t ∙ ap (λ (y : List ℕ). hd ++ y) (w .is))
+      rw (not-lone k e h, s) (ap (λ (y : List ℕ). header 4 noHead (length l + 6) ++ y) (w .is))
 
   abbrev pub part-linked : Linked l n
   part-linked = record { row = w .row; is = w .is; below = w .below; small = omega (arith, part-length, part-fits) }

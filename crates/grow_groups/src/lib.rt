@@ -5,6 +5,7 @@ use base_numbers::copy_in;
 use base_numbers::put16;
 use grow_map::first_free;
 use grow_map::set_used;
+use grow_pages::close_record;
 use grow_pages::put_record;
 use grow_pages::relink;
 use grow_split_point::stays;
@@ -14,7 +15,7 @@ ghost use mathlib.Core.Path.{_≡_};
 ghost use mathlib.Core.Bool.{false, cond};
 ghost use Prim.Native.Nat.{_+_, _-_, _*_, _≤_, _<_};
 ghost use lib.ListN.{length, set};
-ghost use Rattle.model.specs.Limits.{mostPages, pageSize};
+ghost use Rattle.model.specs.Limits.{mostPages, pageSize, capacity};
 ghost use Rattle.model.specs.Row.{recordBytes};
 ghost use Rattle.base_numbers.specs.Over.{over};
 ghost use Rattle.grow_pages.specs.Write.{setPage, pageBytesOf};
@@ -23,7 +24,7 @@ ghost use Rattle.theory_page_memory.specs.Memory.{groupM};
 ghost use Rattle.grow_widths.specs.Tally.{numberOf};
 ghost use Rattle.grow_groups.specs.Used.{tables, Env};
 ghost use Rattle.grow_groups.specs.Step.{Step};
-ghost use Rattle.grow_groups.specs.Group.{proxyBytes, NewRecord, Grouping};
+ghost use Rattle.grow_groups.specs.Group.{proxyBytes, helperBytes, NewRecord, Grouping};
 
 // Where the written part of the separator ends, and whether a page was taken where none was free.
 pub struct Output {
@@ -42,21 +43,30 @@ pub fn put_proxy(out: &mut [u8], at: usize, q: usize)
     put16(out, at + 6, q);
 }
 
+// Writes the record of a helper with these nodes to page q. The holder is set later.
+fn put_helper(image: &mut [u8], q: usize, part: &[u8])
+    requires { ⌜ (q < mostPages) × ((pageSize * q + pageSize ≤ length (now image)) × (length (now part) + 6 ≤ capacity)) ⌝ }
+    ensures { λ _. ⌜ now (image .exit) ≡ setPage q (pageBytesOf (helperBytes (now (part .entry))) 0 0) (now (image .entry)) ⌝ }
+{
+    let base = Settings::PAGE * q;
+    let n = part.len() + 6;
+    put16(image, base, 4);
+    put16(image, base + 2, 0);
+    put16(image, base + 4, n);
+    copy_in(part, image, base + 6);
+    close_record(image, q, n, 0, 0);
+}
+
 // Writes a group's record to page q: the group itself if it is one node, else a helper with it. The holder is set later.
 pub fn put_content(image: &mut [u8], pages: usize, q: usize, part: &[u8])
     requires { ⌜ (q < mostPages) × ((pageSize * q + pageSize ≤ length (now image)) × NewRecord (now part) pages) ⌝ }
     ensures { λ _. ⌜ ((w : NewRecord (now (part .entry)) pages)
         → now (image .exit) ≡ setPage q (pageBytesOf (recordBytes (w .row)) 0 0) (now (image .entry))) ⌝ }
 {
-    let n = part.len();
-    if size_at(part, 0) == n {
+    if size_at(part, 0) == part.len() {
         put_record(image, q, part, 0, 0);
     } else {
-        let mut content = [0u8; Settings::CAPACITY];
-        content[0] = 4;
-        put16(&mut content, 4, n + 6);
-        copy_in(part, &mut content, 6);
-        put_record(image, q, &content[..n + 6], 0, 0);
+        put_helper(image, q, part);
     }
 }
 

@@ -9,8 +9,23 @@ ghost use mathlib.Core.Path.{_≡_};
 ghost use Prim.Native.Nat.{_+_, _*_, _≤_, _<_};
 ghost use lib.ListN.{length, replicate};
 ghost use Rattle.model.specs.Limits.{mostPages, pageSize, capacity};
-ghost use Rattle.grow_pages.specs.Write.{setPage, pageBytesOf};
+ghost use Rattle.base_numbers.specs.Over.{over};
+ghost use Rattle.grow_pages.specs.Write.{setPage, endBytes, pageBytesOf};
 ghost use Rattle.grow_pages.specs.Links.{Linked, links};
+
+// Ends the record of n bytes on a page: zeros from its end on, and the trailer.
+pub fn close_record(image: &mut [u8], page: usize, n: usize, settled: usize, holder: usize)
+    requires { ⌜ (page < mostPages) × ((pageSize * page + pageSize ≤ length (now image)) × ((n ≤ capacity) × ((settled ≤ 1) × (holder < mostPages)))) ⌝ }
+    ensures { λ _. ⌜ now (image .exit) ≡ over (pageSize * page + n) (endBytes n settled holder) (now (image .entry)) ⌝ }
+{
+    let base = Settings::PAGE * page;
+    clear(image, base + n, Settings::CAPACITY - n);
+    let trailer = base + Settings::CAPACITY;
+    put16(image, trailer, 1 + 256 * settled);
+    put16(image, trailer + 2, n);
+    put16(image, trailer + 4, holder);
+    clear(image, trailer + 6, 10);
+}
 
 // Writes a record with its trailer to a page.
 pub fn put_record(image: &mut [u8], page: usize, content: &[u8], settled: usize, holder: usize)
@@ -18,15 +33,8 @@ pub fn put_record(image: &mut [u8], page: usize, content: &[u8], settled: usize,
         × (holder < mostPages)))) ⌝ }
     ensures { λ _. ⌜ now (image .exit) ≡ setPage page (pageBytesOf (now (content .entry)) settled holder) (now (image .entry)) ⌝ }
 {
-    let base = Settings::PAGE * page;
-    let n = content.len();
-    copy_in(content, image, base);
-    clear(image, base + n, Settings::CAPACITY - n);
-    let trailer = base + Settings::CAPACITY;
-    put16(image, trailer, 1 + 256 * settled);
-    put16(image, trailer + 2, n);
-    put16(image, trailer + 4, holder);
-    clear(image, trailer + 6, 10);
+    copy_in(content, image, Settings::PAGE * page);
+    close_record(image, page, content.len(), settled, holder);
 }
 
 // Makes a page free: all zero.
