@@ -1,10 +1,10 @@
 -- The map of the pages in use: a bit a page, and the pages that growth never takes.
-use mathlib.Core.Path.{_≡_, refl, sym, ap, _∙_}
-use mathlib.Core.Bool.{Bool, true, false, cond, not, _||_}
+use mathlib.Core.Path.{_≡_, refl, _∙_}
+use mathlib.Core.Bool.{Bool, true, false, cond, _||_}
 use mathlib.Core.List.{List}
 use Prim.Native.Nat.{ℕ, _+_, _*_, _/_, _≤_, _<_}
 use native.Mathlib.Omega.{arith}
-use borrow.Author.Tests.{leb-true, leb-false, eqb-true, eqb-false, eq-eqb}
+use borrow.Author.Tests.{leb-true, leb-false, eqb-true, eqb-false}
 use lib.ListN.{length}
 use lib.Dec.{leb, eqb}
 use Rattle.model.specs.Limits.{markBytes}

@@ -12,7 +12,7 @@ use Rattle.model.specs.Spot.{fill, lastPage}
 use Rattle.model.specs.Growth.{Out, apart, asRow}
 use Rattle.theory_rows.specs.Laws.{length-bytes, size-⊹}
 use Rattle.theory_rows.specs.Keeps.{nodeCount-⊹}
-use Rattle.theory_growth.specs.Store.{asPlaced, placed-some}
+use Rattle.theory_growth.specs.Store.{placed-some}
 use Rattle.theory_growth.specs.Gap.{steady-lone}
 use Rattle.theory_page_memory.specs.Around.{rise-fits}
 use Rattle.grow_groups.specs.Used.{Tables}

@@ -9,7 +9,7 @@ use lib.ListN.{length, take}
 use lib.Dec.{eqb}
 use Rattle.model.specs.Limits.{pageSize, capacity}
 use Rattle.model.specs.Row as rows
-use Rattle.model.specs.Row.{Row, rec, store, _⊹_, loneRec, recordSize, recordBytes, recordPage, recordOn, count}
+use Rattle.model.specs.Row.{Row, rec, store, loneRec, recordSize, recordBytes, recordPage, recordOn, count}
 use Rattle.model.specs.Reading.{pageOf, settledAt, backAt}
 use Rattle.model.specs.Spot.{Position, fill, Chain, top, below, lastPage, whole, lastHolder, Stand}
 use Rattle.model.specs.Removal.{without}

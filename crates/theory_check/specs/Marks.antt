@@ -7,7 +7,7 @@ use Prim.Native.Nat.{ℕ, zero, suc, _-_, _*_, _/_, _%_, _^_, _<_}
 use native.Mathlib.Nat.{zero-div}
 use native.Mathlib.Omega.{arith}
 use borrow.Author.Tests.{eqb-true, eqb-false, eq-eqb, ne-eqb, ltb-true, ltb-false}
-use lib.Bits.{bitAnd, bitOr, or-lt, and-lt, or-zero-r, and-zero-r, or-shr, and-shr, or-mod, and-mod}
+use lib.Bits.{bitAnd, bitOr, or-lt, or-zero-r, and-zero-r, or-shr, and-shr, or-mod, and-mod}
 use lib.Dec.{eqb, ltb}
 use lib.ListN.{length, getD, set, replicate, length-set, length-replicate}
 use lib.Seq.{getD-set-same, getD-set-other, set-out}
@@ -141,10 +141,6 @@ module _ (m : List ℕ) (p : ℕ) (b : Bytes m) where
   pub bytes-mark : Bytes (marked m p)
   unfolding marked
   bytes-mark = bytes-set m (p / 8) _ b (or-lt 8 (getD m (p / 8) 0) (1 * 2 ^ (p % 8) % 256) (b (p / 8)) (omega arith))
-
-  pub bytes-unmark : Bytes (unmarked m p)
-  unfolding unmarked
-  bytes-unmark = bytes-set m (p / 8) _ b (and-lt 8 (getD m (p / 8) 0) (255 - 1 * 2 ^ (p % 8) % 256) (b (p / 8)) (omega arith))
 
 pub length-mark : (m : List ℕ) (p : ℕ) → length (marked m p) ≡ length m
 unfolding marked

@@ -1,13 +1,13 @@
 -- A table of how many nodes the record on each page shows, for those who would pass a record without reading it.
 use mathlib.Core.Path.{_≡_, refl, _∙_}
-use mathlib.Core.Bool.{Bool, true, false, cond}
+use mathlib.Core.Bool.{Bool, true, false}
 use mathlib.Core.List.{List}
 use Prim.Native.Nat.{ℕ, _+_, _≤_, _<_}
 use native.Mathlib.Omega.{arith}
 use lib.ListN.{length, getD}
-use lib.Dec.{leb, eqb}
-use borrow.Author.Tests.{eqb-true, leb-true, leb-false}
-use Rattle.model.specs.Row.{Row, nil, agg, lit, rec, store, _⊹_, count, Config, size}
+use lib.Dec.{leb}
+use borrow.Author.Tests.{leb-true, leb-false}
+use Rattle.model.specs.Row.{Row, nil, agg, lit, rec, _⊹_, count, Config, size}
 use Rattle.model.specs.Tree.{width}
 use Rattle.theory_rows.specs.Fits.{Fits, RecordFits}
 use Rattle.theory_rows.specs.Shows.{shape-nodeCount, nodes-shown}
@@ -48,7 +48,7 @@ told-parts u (rec p s r rest) b t = let k = told-parts u rest b (t .2) in ((t .0
 
 -- ── no record shows nothing ──
 
--- Each node of a row shows one node or more, and so does a record,
+-- Each node of a row shows one node or more, and so does a record.
 record-shown : (s : Bool) (r : Row) → RecordFits s r → Fits r → 1 ≤ width r
 record-shown s r f g = omega (arith, shape-nodeCount (f .shape), nodes-shown r g)
 
@@ -65,15 +65,3 @@ either {A = A} x y h f g = go (leb 1 x) refl
     go : (b : Bool) → leb 1 x ≡ b → A
     go true e = f (leb-true 1 x e)
     go false e = g (omega (arith, leb-false 1 x e))
-
--- and the entry of a page that is named is not 0.
-pub told-some : (u : List ℕ) (row : Row) → Fits row → Told u row → (q : ℕ) → 1 ≤ count q row → 1 ≤ getD u q 0
-told-some u nil f t q k = absurd (omega arith)
-told-some u (agg h cs rest) f t q k = either (count q cs) (count q rest) k (told-some u cs (f .1) (t .0) q) (told-some u rest (f .2) (t .1) q)
-told-some u (lit h c rest) f t q k = told-some u rest (f .3) t q k
-told-some u (rec p s r rest) f t q k = go (eqb q p) refl k (told-some u r (f .1) (t .1) q) (told-some u rest (f .2) (t .2) q)
-  where
-    go : (b : Bool) → eqb q p ≡ b → 1 ≤ cond b 1 0 + count q r + count q rest → (1 ≤ count q r → 1 ≤ getD u q 0) → (1 ≤ count q rest → 1 ≤ getD u q 0)
-        → 1 ≤ getD u q 0
-    go true e k inner after = rw (eqb-true q p e, t .0) (record-shown s r (f .0) (f .1))
-    go false e k inner after = either (count q r) (count q rest) (omega arith) inner after

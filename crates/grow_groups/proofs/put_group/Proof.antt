@@ -1,5 +1,5 @@
 -- `grow_groups::put_group`: what stays is copied, else a new record and its proxy.
-use mathlib.Core.Path.{sym, ap, _∙_}
+use mathlib.Core.Path.{sym, _∙_}
 use Prim.Native.Nat.{_+_, _<_, _≤_}
 use native.Mathlib.Omega.{arith}
 use denote.Ref.{now}

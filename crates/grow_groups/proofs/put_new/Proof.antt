@@ -1,5 +1,5 @@
 -- `grow_groups::put_new`: nothing in a dry run, else the record and its entry.
-use mathlib.Core.Path.{sym, ap, subst, _∙_}
+use mathlib.Core.Path.{ap}
 use Prim.Native.Nat.{ℕ}
 use denote.Ref.{now}
 use lib.ListN.{set}

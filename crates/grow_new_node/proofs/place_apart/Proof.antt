@@ -1,11 +1,7 @@
 -- `grow_new_node::place_apart`: the record on the page that was found, or in a dry run none, and the proxy.
-use mathlib.Core.Path.{refl, sym, ap, _∙_}
-use mathlib.Core.Bool.{cond}
-use mathlib.Core.List.{List}
+use mathlib.Core.Path.{refl, _∙_}
 use Prim.Native.Nat.{_<_}
 use native.Mathlib.Omega.{arith}
-use denote.Ref.{now}
-use Rattle.grow_pages.specs.Write.{setPage, pageBytesOf}
 use Rattle.grow_groups.specs.Used.{found-inside}
 use borrow.Author.Needs.{needs}
 use Rattle.grow_new_node.proofs.place_apart.Statement.{statement}
