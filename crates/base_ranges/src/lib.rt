@@ -1,4 +1,5 @@
-// The ranges that format and the check test: of an image's length, and of the settings with their split matrix.
+// The ranges that format and the check test: of an image's length, and of the settings with their split matrix; and the size of the
+// tables that have an entry for each page.
 use model::Settings;
 ghost use mathlib.Core.Path.{_≡_};
 ghost use Rattle.model.specs.Row.{every, isEntry, inRange};

@@ -1,4 +1,4 @@
--- An insert's answer and image: from its tests, its dry run and its run to the definition.
+-- An insert's answer and image: from its tests, whether a page is missing, and its run to the definition.
 use mathlib.Core.Path.{_≡_, refl, sym, ap, subst, _∙_}
 use mathlib.Core.Bool.{Bool, true, false}
 use mathlib.Core.List.{List, _++_}

@@ -1,4 +1,4 @@
--- The table of an insert: with one node more before growth, and the new store's after it.
+-- The table of an insert, with one node more before growth, and the new store's table and map after it.
 use mathlib.Core.Path.{_≡_, refl, sym, ap, subst, _∙_}
 use mathlib.Core.Bool.{Bool, true, false, _||_}
 use mathlib.Core.List.{List}

@@ -1,10 +1,12 @@
 -- Growth that splits nothing and takes no page: the record with the node fits, and the matrix does not set the node apart.
 use mathlib.Core.Path.{_≡_, refl, sym, ap, _∙_}
-use mathlib.Core.Bool.{Bool, false, cond}
+use mathlib.Core.Bool.{Bool, true, false, cond, _||_, true≢false}
 use mathlib.Core.List.{List}
 use Prim.Native.Nat.{ℕ, _+_, _*_, _<_, _≤_}
 use native.Mathlib.Omega.{arith}
+use borrow.Author.Tests.{ltb-false}
 use lib.ListN.{length}
+use lib.Dec.{ltb}
 use Rattle.model.specs.Limits.{pageSize, capacity}
 use Rattle.model.specs.Row.{nil, _⊹_, nodeCount, size, lone, recordSize}
 use Rattle.model.specs.Reading.{usedAt}
@@ -45,7 +47,21 @@ module _ {dry : Bool} {img : List ℕ} {u : Tables} {above : ℕ} {t : Receiver}
           stands w .used,
         )
 
-    pub takes-none : false ≡ new w .1 .full
-    takes-none =
+    quiet-growth : false ≡ new w .1 .full
+    quiet-growth =
         let quiet : O w .1 .full ≡ false = rw e refl in
         sym (ap (λ (o : Out). o .1 .full) (sym (goal-is w) ∙ rise-fits (st w) (c w) (fill (s w) (rest w)) (row w, O w .1) (grows w .fits) small) ∙ quiet)
+
+  -- Whether growth wants a page: the matrix sets the node apart, or the record does not fit with it.
+  abbrev pub wanted : Bool
+  wanted = apart (st w) (h w) (w .x .head) || ltb capacity (usedAt img (pageSize * t .page) + length node)
+
+  pub by-matrix : {b : Bool} → apart (st w) (h w) (w .x .head) ≡ b → b || ltb capacity (usedAt img (pageSize * t .page) + length node) ≡ wanted
+  by-matrix e = sym (ap (λ (b : Bool). b || ltb capacity (usedAt img (pageSize * t .page) + length node)) e)
+
+  pub takes-none : wanted ≡ false → false ≡ new w .1 .full
+  takes-none = go (apart (st w) (h w) (w .x .head)) refl
+    where
+      go : (b : Bool) → apart (st w) (h w) (w .x .head) ≡ b → b || ltb capacity (usedAt img (pageSize * t .page) + length node) ≡ false → false ≡ new w .1 .full
+      go true _ e = absurd (true≢false e)
+      go false a e = quiet-growth a (ltb-false capacity (usedAt img (pageSize * t .page) + length node) e)

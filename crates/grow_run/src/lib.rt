@@ -1,4 +1,5 @@
-// One run of an insert on an image that passes the check: the node goes into the record that takes it, and growth goes on from there.
+// One run of an insert on an image that passes the check: the node goes into the record that takes it, and growth goes on from there; and, before it, whether a
+// page is missing.
 use base_layout::Growing;
 use base_layout::Setup;
 use base_layout::label_at;
@@ -12,7 +13,7 @@ use grow_new_node::place_node;
 use grow_splice::splice;
 use model::Settings;
 ghost use mathlib.Core.Path.{_≡_};
-ghost use mathlib.Core.Bool.{true, false};
+ghost use mathlib.Core.Bool.{true};
 ghost use lib.ListN.{length};
 ghost use Rattle.model.specs.Row.{recordSize, recordBytes};
 ghost use Rattle.base_numbers.specs.Over.{over};
@@ -21,6 +22,7 @@ ghost use Rattle.base_layout.specs.Growing.{bufferSize};
 ghost use Rattle.grow_groups.specs.Used.{Tables, tables};
 ghost use Rattle.grow_run.specs.Taken.{Taken, taken};
 ghost use Rattle.grow_run.specs.Begin.{Begin, new, Inserted};
+ghost use Rattle.grow_run.specs.Unsplit.{wanted};
 
 // Writes to the front of buf the record on the page with the new node's bytes at byte `at`, in the node at par, and gives its length.
 fn take_in(image: &[u8], page: usize, at: usize, par: usize, new: &[u8], buf: &mut [u8]) -> usize
@@ -63,7 +65,7 @@ pub fn once(
     cascade(image, widths, map, g, &mut buf, len, f.full)
 }
 
-// Whether growth takes a page for the node: the matrix sets it apart, or the record that takes it does not fit with it.
+// Whether growth wants a page for the node: the matrix sets it apart, or the record that takes it does not fit with it.
 fn wants_page(
     image: &[u8],
     setup: Setup,
@@ -73,7 +75,7 @@ fn wants_page(
     node: &[u8],
 ) -> bool
     requires { ⌜ ((u : Tables) × Begin true (now image) u parent t label (now node)) × (setup ≡ setupOn (now image)) ⌝ }
-    ensures { λ r. ⌜ ((u : Tables) (w : Begin true (now (image .entry)) u parent t label (now (node .entry))) → r ≡ false → false ≡ new w .1 .full) ⌝ }
+    ensures { λ r. ⌜ ((u : Tables) (w : Begin true (now (image .entry)) u parent t label (now (node .entry))) → r ≡ wanted w) ⌝ }
 {
     if is_apart(image, setup, label_at(image, parent), label) {
         return true;

@@ -1,5 +1,5 @@
 -- `grow_run::is_full`: no page is wanted, or the dry run on a copy of the map tells.
-use mathlib.Core.Path.{_≡_, refl, sym, subst}
+use mathlib.Core.Path.{_≡_, refl, sym, subst, _∙_}
 use mathlib.Core.List.{List}
 use Prim.Native.Nat.{ℕ}
 use borrow.Author.Tests.{not-true}
@@ -9,6 +9,7 @@ use lib.Seq.{length-take-le}
 use Rattle.model.specs.Limits.{markBytes}
 use Rattle.base_numbers.specs.Over.{take-over}
 use Rattle.grow_run.specs.Begin.{with-map}
+use Rattle.grow_run.specs.Unsplit.{takes-none}
 use borrow.Author.Needs.{needs}
 use Rattle.grow_run.proofs.is_full.Statement.{statement}
 use Rattle.grow_run.proofs.is_full.Tie as tie
@@ -20,7 +21,7 @@ same-length : tie.Need-same-length
 same-length c = search needs
 
 returns : tie.Need-returns
-returns c = (λ w. c .before .wants-page .ensures _ w (not-true _ (c .if1 .taken)), (refl, refl))
+returns c = (λ w. takes-none w (sym (c .before .wants-page .ensures _ w) ∙ not-true _ (c .if1 .taken)), (refl, refl))
 
 slice-aggregate-copy-in : tie.Need-slice-aggregate-copy-in
 slice-aggregate-copy-in c = search needs
