@@ -171,7 +171,7 @@ class Larder:
     def __init__(self, rng, counts, out, limit):
         self.rng, self.counts, self.out, self.limit = rng, counts, out, limit
         share = rng.choice((0, 0, 0.02, 0.1, 0.3, 0.5, 0.9))      # of pairs that are apart; they take many pages
-        ranges = ((2, 5), (2, 5), (6, 12), (6, 12), (6, 12), (13, 40), (13, 40), (41, 100), (101, 200))
+        ranges = ((2, 5), (2, 5), (6, 12), (6, 12), (6, 12), (13, 40), (13, 40), (63, 66), (41, 100), (101, 200))    # tables of 64 entries up to 64 pages
         self.pages = rng.randint(*rng.choice(ranges if share < 0.2 else ranges[3:]))
         target = counts.target(rng)
         tolerance = rng.choice((0, 7, 20, 409, 512, rng.randint(0, 100), rng.randint(0, 512)))
