@@ -1,4 +1,6 @@
 // How the bytes of an image are laid out: a node's header, a page's trailer, page 0.
+#![tactic(auto)]
+
 ghost use Rattle.std.specs.Prelude.{◌≡◌, ◌+◌, ◌≤◌, ◌<◌, length};
 ghost use Rattle.model.specs.Limits.{page_size, settings_size};
 ghost use Rattle.model.specs.Reading.{head_at, size_at, name_at, settled_at, used_at, back_at};
@@ -69,7 +71,7 @@ pub fn back_at(s: &[u8], start: usize) -> usize
 // ── page 0 ──
 
 // What the calls need of it; the split matrix is read where it stands.
-#[derive(Drop)]
+#[derive(Clone, Copy)]
 pub struct Setup {
     pub pages: usize,
     pub target: usize,
@@ -92,7 +94,7 @@ pub fn setup_on(image: &[u8]) -> Setup
 // ── growth ──
 
 // What an insert's functions hand on: page 0, the page from which a free one is counted, and whether the run is dry, that is leaves the image.
-#[derive(Drop)]
+#[derive(Clone, Copy)]
 pub struct Growing {
     pub setup: Setup,
     pub near: usize,

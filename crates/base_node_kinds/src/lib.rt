@@ -1,4 +1,6 @@
 // The fixed table of what may stand where, which the check and the split consult.
+#![tactic(auto)]
+
 ghost use Rattle.std.specs.Prelude.{◌≡◌, ◌<◌};
 ghost use Rattle.model.specs.Row.{may_stand};
 ghost use Rattle.base_node_kinds.specs.Holders.{kinds_in};
@@ -27,7 +29,7 @@ pub fn may_stand(holder: usize, kind: usize) -> bool
 // ── asked once for a row of nodes ──
 
 // Which kinds of node may stand in a row.
-#[derive(Drop)]
+#[derive(Clone, Copy)]
 pub struct Kinds {
     pub aggregate: bool,
     pub literal: bool,

@@ -1,4 +1,6 @@
 // Reads and writes of bytes in a slice: the leaves.
+#![tactic(auto)]
+
 ghost use Rattle.std.specs.Prelude.{◌≡◌, ◌+◌, ◌≤◌, ◌<◌, length, replicate};
 ghost use Rattle.model.specs.Row as row;
 ghost use Rattle.model.specs.Reading.{two_at};

@@ -1,5 +1,7 @@
 // The ranges that format and the check test: of an image's length, and of the settings with their split matrix; and the size of the
 // tables that have an entry for each page.
+#![tactic(auto)]
+
 ghost use Rattle.std.specs.Prelude.{◌≡◌};
 ghost use Rattle.model.specs.Row.{every, is_entry, in_range};
 ghost use Rattle.model.specs.Reading.{length_ok};
@@ -25,7 +27,7 @@ pub fn length_ok(n: usize) -> bool
 pub const FEW: usize = 64;
 
 // The sizes of such tables: FEW entries, or one for each page that an image may have.
-#[derive(Drop)]
+#[derive(Clone, Copy)]
 pub enum Tables {
     Few,
     Many,

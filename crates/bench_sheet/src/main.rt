@@ -1,4 +1,6 @@
 // The lines of the bench sheet that are executed: settings out of range, and wrong lengths. What is printed is compared with `stdout`.
+#![tactic(auto)]
+
 ghost use Rattle.std.specs.Prelude.{◌≡◌, length};
 
 use model::Settings;

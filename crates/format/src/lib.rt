@@ -1,4 +1,6 @@
 // Formatting: the two pages of a store with a root aggregate alone, and the call.
+#![tactic(auto)]
+
 ghost use Rattle.std.specs.Prelude.{◌≡◌, true, ◌&&◌, ◌*◌, length, eqb};
 ghost use Rattle.model.specs.Row as row;
 ghost use Rattle.model.specs.Limits.{page_size};

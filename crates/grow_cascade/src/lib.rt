@@ -1,4 +1,6 @@
 // From the record that an insert changed upwards: each record is written, or split, and the separator of one that is not settled goes to the record above.
+#![tactic(auto)]
+
 ghost use Rattle.std.specs.Prelude.{◌≡◌, length, pos};
 ghost use Rattle.base_layout.specs.Growing.{buffer_size};
 ghost use Rattle.grow_groups.specs.Used.{tables};
@@ -12,7 +14,7 @@ use grow_write_back::{keep, split_off};
 use model::Settings;
 
 // What growth counted: whether a page was taken where none was free, the records split, the lean of the first split.
-#[derive(Drop)]
+#[derive(Clone, Copy)]
 pub struct Grown {
     pub full: bool,
     pub splits: u32,

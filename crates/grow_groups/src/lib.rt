@@ -1,4 +1,6 @@
 // A group of a split in its bytes: it stays, or becomes a record on a free page and its proxy takes its place.
+#![tactic(auto)]
+
 ghost use Rattle.std.specs.Prelude.{◌≡◌, false, cond, ◌+◌, ◌-◌, ◌*◌, ◌≤◌, ◌<◌, length, set};
 ghost use Rattle.model.specs.Limits.{most_pages, page_size, capacity};
 ghost use Rattle.model.specs.Row.{record_bytes};
@@ -20,7 +22,7 @@ use grow_widths::number;
 use model::Settings;
 
 // Where the written part of the separator ends, and whether a page was taken where none was free.
-#[derive(Drop)]
+#[derive(Clone, Copy)]
 pub struct Output {
     pub end: usize,
     pub full: bool,

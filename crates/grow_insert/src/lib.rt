@@ -1,4 +1,6 @@
 // An insert on an image that passes the check: its refusals, among them that no page is free, then a run that writes.
+#![tactic(auto)]
+
 ghost use Rattle.std.specs.Prelude.{◌≡◌};
 ghost use Rattle.model.specs.Answers.{insert_refused};
 ghost use Rattle.model.specs.Calls.Check.{check_of};

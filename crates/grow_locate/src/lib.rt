@@ -1,4 +1,6 @@
 // Where a child of a node stands, and where a new one goes, on an image that passes the check.
+#![tactic(auto)]
+
 ghost use Rattle.std.specs.Prelude.{◌≡◌, true, suc, ◌+◌, ◌≤◌, ◌<◌, length};
 ghost use Rattle.model.specs.Limits.{most_pages};
 ghost use Rattle.model.specs.Reading.{size_at, name_at};
@@ -15,7 +17,7 @@ use read_find::{row_end, row_start};
 
 // The page of the record that takes the node, and the bytes of the record where it goes and where its parent stands; 0 if the record does not hold the parent.
 // It is `deep` records down from the one that does, each a helper that shows children of the parent.
-#[derive(Drop)]
+#[derive(Clone, Copy)]
 pub struct Receiver {
     pub page: usize,
     pub at: usize,
@@ -24,14 +26,14 @@ pub struct Receiver {
 }
 
 // The receiver, if there is one.
-#[derive(Drop)]
+#[derive(Clone, Copy)]
 pub struct Sighted {
     pub found: bool,
     pub receiver: Receiver,
 }
 
 // Found: the byte of the image where a node stands and the byte past it, and the offset of its parent and the records down to it as `Receiver` has them.
-#[derive(Drop)]
+#[derive(Clone, Copy)]
 pub struct Located {
     pub found: bool,
     pub at: usize,
@@ -41,7 +43,7 @@ pub struct Located {
 }
 
 // Nodes that follow one another in a record, from the byte `pos` of the image to `end`; `par` and `deep` as above.
-#[derive(Drop)]
+#[derive(Clone, Copy)]
 pub struct Span {
     pub pos: usize,
     pub end: usize,
@@ -50,7 +52,7 @@ pub struct Span {
 }
 
 // What a search finds: the node, and nodes of which the first shown is the next one; none if there is no next one.
-#[derive(Drop)]
+#[derive(Clone, Copy)]
 struct Sought {
     node: Located,
     after: Span,

@@ -1,4 +1,6 @@
 // The map of the pages in use, a bit a page: by it an insert or a removal knows which pages are free. Pages 0 and 1 and those past the image's end are set.
+#![tactic(auto)]
+
 ghost use Rattle.std.specs.Prelude.{◌≡◌, ℕ, ◌+◌, ◌*◌, ◌/◌, ◌≤◌, ◌<◌, length, get_or};
 ghost use Rattle.model.specs.Row.{Config};
 ghost use Rattle.model.specs.Growth.{free_from};

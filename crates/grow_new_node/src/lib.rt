@@ -1,4 +1,6 @@
 // The start of an insert, on an image that passes the check: the new node's bytes, and its own record if it is set apart.
+#![tactic(auto)]
+
 ghost use Rattle.std.specs.Prelude.{◌≡◌, true, cond, ◌+◌, ◌*◌, ◌≤◌, ◌<◌, length, set};
 ghost use Rattle.model.specs.Limits.{most_pages, page_size, capacity};
 ghost use Rattle.model.specs.Row.{Head, Row, nil, size, bytes, lone, Config};
@@ -20,7 +22,7 @@ use grow_map::{first_free, set_used};
 use grow_pages::put_record;
 
 // How many bytes stand for the new node in its row, and whether a page was taken where none was free.
-#[derive(Drop)]
+#[derive(Clone, Copy)]
 pub struct Fresh {
     pub size: usize,
     pub full: bool,

@@ -1,4 +1,6 @@
 // The page writes of an insert: a record on its page, a page cleared, back links.
+#![tactic(auto)]
+
 ghost use Rattle.std.specs.Prelude.{◌≡◌, ◌+◌, ◌*◌, ◌≤◌, ◌<◌, length, replicate};
 ghost use Rattle.model.specs.Limits.{most_pages, page_size, capacity};
 ghost use Rattle.base_numbers.specs.Over.{over};

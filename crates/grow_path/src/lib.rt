@@ -1,5 +1,7 @@
 // The path of an insert's new node, by which its place is found in the image that growth leaves. It is written before growth: the caller's path may lie in the
 // image.
+#![tactic(auto)]
+
 ghost use Rattle.std.specs.Prelude.{◌≡◌, ◌++◌, ◌+◌, ◌≤◌, length, take};
 ghost use Rattle.model.specs.Limits.{longest_path, longest_parent};
 ghost use Rattle.model.specs.Common.{four};

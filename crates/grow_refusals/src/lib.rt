@@ -1,4 +1,6 @@
 // Every refusal of an insert but a full store's, on an image that passes the check.
+#![tactic(auto)]
+
 ghost use Rattle.std.specs.Prelude.{◌≡◌, false, ℕ, ◌+◌, ◌*◌};
 ghost use Rattle.model.specs.Limits.{page_size};
 ghost use Rattle.model.specs.Row.{Row, Config};
@@ -17,7 +19,7 @@ use model::Settings;
 use read_find::find_in;
 
 // The refusal number of an insert but for a full store; if it is 0, the byte of the image at which the parent stands, and where the node goes.
-#[derive(Drop)]
+#[derive(Clone, Copy)]
 pub struct Admitted {
     pub number: u32,
     pub parent: usize,

@@ -1,4 +1,6 @@
 // One step of a cascade: a separator in the place of the proxy to the record that was split.
+#![tactic(auto)]
+
 ghost use Rattle.std.specs.Prelude.{◌≡◌, ◌≤◌, length};
 ghost use Rattle.model.specs.Row.{record_size, record_bytes};
 ghost use Rattle.base_numbers.specs.Over.{over};

@@ -1,5 +1,7 @@
 // One run of an insert on an image that passes the check: the node goes into the record that takes it, and growth goes on from there; and, before it, whether a
 // page is missing.
+#![tactic(auto)]
+
 ghost use Rattle.std.specs.Prelude.{◌≡◌, true, length};
 ghost use Rattle.model.specs.Row.{record_size, record_bytes};
 ghost use Rattle.base_numbers.specs.Over.{over};

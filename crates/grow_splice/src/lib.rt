@@ -1,4 +1,6 @@
 // Bytes put into a record or taken out of it, in a lent buffer.
+#![tactic(auto)]
+
 ghost use Rattle.std.specs.Prelude.{◌≡◌, ◌+◌, ◌≤◌, ◌<◌, length};
 ghost use Rattle.model.specs.Row.{record_size, record_bytes};
 ghost use Rattle.base_numbers.specs.Over.{over};

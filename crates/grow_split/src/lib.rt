@@ -1,4 +1,6 @@
 // The split of a record in its bytes: the groups of each level become records on free pages, the separator's row is written out.
+#![tactic(auto)]
+
 ghost use Rattle.std.specs.Prelude.{◌≡◌, ◌-◌, ◌≤◌, ◌<◌, length};
 ghost use Rattle.model.specs.Growth.{start_of_d};
 ghost use Rattle.base_layout.specs.Growing.{separator_size};
@@ -12,7 +14,7 @@ use grow_groups::put_group;
 use grow_split_point::{child, enters, first_node};
 
 // The children of a separator node, or a record's row, from pos to end of the record, and the split point.
-#[derive(Drop)]
+#[derive(Clone, Copy)]
 pub struct Children {
     pub pos: usize,
     pub end: usize,
@@ -20,7 +22,7 @@ pub struct Children {
 }
 
 // Where the separator's row ends in out, whether a page was taken where none was free, and where d starts in the record.
-#[derive(Drop)]
+#[derive(Clone, Copy)]
 pub struct Split {
     pub end: usize,
     pub full: bool,

@@ -1,4 +1,6 @@
 // Where a record splits: the split point, where its row starts, the child of a level that is chosen, whether the split goes on inside it.
+#![tactic(auto)]
+
 ghost use Rattle.std.specs.Prelude.{◌≡◌, ◌||◌, ℕ, ◌+◌, ◌≤◌, ◌<◌, length};
 ghost use Rattle.std.proofs.Math.IntN.{sub_ℕ};
 ghost use Rattle.model.specs.Row.{Row, bytes, is_nil, lone_rec, base, Config};

@@ -1,4 +1,6 @@
 // The table of how many nodes the record on each page shows, as an insert or a removal leaves it.
+#![tactic(auto)]
+
 ghost use Rattle.std.specs.Prelude.{◌≡◌, ◌≤◌};
 ghost use Rattle.grow_widths.specs.Tally.{tallied, most_entry, entry_of, number_of};
 ghost use Rattle.grow_widths.specs.Tallying.{Counting};

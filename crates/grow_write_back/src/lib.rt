@@ -1,4 +1,6 @@
 // What an insert does to the record that it changed: the record goes back to its page, or it is split.
+#![tactic(auto)]
+
 ghost use Rattle.std.specs.Prelude.{◌≡◌, Bool, cond, ◌+◌, ◌*◌, ◌/◌, ◌≤◌, ◌<◌, length};
 ghost use Rattle.model.specs.Limits.{most_pages, page_size};
 ghost use Rattle.model.specs.Growth.{lean_of};
@@ -15,7 +17,7 @@ use grow_split::separator;
 use grow_split_point::{first_node, lean, split_point};
 
 // Where the separator's row ends in out, whether a page was taken where none was free, and the lean.
-#[derive(Drop)]
+#[derive(Clone, Copy)]
 pub struct Divided {
     pub end: usize,
     pub full: bool,

@@ -1,4 +1,6 @@
 // Lists an image of up to 15 pages that stands on standard input.
+#![tactic(auto)]
+
 ghost use Rattle.std.specs.Prelude.{◌≡◌, length};
 
 // Room for the longest listing. The `ensures` gives only the length, which lending the array needs.

@@ -1,4 +1,6 @@
 // The lines that the listing program prints, each written to a lent buffer.
+#![tactic(auto)]
+
 ghost use Rattle.std.specs.Prelude.{◌≡◌, [], ◌∷◌, ◌<◌};
 ghost use Rattle.listing_lines.specs.Text.{digit, decimal_of, hex_of, content_of, line_of, head_line, refused_line};
 ghost use Rattle.listing_lines.specs.Digits.{fields_of};

@@ -1,4 +1,6 @@
 // The text that the listing program prints for an input, written to a lent buffer.
+#![tactic(auto)]
+
 ghost use Rattle.std.specs.Prelude.{◌≡◌, ◌≤◌, length};
 ghost use Rattle.model.specs.Calls.Check.{check_of};
 ghost use Rattle.listing_lines.specs.Text.{listing_on, printed};
@@ -13,7 +15,7 @@ use read_find::{row_end, row_start};
 use read_records::count_pages;
 
 // The row that a node holds: where it starts and ends, and the level of its nodes.
-#[derive(Drop)]
+#[derive(Clone, Copy)]
 pub struct Extent {
     pub start: usize,
     pub stop: usize,

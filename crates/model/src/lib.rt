@@ -1,9 +1,11 @@
 // The types of the calls' arguments and answers. What the calls do is in specs/.
+#![tactic(auto)]
+
 ghost use Rattle.std.specs.Prelude.{◌≡◌};
 ghost use Rattle.model.specs.Answers.{kind_number, origin_number, usual_settings, usual_matrix, the_limits};
 
 // The numbers of the settings; the split matrix goes beside them as a slice, since one of any length may be handed over.
-#[derive(Drop)]
+#[derive(Clone, Copy)]
 pub struct Settings {
     pub pages: usize,
     pub target: usize,
@@ -88,7 +90,7 @@ impl Settings {
 }
 
 // The limits, each under its name.
-#[derive(Drop)]
+#[derive(Clone, Copy)]
 pub struct Limits {
     pub page: usize,
     pub capacity: usize,
@@ -108,13 +110,13 @@ pub struct Limits {
 }
 
 // Where a node starts: a page, and a byte offset in it.
-#[derive(Drop)]
+#[derive(Clone, Copy)]
 pub struct Place {
     pub page: usize,
     pub offset: usize,
 }
 
-#[derive(Drop)]
+#[derive(Clone, Copy)]
 pub enum Kind {
     Aggregate,
     Literal,
@@ -132,7 +134,7 @@ impl Kind {
 }
 
 // Where a node came from: seen on the wire, read from a store, typed in, or derived.
-#[derive(Drop)]
+#[derive(Clone, Copy)]
 pub enum Origin {
     Wire,
     Stored,
@@ -154,27 +156,27 @@ impl Origin {
 }
 
 // The following node in document order, or the end.
-#[derive(Drop)]
+#[derive(Clone, Copy)]
 pub struct NextNode {
     pub place: Place,
     pub kind: Kind,
     pub origin: Origin,
 }
 
-#[derive(Drop)]
+#[derive(Clone, Copy)]
 pub enum Next {
     Node(NextNode),
     End,
 }
 
 // Answers: `number` is 0, or the refusal's number with zeros in the other fields.
-#[derive(Drop)]
+#[derive(Clone, Copy)]
 pub struct NextAnswer {
     pub number: u32,
     pub next: Next,
 }
 
-#[derive(Drop)]
+#[derive(Clone, Copy)]
 pub struct InsertAnswer {
     pub number: u32,
     pub place: Place,
@@ -182,21 +184,21 @@ pub struct InsertAnswer {
     pub lean: i32,
 }
 
-#[derive(Drop)]
+#[derive(Clone, Copy)]
 pub struct FindAnswer {
     pub number: u32,
     pub place: Place,
 }
 
 // Of climb and records: the bytes written to the front of the lent buffer.
-#[derive(Drop)]
+#[derive(Clone, Copy)]
 pub struct WriteAnswer {
     pub number: u32,
     pub written: usize,
 }
 
 // Of walk: how many entries were written, 1 if more nodes follow, else 0, and the place of the first that was not written.
-#[derive(Drop)]
+#[derive(Clone, Copy)]
 pub struct WalkAnswer {
     pub number: u32,
     pub written: usize,
@@ -205,7 +207,7 @@ pub struct WalkAnswer {
 }
 
 // Of diagnose: the check's number, and where that is 3 the stage, the page at fault and the reason.
-#[derive(Drop)]
+#[derive(Clone, Copy)]
 pub struct Diagnosis {
     pub number: u32,
     pub stage: u32,
@@ -214,7 +216,7 @@ pub struct Diagnosis {
 }
 
 // Of read: the content is the part of the image that starts at `start` and has `len` bytes.
-#[derive(Drop)]
+#[derive(Clone, Copy)]
 pub struct ReadNode {
     pub number: u32,
     pub kind: u32,

@@ -1,4 +1,6 @@
 // The entry points for C, as include/nichelarder.h declares them: numbers and byte buffers, over the proved calls.
+#![tactic(auto)]
+
 ghost use Rattle.std.specs.Prelude.{◌≡◌};
 ghost use Rattle.model.specs.Answers.{next_numbers};
 ghost use Rattle.model.specs.Calls.Format.{format_of};

@@ -1,4 +1,6 @@
 // The check of an image: its length, the part before the walk, then the walk.
+#![tactic(auto)]
+
 ghost use Rattle.std.specs.Prelude.{◌≡◌, true, ◌*◌, ◌≤◌, length, replicate};
 ghost use Rattle.model.specs.Limits.{most_pages, mark_bytes, page_size};
 ghost use Rattle.model.specs.Reading.{length_ok};

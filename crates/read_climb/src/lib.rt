@@ -1,4 +1,6 @@
 // The path of a node, from its place up to the root.
+#![tactic(auto)]
+
 ghost use Rattle.std.specs.Prelude.{◌≡◌, ◌+◌, ◌<◌, length};
 ghost use Rattle.model.specs.Limits.{longest_path};
 ghost use Rattle.model.specs.Calls.Check.{check_of};
@@ -28,7 +30,7 @@ fn nodes_in(image: &[u8], widths: &[u32], i: usize) -> usize
 }
 
 // A node of a row, and how many nodes the row shows before it.
-#[derive(Drop)]
+#[derive(Clone, Copy)]
 struct Child {
     at: usize,
     before: usize,
@@ -49,7 +51,7 @@ fn child_at(image: &[u8], widths: &[u32], pos: usize, target: usize) -> Child
 }
 
 // Where the path written so far starts, and the number of the node that it goes on from.
-#[derive(Drop)]
+#[derive(Clone, Copy)]
 struct Traced {
     at: usize,
     index: usize,

@@ -1,4 +1,6 @@
 // A walk's cursor: where an entry goes, the entry of a node, past a node or into it, and out of an aggregate with its children counted.
+#![tactic(auto)]
+
 ghost use Rattle.std.specs.Prelude.{◌≡◌, cond, List, ℕ, ◌+◌, ◌-◌, ◌≤◌, ◌<◌, length, set, eqb};
 ghost use Rattle.std.proofs.lemmas.List.Edits.{sets};
 ghost use Rattle.model.specs.Reading.{kind_at, head_at};
@@ -16,7 +18,7 @@ pub const STACK: usize = 3 * (Settings::LEVELS + 1);
 
 // Where a walk over a record is: at byte i of a row that ends at `end`, whose nodes have the level, and of which n are passed. `at` is 0 while the node is
 // sought with which the entries begin, else one more than the numbers written; `next` is where the first node stands for which there was no room, else 0.
-#[derive(Drop)]
+#[derive(Clone, Copy)]
 pub struct Cursor {
     pub i: usize,
     pub end: usize,
@@ -27,7 +29,7 @@ pub struct Cursor {
 }
 
 // Where the next entry goes, and the first node for which there was no room.
-#[derive(Drop)]
+#[derive(Clone, Copy)]
 pub struct Told {
     pub at: usize,
     pub next: usize,

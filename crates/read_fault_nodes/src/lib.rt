@@ -1,4 +1,6 @@
 // What a node leads into, for the walk of a diagnosis: a row of nodes, or the page in which the walk stops and why.
+#![tactic(auto)]
+
 ghost use Rattle.std.specs.Prelude.{◌≡◌, true, ◌+◌, ◌≤◌};
 ghost use Rattle.model.specs.Limits.{most_levels};
 ghost use Rattle.theory_check.specs.Check.{PassedBefore};
@@ -25,7 +27,7 @@ const BAD_PROXY: u32 = 8;
 
 // A row of nodes: its bytes, the kind of what holds them, their level, and what is left to be reached; or, if the reason is not 0, the page in which the
 // walk stops. A row's page is the one that it starts in.
-#[derive(Drop)]
+#[derive(Clone, Copy)]
 pub struct Inner {
     pub start: usize,
     pub stop: usize,
@@ -174,7 +176,7 @@ pub fn first(
 // ── the walk ──
 
 // What a walk leaves to be reached; or, if the reason is not 0, the page in which it has stopped.
-#[derive(Drop)]
+#[derive(Clone, Copy)]
 pub struct Walked {
     pub left: usize,
     pub page: usize,

@@ -1,4 +1,6 @@
 // The walk of a diagnosis: a row of nodes, each followed by the row that it leads into, to the page in which it stops and why.
+#![tactic(auto)]
+
 ghost use Rattle.std.specs.Prelude.{◌≡◌, true, ◌*◌, ◌≤◌, length};
 ghost use Rattle.model.specs.Limits.{most_pages, page_size};
 ghost use Rattle.model.specs.Reading.{length_ok, used_at};

@@ -1,4 +1,6 @@
 // Diagnose: why an image does not pass the check, that is, the stage that finds it, the page at fault, and a reason.
+#![tactic(auto)]
+
 ghost use Rattle.std.specs.Prelude.{◌≡◌, true, cond, List, ℕ, ◌-◌, ◌*◌, ◌≤◌, length, eqb};
 ghost use Rattle.model.specs.Limits.{most_pages, page_size};
 ghost use Rattle.model.specs.Row.{every};

@@ -1,4 +1,6 @@
 // Down the tree of an image that passes the check: how many nodes a row shows, the k-th of them, and the node that a path names.
+#![tactic(auto)]
+
 ghost use Rattle.std.specs.Prelude.{◌≡◌, ◌+◌, ◌*◌, ◌<◌, length};
 ghost use Rattle.model.specs.Limits.{most_pages};
 ghost use Rattle.model.specs.Tree as tree;
@@ -55,7 +57,7 @@ pub fn width(image: &[u8], widths: &[u32], pos: usize, end: usize) -> usize
 }
 
 // Found: the byte at which a node starts; else how many of the nodes to pass are left.
-#[derive(Drop)]
+#[derive(Clone, Copy)]
 pub struct NthNode {
     pub found: bool,
     pub at: usize,

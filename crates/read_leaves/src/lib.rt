@@ -1,4 +1,6 @@
 // Aggregates that hold nothing to be walked.
+#![tactic(auto)]
+
 ghost use Rattle.std.specs.Prelude.{◌≡◌, true, ◌≤◌, length, drop};
 ghost use Rattle.model.specs.Limits.{most_levels};
 ghost use Rattle.read_leaves.specs.Leafy.{Leafy};

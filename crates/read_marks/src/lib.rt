@@ -1,5 +1,7 @@
 // Whether the walk may enter the page that a proxy names: by the page's trailer, its record's root, the marks of the pages reached, and the zeros past the
 // record.
+#![tactic(auto)]
+
 ghost use Rattle.std.specs.Prelude.{◌≡◌, ◌+◌, ◌*◌, ◌≤◌, ◌<◌, length};
 ghost use Rattle.model.specs.Limits.{most_pages, page_size, capacity};
 ghost use Rattle.model.specs.Reading.{used_at};

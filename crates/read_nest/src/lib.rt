@@ -1,4 +1,6 @@
 // A walk's way through records that are nested in one another: into the record of a proxy, and back out behind it.
+#![tactic(auto)]
+
 ghost use Rattle.std.specs.Prelude.{◌≡◌, cond, ◌+◌, ◌/◌, ◌≤◌, ◌<◌, length, set, eqb};
 ghost use Rattle.model.specs.Limits.{most_pages, most_levels, page_size};
 ghost use Rattle.theory_layout.specs.Here.{PageIn};
@@ -12,7 +14,7 @@ use read_find::{row_end, row_start};
 
 // The records that a walk is in: the nodes of the innermost have the level `base`. `depth` of them are nested, and number `since` is the first whose nodes have
 // that level: its proxy stands in an aggregate, those of the records inside it do not.
-#[derive(Drop)]
+#[derive(Clone, Copy)]
 pub struct Nest {
     pub base: usize,
     pub depth: usize,

@@ -1,4 +1,6 @@
 // Moving about in an image that passes the check: the node of a place, and the next one in document order.
+#![tactic(auto)]
+
 ghost use Rattle.std.specs.Prelude.{◌≡◌, false, cond, ℕ, ◌+◌, ◌*◌, ◌≤◌, ◌<◌, length, get_or, eqb};
 ghost use Rattle.model.specs.Limits.{most_bytes};
 ghost use Rattle.model.specs.Reading.{head_at, size_at};

@@ -1,4 +1,6 @@
 // The check's tests of a node's bytes by themselves: its size, its kind, its origin and label, and what the walk can pass over or go straight into.
+#![tactic(auto)]
+
 ghost use Rattle.std.specs.Prelude.{◌≡◌, ◌+◌, ◌≤◌, ◌<◌, length, leb};
 ghost use Rattle.model.specs.Limits.{most_levels, most_origin};
 ghost use Rattle.model.specs.Reading.{head_at};

@@ -1,4 +1,6 @@
 // The check's part before the walk: page 0, every trailer and every free page, each by itself. No byte of a record is looked at.
+#![tactic(auto)]
+
 ghost use Rattle.std.specs.Prelude.{◌≡◌, true, ◌-◌, ◌*◌, ◌≤◌, length};
 ghost use Rattle.model.specs.Limits.{most_pages, page_size};
 ghost use Rattle.model.specs.Reading.{length_ok};

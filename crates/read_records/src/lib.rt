@@ -1,4 +1,6 @@
 // Records: the pages that hold a record, ascending, as two-byte numbers.
+#![tactic(auto)]
+
 ghost use Rattle.std.specs.Prelude.{◌≡◌, ◌-◌, ◌*◌, ◌≤◌, length};
 ghost use Rattle.model.specs.Limits.{page_size};
 ghost use Rattle.model.specs.Calls.Check.{check_of};

@@ -1,5 +1,7 @@
 // The walk of the check: from page 1 through the proxies. Its calls follow the levels of the logical tree, not the records, so that they are at most 24 deep
 // whatever the bytes: a list goes on into the record of a helper, and comes back out of it, in its own loop.
+#![tactic(auto)]
+
 ghost use Rattle.std.specs.Prelude.{◌≡◌, false, ℕ, ◌+◌, ◌*◌, ◌/◌, ◌≤◌, length};
 ghost use Rattle.model.specs.Limits.{most_pages, most_levels, page_size};
 ghost use Rattle.model.specs.WalkTests.{passing_kind};

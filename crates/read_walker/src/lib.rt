@@ -1,4 +1,6 @@
 // Where the check's walk over a logical list is, and its turns: past a node, into a helper's record, and back out of it.
+#![tactic(auto)]
+
 ghost use Rattle.std.specs.Prelude.{◌≡◌, ◌+◌, ◌-◌, ◌*◌, ◌/◌, ◌%◌, ◌≤◌, ◌<◌, length, get_or, set};
 ghost use Rattle.model.specs.Limits.{most_pages, page_size};
 ghost use Rattle.base_node_kinds.specs.Holders.{kinds_in};
@@ -12,7 +14,7 @@ use read_marks::{enters, record_end, set_mark};
 
 // At byte `at` of the image, in a row that ends at `end` and takes these kinds of nodes, which have the level. `left` is one more than the pages that are to
 // be reached, 0 where the walk is refused; `count` nodes are passed, and the list is in `depth` records of helpers.
-#[derive(Drop)]
+#[derive(Clone, Copy)]
 pub struct Walker {
     pub kinds: Kinds,
     pub left: usize,

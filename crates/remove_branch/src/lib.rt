@@ -1,4 +1,6 @@
 // The records below a node that goes are freed. Their pages are a list, which grows as their own proxies are found: no page of another branch is looked at.
+#![tactic(auto)]
+
 ghost use Rattle.std.specs.Prelude.{◌*◌, ◌≤◌, length};
 ghost use Rattle.model.specs.Limits.{most_pages, page_size};
 ghost use Rattle.base_ranges.specs.Tables.{few_pages};

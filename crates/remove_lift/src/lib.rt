@@ -1,4 +1,6 @@
 // A helper left with one proxy: this takes the place of the helper's proxy in the record above, and the helper's page is free.
+#![tactic(auto)]
+
 ghost use Rattle.std.specs.Prelude.{◌≡◌, ◌+◌, ◌*◌, ◌<◌};
 ghost use Rattle.model.specs.Limits.{most_pages, page_size};
 ghost use Rattle.model.specs.Row.{two};

@@ -1,4 +1,6 @@
 // Where a node stands that a removal takes out, on an image that passes the check.
+#![tactic(auto)]
+
 ghost use Rattle.std.specs.Prelude.{◌≡◌, ◌+◌};
 ghost use Rattle.model.specs.Limits.{most_pages};
 ghost use Rattle.model.specs.Reading.{size_at};
@@ -13,7 +15,7 @@ use model::Settings;
 // Where a node stands that is to go: the page of the record that holds it, or its proxy if it is a record's root; the byte of the record where it stands, and
 // its size there; where its parent stands in that record, 0 if the record does not hold the parent. It is `deep` records down from the one that does, each a
 // helper that shows children of the parent.
-#[derive(Drop)]
+#[derive(Clone, Copy)]
 pub struct Standing {
     pub found: bool,
     pub page: usize,

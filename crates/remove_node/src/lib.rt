@@ -1,4 +1,6 @@
 // A removal on an image that passes the check.
+#![tactic(auto)]
+
 ghost use Rattle.std.specs.Prelude.{◌≡◌};
 ghost use Rattle.model.specs.Calls.Check.{check_of};
 ghost use Rattle.model.specs.Calls.Remove.{remove_of};

@@ -1,4 +1,6 @@
 // Where the node stands that a removal's path names, on an image that passes the check.
+#![tactic(auto)]
+
 ghost use Rattle.std.specs.Prelude.{◌≡◌, ◌≤◌, length};
 ghost use Rattle.model.specs.Limits.{longest_path};
 ghost use Rattle.model.specs.Row.{Row, Config};

@@ -1,4 +1,6 @@
 // The record that is left when one of its nodes goes.
+#![tactic(auto)]
+
 ghost use Rattle.std.specs.Prelude.{◌≤◌, length};
 ghost use Rattle.model.specs.Limits.{capacity};
 ghost use Rattle.remove_record.specs.Sibling.{Losing, SiblingIs};
@@ -10,14 +12,14 @@ use grow_splice::splice;
 use model::Settings;
 
 // What is left of a record: its new content, so many bytes at the buffer's front; or, where a helper is left with one proxy, the page that this names, else 0.
-#[derive(Drop)]
+#[derive(Clone, Copy)]
 pub struct Remnant {
     pub len: usize,
     pub child: usize,
 }
 
 // Found: the only other child of a helper is the record's bytes from `start` to `end`.
-#[derive(Drop)]
+#[derive(Clone, Copy)]
 struct Sibling {
     found: bool,
     start: usize,

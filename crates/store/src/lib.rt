@@ -1,4 +1,6 @@
 // The public calls: each for any bytes and arguments, the first refusal that applies, and nothing written where it is refused.
+#![tactic(auto)]
+
 ghost use Rattle.std.specs.Prelude.{◌≡◌, true, ◌*◌, ◌≤◌, length, replicate};
 ghost use Rattle.model.specs.Limits.{most_pages, mark_bytes, page_size};
 ghost use Rattle.model.specs.Reading.{length_ok};
@@ -403,7 +405,7 @@ pub fn part_of(image: &[u8], node: ReadNode) -> &[u8]
 }
 
 // The answer of read: the content as a part of the caller's image, beside the node's numbers.
-#[derive(Drop)]
+#[derive(Clone, Copy)]
 pub struct ReadAnswer<'a> {
     pub content: &'a [u8],
     pub node: ReadNode,

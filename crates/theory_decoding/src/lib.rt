@@ -1,1 +1,2 @@
 // The theorems about reading an image, in specs/.
+#![tactic(auto)]

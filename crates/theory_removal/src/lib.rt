@@ -1,1 +1,2 @@
 // The theorems about removal: what it shows, keeps and frees, in specs/.
+#![tactic(auto)]

@@ -1,0 +1,13 @@
+-- After j turns the first j bytes of src stand from `at`.
+use mathlib.Core.Path.{◌≡◌, refl, sym}
+use Prim.Native.Nat.{◌≤◌, ◌-◌}
+use native.Mathlib.Omega.{arith}
+use lib.ListN.{length, take, length-set}
+use Rattle.base_numbers.specs.Over.{over, over_nil, copy_turn, copy_end}
+use Rattle.base_numbers.proofs.copy_in.Given as goal
+
+abbrev pub invariant-loop-j : goal.invariant-loop-j
+invariant-loop-j l = (l.dst ≡ over l.at (take l.j l.src) l.initial.dst) × ((l.j ≤ length l.src) × (length l.dst ≡ length l.initial.dst))
+
+abbrev pub decreases-loop-j : goal.decreases-loop-j
+decreases-loop-j l = length l.src - l.j

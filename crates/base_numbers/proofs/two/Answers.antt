@@ -1,0 +1,8 @@
+use native.Mathlib.Omega.{arith}
+use borrow.Author.Rules.{rules}
+use Rattle.model.specs.Reading.{two_at}
+use Rattle.base_numbers.proofs.two.Goals as goal
+
+pub returns : goal.returns
+unfolding two_at
+returns c = (cc, omega arith)
