@@ -29,7 +29,7 @@ pub data Has (item : Item) : (pos : ℕ) → Row → Type 0 where
   rec_past : {pos p : ℕ} {s : Bool} {r rest : Row} → Has item (pos + 8) rest → Has item pos (rec p s r rest)
 
 pub has_item : (item : Item) (pos : ℕ) (row : Row) → Memᴰ item (items pos row) → Has item pos row
-has_item item pos nil m = absurd (Memᴰ.not_nil m)
+has_item item pos nil m = absurd (Memᴰ.not-nil m)
 has_item item pos (agg h cs rest) m =
     ⊎_elim agg_here
     (λ n. ⊎_elim (λ a. agg_in (has_item item (pos + 6) cs a)) (λ b. agg_past (has_item item (pos + (6 + size cs)) rest b))

@@ -1,6 +1,6 @@
 -- A row that stands in an image: what is read at its first node, and that its parts stand too.
 use Rattle.std.specs.Prelude.{◌≡◌, true, cond, List, ℕ, suc, ◌+◌, ◌*◌, ◌≤◌, ◌<◌, max, length, get_or, take, drop, eqb}
-use Rattle.std.proofs.Common.{subst, ◌∙◌, arith}
+use Rattle.std.proofs.Common.{sym, subst, ◌∙◌, arith}
 use Rattle.model.specs.Limits.{most_pages, page_size, capacity}
 use Rattle.model.specs.Row.{Row, nil, agg, lit, rec, store, size, base, record_size, Held, record_page, count, Config, record_on}
 use Rattle.model.specs.Reading.{Reads, two_at, page_of, size_at, name_at, used_at, back_at, state_at, kind_at, head_at}
@@ -177,7 +177,7 @@ view {img} {page} {pos} {row} v some =
 pub root_page_lem : (img : List ℕ) (st : Config) (root : Row) → Reads img st root → OnPage img 1 0 root
 root_page_lem img st root r =
     let v = reads_valid img st root r in
-    let m : Stored (page_of img) 0 (store root) = rw r.same (stored_image st root v) in
+    let m : Stored (page_of img) 0 (store root) = subst (λ (i : List ℕ). Stored (page_of i) 0 (store root)) (sym r.same) (stored_image st root v) in
     let long = reads_length img st root r in
     let named : (q : ℕ) → 1 ≤ count q (store root) → PageIn img q =
     λ q k. let n = named_inside st root v q k in record { low = n.0; high = omega (arith, n.1, v.ranges.many); inside = omega (arith, n.1) } in

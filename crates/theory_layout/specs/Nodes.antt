@@ -154,6 +154,7 @@ placed_all root (n ∷ ns) (p ∷ ps) (s ∷ ss) e f = (
 )
 
 mem_all : (R : Node → ℕ → Type 0) (ns : List Node) (ss : List ℕ) → All R ns ss → (n : Node) → Mem n ns → (s : ℕ) × Memᴰ s ss × R n s
+mem_all R [] ss a n i = elim i [ ]
 mem_all R (m ∷ ns) [] a n i = absurd a
 mem_all R (m ∷ ns) (s ∷ ss) a n (Memᴰ.head e) = (s, Memᴰ.head refl, subst (λ (n : Node). R n s) (sym e) a.0)
 mem_all R (m ∷ ns) (s ∷ ss) a n (Memᴰ.tail i) = let r = mem_all R ns ss a.1 n i in (r.0, Memᴰ.tail r.1, r.2)

@@ -247,6 +247,7 @@ module _ (img : List ℕ) (page : ℕ) where
 
   -- none stands before the first
   pub flat_low : (is : List Item) (pos end : ℕ) → Flat img page pos end is → (i : Item) → Memᴰ i is → pos ≤ at i
+  flat_low [] pos end f i it = elim it [ ]
   flat_low (x ∷ is) pos end f i (mathlib.Core.List.Memᴰ.head e) = omega (arith, ap at e, (header_of pos x f.0).is_at)
   flat_low (x ∷ is) pos end f i (mathlib.Core.List.Memᴰ.tail m) = omega (arith, (header_of pos x f.0).further, flat_low is (step img pos) end f.1 i m)
 
@@ -267,7 +268,7 @@ item_ind : (i : Item) (P : Row → Type 0) → ((pos : ℕ) (row : Row) → 0 < 
     → ((h : Head) (c : List ℕ) (rest : Row) → P rest → P (lit h c rest))
     → ((p : ℕ) (s : Bool) (r rest : Row) → P rest → P (rec p s r rest))
     → (pos : ℕ) (row : Row) → Memᴰ i (items pos row) → P row
-item_ind i P f u a l r pos nil m = absurd (mathlib.Core.List.Memᴰ.not_nil m)
+item_ind i P f u a l r pos nil m = absurd (mathlib.Core.List.Memᴰ.not-nil m)
 item_ind i P f u a l r pos (agg h cs rest) m =
     ⊎_elim (f pos (agg h cs rest) (omega arith))
     (λ j. ⊎_elim (λ k. u h cs rest (item_ind i P f u a l r (pos + 6) cs k)) (λ k. a h cs rest (item_ind i P f u a l r (pos + (6 + size cs)) rest k))
@@ -359,11 +360,13 @@ in_listed (sub {page = page} {row = row} w xs ys pos p r e) =
 
 -- two records of a list on one page
 mem_times : (hs : List Held) (h : Held) → Memᴰ h hs → 1 ≤ times h.page (map (λ (h : Held). h.page) hs)
+mem_times [] h it = elim it [ ]
 mem_times (k ∷ hs) h (mathlib.Core.List.Memᴰ.head e) = rw (eq-eqb h.page k.page (ap (λ (h : Held). h.page) e)) (omega arith)
 mem_times (k ∷ hs) h (mathlib.Core.List.Memᴰ.tail m) = omega (arith, mem_times hs h m)
 
 one_held : (hs : List Held) (a b : Held) → Memᴰ a hs → Memᴰ b hs → a.page ≡ b.page
     → times a.page (map (λ (h : Held). h.page) hs) ≤ 1 → a ≡ b
+one_held [] a b x4 _ p o = elim x4 [ ]
 one_held (k ∷ hs) a b (mathlib.Core.List.Memᴰ.head e) (mathlib.Core.List.Memᴰ.head f) p o = e ∙ sym f
 one_held (k ∷ hs) a b (mathlib.Core.List.Memᴰ.head e) (mathlib.Core.List.Memᴰ.tail n) p o =
     absurd (omega (arith, rw (eq-eqb a.page k.page (ap (λ (h : Held). h.page) e)) at o, rw (← p) at (mem_times hs b n)))
@@ -384,7 +387,7 @@ record Some (root : Row) (page : ℕ) : Type 0 where
 row_records : {root : Row} (r : Row) {page holder : ℕ} {row : Row} {before after : List ℕ} {d : ℕ} → In root page holder row before after d
     → (pos : ℕ) (xs ys : List Item) → items (page_size * page + base row) row ≡ xs ++ (items pos r ++ ys)
     → (h : Held) → Memᴰ h (records page r) → Some root h.page
-row_records nil w pos xs ys e h m = absurd (mathlib.Core.List.Memᴰ.not_nil m)
+row_records nil w pos xs ys e h m = absurd (mathlib.Core.List.Memᴰ.not-nil m)
 row_records (agg l cs rest) {page = page} w pos xs ys e h m =
     ⊎_elim (row_records cs w (pos + 6) (xs ++ node pos ∷ []) (items (pos + (6 + size cs)) rest ++ ys) (e ∙ simp append_assoc) h)
     (row_records rest w (pos + (6 + size cs)) (xs ++ node pos ∷ items (pos + 6) cs) ys (e ∙ simp append_assoc) h)
@@ -436,7 +439,7 @@ node_within w pos left right e =
 row_nodes : {root : Row} (r : Row) {page holder : ℕ} {row : Row} {before after : List ℕ} {d : ℕ} → In root page holder row before after d
     → (pos : ℕ) (xs ys : List Item) → items (page_size * page + base row) row ≡ xs ++ (items pos r ++ ys)
     → (n : ℕ) → Memᴰ n (spots pos r) → NodeIn root n
-row_nodes nil w pos xs ys e n m = absurd (mathlib.Core.List.Memᴰ.not_nil m)
+row_nodes nil w pos xs ys e n m = absurd (mathlib.Core.List.Memᴰ.not-nil m)
 row_nodes {root} (agg l cs rest) w pos xs ys e n m =
     let own = node_within w pos xs (items (pos + 6) cs ++ items (pos + (6 + size cs)) rest ++ ys) e in
     let inner = row_nodes cs w (pos + 6) (xs ++ node pos ∷ []) (items (pos + (6 + size cs)) rest ++ ys) (e ∙ simp append_assoc) n in

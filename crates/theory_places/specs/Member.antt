@@ -21,10 +21,12 @@ each_map P Q f [] h e = tt
 each_map P Q f (n ∷ ns) h e = (h n e.0, each_map P Q f ns h e.1)
 
 pub each_of : (P : Node → Type 0) (n : Node) (ns : List Node) → Each P ns → Mem n ns → P n
+each_of P n [] e i = elim i [ ]
 each_of P n (m ∷ ns) e (Memᴰ.head q) = subst P (sym q) e.0
 each_of P n (m ∷ ns) e (Memᴰ.tail i) = each_of P n ns e.1 i
 
 pub mem_split : {A : Type 0} (n : A) (ns : List A) → Memᴰ n ns → (before after : List A) × (ns ≡ before ++ n ∷ after)
+mem_split n [] i = elim i [ ]
 mem_split n (m ∷ ns) (Memᴰ.head e) = ([], ns, ap (λ m. m ∷ ns) (sym e))
 mem_split n (m ∷ ns) (Memᴰ.tail i) =
     let s = mem_split n ns i in

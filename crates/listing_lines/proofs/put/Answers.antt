@@ -1,0 +1,7 @@
+-- `listing_lines::put`: one byte.
+use borrow.Author.Rules.{rules}
+use Rattle.listing_lines.specs.Wrote.{one_byte}
+use Rattle.listing_lines.proofs.put.Goals as goal
+
+pub returns : goal.returns
+returns c = one_byte c.requires

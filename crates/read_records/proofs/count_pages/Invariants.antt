@@ -1,0 +1,12 @@
+-- `read_records::count_pages`: the pages counted, and those that are left, are all of them.
+use mathlib.Core.Logic.{⊎_elim}
+use Prim.Native.Nat.{◌-◌}
+use native.Mathlib.Omega.{arith}
+use Rattle.read_records.specs.Loops.{Counted, count_start, count_up, count_skip, count_end}
+use Rattle.read_records.proofs.count_pages.Given as goal
+
+abbrev pub invariant-loop-p : goal.invariant-loop-p
+invariant-loop-p l = Counted l.image l.pages l.p l.n
+
+abbrev pub decreases-loop-p : goal.decreases-loop-p
+decreases-loop-p l = l.pages - l.p

@@ -1,0 +1,12 @@
+-- `read_records::put_pages`: the pages that are left, written from `at`, make what all of them make in the buffer as it was.
+use mathlib.Core.Logic.{⊎_elim}
+use Prim.Native.Nat.{◌-◌}
+use native.Mathlib.Omega.{arith}
+use Rattle.read_records.specs.Loops.{Put, put_start, put_room, put_up, put_skip, put_end}
+use Rattle.read_records.proofs.put_pages.Given as goal
+
+abbrev pub invariant-loop-p : goal.invariant-loop-p
+invariant-loop-p l = Put l.image l.initial.buffer l.pages l.p l.at l.buffer
+
+abbrev pub decreases-loop-p : goal.decreases-loop-p
+decreases-loop-p l = l.pages - l.p
