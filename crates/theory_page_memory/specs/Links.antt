@@ -105,7 +105,7 @@ relink_page p s h q r f =
     let t : List ℕ = 1 ∷ cond s 1 0 ∷ two (record_size r) in
     let a : List ℕ = record_bytes r ++ (z ++ t) in
     let n : length a ≡ 4084 = simp (length-append, length-replicate, length_record) (omega arith) in
-    let e : (x : ℕ) → record_page (record_on p s x r) ≡ a ++ (two x ++ replicate 10 0) = λ x. simp append_assoc (append_assoc (record_bytes r) z _) in
+    let e : (x : ℕ) → record_page (record_on p s x r) ≡ a ++ (two x ++ replicate 10 0) = λ x. simp append_assoc in
     ap (relink q) (e h) ∙ relink_parts a (two h) (replicate 10 0) q n refl ∙ sym (e q)
 
 pub link_other : (q : ℕ) (r : Row) (m : Mem) (p : ℕ) → count p r ≡ 0 → link_mem q r m p ≡ m p

@@ -1,4 +1,3 @@
--- `listing_lines::decimal`: the digits before the last, then the last. The measure is the number. cN is c N places before.
 use mathlib.Core.Path.{sym, ap, ◌∙◌}
 use mathlib.Core.List.{[], ◌∷◌, ◌++◌}
 use native.Mathlib.Omega.{arith}
