@@ -1,9 +1,10 @@
 # For C programmers: the library's archive and the tool, under target/, and their installation. The archive is made by the Rattle toolchain (rt), which
-# proves it first: some minutes the first time. Nothing is written outside target/, except by install, and a temporary file by test, which removes it.
+# proves it first: some minutes the first time. Nothing is written outside target/ and the crates' folders out/, where the toolchain keeps its work, except
+# by install, and a temporary file by test, which removes it.
 #     make                                the archive and the tool
 #     make test                           the gate
 #     make install PREFIX=/usr DESTDIR=.. header, archive, tool and nichelarder.pc
-#     make clean                          removes target/
+#     make clean                          removes target/ and the crates' folders out/
 CFLAGS ?= -O2
 PREFIX ?= /usr/local
 INSTALL ?= install
@@ -16,8 +17,8 @@ to = $(DESTDIR)$(PREFIX)
 all: $(archive) $(tool)
 
 # what is stale in it, the toolchain knows better; this is when to ask
-$(archive): $(shell find crates -type f) crates.txt
-	rt staticlib nichelarder
+$(archive): $(shell find crates -type f -not -path '*/out/*') crates.txt
+	bash tools/build.sh archive
 	touch $@
 
 $(tool): tools/nichelarder.c include/nichelarder.h $(archive)
@@ -35,6 +36,6 @@ install: all
 	$(INSTALL) -m 755 $(tool) $(to)/bin
 
 clean:
-	rm -rf target
+	rm -rf target crates/*/out
 
 .PHONY: all test install clean

@@ -5,7 +5,7 @@ cd "$(dirname "$0")/.."
 cc=${CC:-gcc}
 flags=(-std=c99 -D_POSIX_C_SOURCE=200809L -O3 -Wall -Wextra)
 echo "bench: proving and building the archive (minutes)"
-rt staticlib nichelarder >/dev/null
+bash tools/build.sh archive 2>/dev/null
 "$cc" "${flags[@]}" bench/check.c target/staticlib/libnichelarder.a -o target/bench_check
 "$cc" "${flags[@]}" bench/walk.c target/staticlib/libnichelarder.a -o target/bench_walk
 "$cc" "${flags[@]}" bench/insert.c target/staticlib/libnichelarder.a -o target/bench_insert

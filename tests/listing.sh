@@ -2,7 +2,7 @@
 # Builds the listing program, runs it on inputs made by make_images.py, from a file and through a pipe, and compares what it prints.
 set -euo pipefail
 cd "$(dirname "$0")/.."
-rt check listing >/dev/null
+bash tools/build.sh listing 2>/dev/null
 program=target/bin/listing
 images=target/images
 python3 -B tests/make_images.py "$images"

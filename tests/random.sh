@@ -14,7 +14,7 @@ mkdir -p target
 replay=${REPLAY:-}
 if [ -z "$replay" ]; then
     echo "$kind: proving and building the archive (minutes)"
-    rt staticlib nichelarder >/dev/null
+    bash tools/build.sh archive 2>/dev/null
     replay=target/replay
     "${CC:-cc}" -std=c99 -O2 -Wall -Wextra -Werror tests/replay.c target/staticlib/libnichelarder.a -o "$replay"
 fi

@@ -5,7 +5,7 @@ cd "$(dirname "$0")/.."
 cc=${CC:-cc}
 at() { echo "tests: $1 of 14: $2"; }
 at 1 "the archive (minutes, where the crates are not proved yet)"
-rt staticlib nichelarder >/dev/null
+bash tools/build.sh archive 2>/dev/null
 flags=(-std=c99 -O2 -Wall -Wextra -Werror)
 "$cc" "${flags[@]}" tests/replay.c target/staticlib/libnichelarder.a -o target/replay
 "$cc" "${flags[@]}" tests/deep.c target/staticlib/libnichelarder.a -o target/deep

@@ -4,11 +4,10 @@
 ghost use Rattle.std.specs.Prelude.{◌≡◌, length};
 
 use model::Settings;
+use std::io::{self, Print};
 
-fn print(text: &[u8], number: u32) {
-    io::write_all(1, text);
-    io::print_decimal(1, number as u64);
-    io::write_all(1, b"\n");
+fn print<R: Print>(rt: &R, text: &str, number: u32) -> io::Result<()> {
+    println!(rt; "{text}{number}")
 }
 
 fn formatted(target: usize, tolerance: usize) -> u32 {
@@ -24,6 +23,13 @@ fn formatted(target: usize, tolerance: usize) -> u32 {
     store::format(&mut image, settings, &matrix, 7)
 }
 
+// A page, and no image. The `ensures` gives only the length, which lending the array needs.
+fn page() -> [u8; 4096]
+    ensures { 4096 ≡ length result }
+{
+    [0u8; 4096]
+}
+
 // One page more than an image may have. The `ensures` gives only the length, which lending the array needs.
 fn long() -> [u8; 4198400]
     ensures { 4198400 ≡ length result }
@@ -31,13 +37,13 @@ fn long() -> [u8; 4198400]
     [0u8; 4198400]
 }
 
-fn main() {
-    print(b"usual settings: ", formatted(128, 409));
-    print(b"target 63: ", formatted(63, 409));
-    print(b"target 193: ", formatted(193, 409));
-    print(b"tolerance 513: ", formatted(128, 513));
-    let page = io::buffer();
-    print(b"length 4096: ", store::check(&page));
+fn main(rt: HostRuntime) -> io::Result<()> {
+    print(&rt, "usual settings: ", formatted(128, 409))?;
+    print(&rt, "target 63: ", formatted(63, 409))?;
+    print(&rt, "target 193: ", formatted(193, 409))?;
+    print(&rt, "tolerance 513: ", formatted(128, 513))?;
+    let page = page();
+    print(&rt, "length 4096: ", store::check(&page))?;
     let image = long();
-    print(b"length 4198400: ", store::check(&image));
+    print(&rt, "length 4198400: ", store::check(&image))
 }

@@ -1,7 +1,16 @@
 // Lists an image of up to 15 pages that stands on standard input.
 #![tactic(auto)]
 
-ghost use Rattle.std.specs.Prelude.{◌≡◌, length};
+ghost use Rattle.std.specs.Prelude.{◌≡◌, ◌≤◌, length, OnOk};
+
+use std::io::{self, Read, Write};
+
+// Room for an image, and one page more than may be listed. The `ensures` gives only the length, which lending the array needs.
+fn room_for_input() -> [u8; 65536]
+    ensures { 65536 ≡ length result }
+{
+    [0u8; 65536]
+}
 
 // Room for the longest listing. The `ensures` gives only the length, which lending the array needs.
 fn room() -> [u8; 155648]
@@ -10,29 +19,47 @@ fn room() -> [u8; 155648]
     [0u8; 155648]
 }
 
+// Reads until the buffer is full or the input ends, and answers how much it read.
+fn read_full<R: Read>(input: &mut R, buffer: &mut [u8]) -> io::Result<usize>
+    ensures { OnOk result (λ n. n ≤ length buffer.new) }
+{
+    let mut n = 0;
+    while n < buffer.len() {
+        let k = input.read(&mut buffer[n..])?;
+        if k == 0 {
+            break;
+        }
+        n += k;
+    }
+    Ok(n)
+}
+
 // Reads on, and answers whether more may follow.
-fn more() -> bool {
-    let mut rest = io::large_buffer();
-    io::read_full(0, &mut rest) == 65536
+fn more<R: Read>(input: &mut R) -> io::Result<bool> {
+    let mut rest = room_for_input();
+    let n = read_full(input, &mut rest)?;
+    Ok(n == 65536)
 }
 
 // Reads the rest of a long input, so that whoever writes it to a pipe is not stopped. A proved loop has to end: it counts down from a number that no
 // input uses up.
-fn drain() {
+fn drain<R: Read>(input: &mut R) -> io::Result<()> {
     let mut turns = u64::MAX;
-    while turns > 0 && more() {
+    while turns > 0 && more(input)? {
         turns -= 1;
     }
+    Ok(())
 }
 
 // The buffer has one page more than may be listed.
-fn main() {
-    let mut input = io::large_buffer();
-    let n = io::read_full(0, &mut input);
+fn main(rt: HostRuntime) -> io::Result<()> {
+    let mut input = room_for_input();
+    let n = read_full(&mut rt.stdin(), &mut input)?;
     let mut out = room();
     let k = listing_text::print(&input[..n], &mut out);
-    io::write_all(1, &out[..k]);
+    rt.stdout().write_all(&out[..k])?;
     if n == 65536 {
-        drain();
+        drain(&mut rt.stdin())?;
     }
+    Ok(())
 }

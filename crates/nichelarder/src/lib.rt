@@ -1,4 +1,4 @@
-// The entry points for C, as include/nichelarder.h declares them: numbers and byte buffers, over the proved calls.
+// What the entry points for C do, as include/nichelarder.h declares them: numbers and byte buffers, over the proved calls. nichelarder_c exports them.
 #![tactic(auto)]
 
 ghost use Rattle.std.specs.Prelude.{◌≡◌};
@@ -21,8 +21,7 @@ ghost use Rattle.nichelarder.specs.Small.{SmallNext};
 use base_numbers::copy_in;
 use model::{Next, Place, Settings};
 
-#[unsafe(no_mangle)]
-pub extern "C" fn nl_format(
+pub fn nl_format(
     image: &mut [u8],
     pages: u32,
     target: u32,
@@ -49,15 +48,13 @@ pub extern "C" fn nl_format(
     store::format(image, s, &entries, label)
 }
 
-#[unsafe(no_mangle)]
-pub extern "C" fn nl_check(image: &[u8]) -> u32
+pub fn nl_check(image: &[u8]) -> u32
     ensures { result ≡ check_of image.now }
 {
     store::check(image)
 }
 
-#[unsafe(no_mangle)]
-pub extern "C" fn nl_insert(
+pub fn nl_insert(
     image: &mut [u8],
     parent: &[u8],
     child: u32,
@@ -89,16 +86,14 @@ pub extern "C" fn nl_insert(
     a.number
 }
 
-#[unsafe(no_mangle)]
-pub extern "C" fn nl_remove(image: &mut [u8], path: &[u8]) -> u32
+pub fn nl_remove(image: &mut [u8], path: &[u8]) -> u32
     ensures number { result ≡ (remove_of image.old path.now).0 }
     ensures image { image.new ≡ (remove_of image.old path.now).1 }
 {
     store::remove(image, path)
 }
 
-#[unsafe(no_mangle)]
-pub extern "C" fn nl_find(image: &[u8], path: &[u8], place: &mut [u32; 2]) -> u32
+pub fn nl_find(image: &[u8], path: &[u8], place: &mut [u32; 2]) -> u32
     ensures number { result ≡ (find_of image.now path.now).number }
     ensures place { place.new ≡ place_numbers (find_of image.now path.now).place }
 {
@@ -107,14 +102,7 @@ pub extern "C" fn nl_find(image: &[u8], path: &[u8], place: &mut [u32; 2]) -> u3
     a.number
 }
 
-#[unsafe(no_mangle)]
-pub extern "C" fn nl_climb(
-    image: &[u8],
-    page: u32,
-    offset: u32,
-    path: &mut [u8],
-    written: &mut u32,
-) -> u32
+pub fn nl_climb(image: &[u8], page: u32, offset: u32, path: &mut [u8], written: &mut u32) -> u32
     ensures number { result ≡ (climb_of image.now (record { page = page; offset = offset }) path.old).0.number }
     ensures written { written.new ≡ (climb_of image.now (record { page = page; offset = offset }) path.old).0.written }
     ensures path { path.new ≡ (climb_of image.now (record { page = page; offset = offset }) path.old).1 }
@@ -128,8 +116,7 @@ pub extern "C" fn nl_climb(
     a.number
 }
 
-#[unsafe(no_mangle)]
-pub extern "C" fn nl_read(image: &[u8], page: u32, offset: u32, answer: &mut [u32; 6]) -> u32
+pub fn nl_read(image: &[u8], page: u32, offset: u32, answer: &mut [u32; 6]) -> u32
     ensures number { result ≡ (read_of image.now (record { page = page; offset = offset })).number }
     ensures answer { answer.new ≡ read_numbers (read_of image.now (record { page = page; offset = offset })) }
 {
@@ -166,8 +153,7 @@ fn next_numbers(next: Next) -> [u32; 5]
     }
 }
 
-#[unsafe(no_mangle)]
-pub extern "C" fn nl_next(image: &[u8], page: u32, offset: u32, answer: &mut [u32; 5]) -> u32
+pub fn nl_next(image: &[u8], page: u32, offset: u32, answer: &mut [u32; 5]) -> u32
     ensures number { result ≡ (next_of image.now (record { page = page; offset = offset })).number }
     ensures answer { answer.new ≡ next_numbers (next_of image.now (record { page = page; offset = offset })).next }
 {
@@ -182,8 +168,7 @@ pub extern "C" fn nl_next(image: &[u8], page: u32, offset: u32, answer: &mut [u3
     a.number
 }
 
-#[unsafe(no_mangle)]
-pub extern "C" fn nl_records(image: &[u8], pages: &mut [u8], written: &mut u32) -> u32
+pub fn nl_records(image: &[u8], pages: &mut [u8], written: &mut u32) -> u32
     ensures number { result ≡ (records_of (up_pages image.now) image.now pages.old).0.number }
     ensures written { written.new ≡ (records_of (up_pages image.now) image.now pages.old).0.written }
     ensures pages { pages.new ≡ (records_of (up_pages image.now) image.now pages.old).1 }
@@ -193,8 +178,7 @@ pub extern "C" fn nl_records(image: &[u8], pages: &mut [u8], written: &mut u32) 
     a.number
 }
 
-#[unsafe(no_mangle)]
-pub extern "C" fn nl_walk(
+pub fn nl_walk(
     image: &[u8],
     page: u32,
     offset: u32,
@@ -220,8 +204,7 @@ pub extern "C" fn nl_walk(
     a.number
 }
 
-#[unsafe(no_mangle)]
-pub extern "C" fn nl_diagnose(image: &[u8], answer: &mut [u32; 3]) -> u32
+pub fn nl_diagnose(image: &[u8], answer: &mut [u32; 3]) -> u32
     ensures number { result ≡ (diagnose_of image.now).number }
     ensures answer { answer.new ≡ fault_numbers (diagnose_of image.now) }
 {
