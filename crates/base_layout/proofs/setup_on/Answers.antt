@@ -1,8 +1,4 @@
 use borrow.Author.Rules.{rules}
-use Rattle.base_layout.proofs.setup_on.Reads as reads
-use Rattle.base_layout.proofs.setup_on.Lts as lts
-use Rattle.base_numbers.proofs.two.Reads as two-reads
-use Rattle.base_numbers.proofs.wide.Reads as wide-reads
 use Rattle.base_layout.proofs.setup_on.Goals as goal
 
 pub two-requires : goal.two-requires

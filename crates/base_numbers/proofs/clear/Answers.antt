@@ -1,9 +1,8 @@
-use mathlib.Core.Path.{◌≡◌, refl, sym}
-use Prim.Native.Nat.{◌≤◌, ◌-◌}
+use mathlib.Core.Path.{refl, sym}
 use native.Mathlib.Nat.{le_antisymm}
 use native.Mathlib.Omega.{arith}
-use lib.ListN.{length, replicate, length-set}
-use Rattle.base_numbers.specs.Over.{over, over_nil, clear_turn}
+use lib.ListN.{length-set}
+use Rattle.base_numbers.specs.Over.{over_nil, clear_turn}
 use Rattle.base_numbers.proofs.clear.Goals as goal
 
 pub loop-j-init : goal.loop-j-init

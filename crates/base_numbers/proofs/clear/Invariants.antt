@@ -1,10 +1,8 @@
 -- After j turns j zeros stand from `at`.
-use mathlib.Core.Path.{◌≡◌, refl, sym}
+use mathlib.Core.Path.{◌≡◌}
 use Prim.Native.Nat.{◌≤◌, ◌-◌}
-use native.Mathlib.Nat.{le_antisymm}
-use native.Mathlib.Omega.{arith}
-use lib.ListN.{length, replicate, length-set}
-use Rattle.base_numbers.specs.Over.{over, over_nil, clear_turn}
+use lib.ListN.{length, replicate}
+use Rattle.base_numbers.specs.Over.{over}
 use Rattle.base_numbers.proofs.clear.Given as goal
 
 abbrev pub invariant-loop-j : goal.invariant-loop-j

@@ -1,8 +1,7 @@
-use mathlib.Core.Path.{◌≡◌, refl, sym}
-use Prim.Native.Nat.{◌≤◌, ◌-◌}
+use mathlib.Core.Path.{refl, sym}
 use native.Mathlib.Omega.{arith}
-use lib.ListN.{length, take, length-set}
-use Rattle.base_numbers.specs.Over.{over, over_nil, copy_turn, copy_end}
+use lib.ListN.{length-set}
+use Rattle.base_numbers.specs.Over.{over_nil, copy_turn, copy_end}
 use Rattle.base_numbers.proofs.copy_in.Goals as goal
 
 pub loop-j-init : goal.loop-j-init

@@ -1,9 +1,8 @@
 -- After j turns the first j bytes of src stand from `at`.
-use mathlib.Core.Path.{◌≡◌, refl, sym}
+use mathlib.Core.Path.{◌≡◌}
 use Prim.Native.Nat.{◌≤◌, ◌-◌}
-use native.Mathlib.Omega.{arith}
-use lib.ListN.{length, take, length-set}
-use Rattle.base_numbers.specs.Over.{over, over_nil, copy_turn, copy_end}
+use lib.ListN.{length, take}
+use Rattle.base_numbers.specs.Over.{over}
 use Rattle.base_numbers.proofs.copy_in.Given as goal
 
 abbrev pub invariant-loop-j : goal.invariant-loop-j

@@ -1,4 +1,3 @@
-use borrow.Author.Rules.{rules}
 use Rattle.base_numbers.specs.Over.{two_at_lem}
 use Rattle.base_numbers.proofs.put16.Goals as goal
 

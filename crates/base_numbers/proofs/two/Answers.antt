@@ -1,5 +1,4 @@
 use native.Mathlib.Omega.{arith}
-use borrow.Author.Rules.{rules}
 use Rattle.model.specs.Reading.{two_at}
 use Rattle.base_numbers.proofs.two.Goals as goal
 

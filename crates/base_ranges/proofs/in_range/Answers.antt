@@ -1,6 +1,5 @@
 -- `base_ranges::in_range`: a test that fails makes the whole false.
 use mathlib.Core.Bool.{and-false}
-use borrow.Author.Rules.{rules}
 use borrow.Author.Tests.{le-leb, lt-leb, eq-eqb, ne_eqb}
 use Rattle.model.specs.Row.{in_range}
 use Rattle.base_ranges.proofs.in_range.Goals as goal

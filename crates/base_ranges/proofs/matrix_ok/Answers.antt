@@ -1,13 +1,12 @@
 use mathlib.Core.Path.{◌≡◌, refl, sym, ap, ◌∙◌}
 use mathlib.Core.Bool.{Bool, true, false, cond}
-use mathlib.Core.Logic.{⊎_elim}
-use Prim.Native.Nat.{ℕ, ◌≤◌, ◌-◌}
+use Prim.Native.Nat.{ℕ, ◌≤◌}
 use native.Mathlib.Omega.{arith}
 use lib.Dec.{eqb, leb}
-use lib.ListN.{length, get_or}
+use lib.ListN.{get_or}
 use borrow.Author.Tests.{eqb-true, eqb-false, leb-true, le-leb, eq-eqb, ne_eqb}
 use Rattle.model.specs.Row.{is_entry}
-use Rattle.base_ranges.specs.Every.{Rest, larger, as_large, done}
+use Rattle.base_ranges.specs.Every.{larger, as_large, done}
 use Rattle.base_ranges.proofs.matrix_ok.Invariants.{low}
 use Rattle.base_ranges.proofs.matrix_ok.Goals as goal
 use Rattle.base_ranges.proofs.matrix_ok.Goals.{else-most-x, else-x-eq1, then-most-x, then-x-eq1}
@@ -40,14 +39,14 @@ loop-i-preserved c =
     let x = c.if-x-eq1.x in
     let is : taken (get_or m l.i 0) ≡ x =
     elim c.if-x-eq1.branch [
- then-x-eq1 w ↦ simp (eq-eqb _ _ w.if-x-eq1.true) (sym w.x-is)
- | else-x-eq1 w ↦ simp (ne_eqb _ _ w.if-x-eq1.false) (sym w.x-is)
- ] in
+      | then-x-eq1 w ↦ simp (eq-eqb _ _ w.if-x-eq1.true) (sym w.x-is)
+      | else-x-eq1 w ↦ simp (ne_eqb _ _ w.if-x-eq1.false) (sym w.x-is)
+    ] in
     let e = entry-low (get_or m l.i 0) ∙ ap low is in
     elim c.if-most-x.branch [
- then-most-x w ↦ (omega arith, rw w.most-is (larger is_entry m low less l.i x l.most h e l.invariant.1 w.if-most-x.true))
- | else-most-x w ↦ (omega arith, rw w.most-is (as_large is_entry m low less l.i x l.most h e l.invariant.1 w.if-most-x.false))
- ]
+      | then-most-x w ↦ (omega arith, rw w.most-is (larger is_entry m low less l.i x l.most h e l.invariant.1 w.if-most-x.true))
+      | else-most-x w ↦ (omega arith, rw w.most-is (as_large is_entry m low less l.i x l.most h e l.invariant.1 w.if-most-x.false))
+    ]
 
 pub returns : goal.returns
 returns c = done is_entry c.args.matrix.now c.loop-i.i (low c.loop-i.most) (omega arith) c.loop-i.invariant.1

@@ -1,5 +1,4 @@
 -- `base_ranges::tables_for`: the two cases of the test.
-use borrow.Author.Rules.{rules}
 use borrow.Author.Tests.{le-leb, lt-leb}
 use Rattle.base_ranges.specs.Tables.{tables_for}
 use Rattle.base_ranges.proofs.tables_for.Goals as goal

@@ -1,7 +1,7 @@
 use mathlib.Core.Path.{sym, ap, ◌∙◌}
 use mathlib.Core.List.{[], ◌∷◌, ◌++◌}
 use native.Mathlib.Omega.{arith}
-use Prim.Native.Nat.{ℕ, ◌/◌, ◌<◌}
+use Prim.Native.Nat.{ℕ, ◌/◌}
 use Rattle.listing_lines.specs.Text.{decimal_of}
 use Rattle.listing_lines.specs.Wrote.{then, same_text, same_room}
 use Rattle.listing_lines.specs.Digits.{decimal_last, decimal_more, decimal_long}

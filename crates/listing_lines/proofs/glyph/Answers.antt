@@ -1,5 +1,4 @@
 -- `listing_lines::glyph`: the two ranges of digits.
-use borrow.Author.Rules.{rules}
 use borrow.Author.Tests.{lt-ltb, le-ltb}
 use Rattle.listing_lines.proofs.glyph.Goals as goal
 

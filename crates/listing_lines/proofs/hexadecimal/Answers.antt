@@ -1,10 +1,6 @@
 use mathlib.Core.Path.{sym}
-use Prim.Native.Nat.{◌≤◌, ◌-◌}
-use lib.ListN.{length, take}
-use borrow.Author.Rules.{rules}
 use native.Mathlib.Omega.{arith}
-use Rattle.listing_lines.specs.Text.{hex_of}
-use Rattle.listing_lines.specs.Wrote.{Wrote, nothing, then, same_text}
+use Rattle.listing_lines.specs.Wrote.{nothing, then, same_text}
 use Rattle.listing_lines.specs.Digits.{length_hex, hex_none, hex_all, hex_long, hex_turn}
 use Rattle.listing_lines.proofs.hexadecimal.Goals as goal
 

@@ -1,12 +1,8 @@
 -- `listing_lines::hexadecimal`: the bytes before i are written. cN is c N places before.
-use mathlib.Core.Path.{sym}
 use Prim.Native.Nat.{◌≤◌, ◌-◌}
 use lib.ListN.{length, take}
-use borrow.Author.Rules.{rules}
-use native.Mathlib.Omega.{arith}
 use Rattle.listing_lines.specs.Text.{hex_of}
-use Rattle.listing_lines.specs.Wrote.{Wrote, nothing, then, same_text}
-use Rattle.listing_lines.specs.Digits.{length_hex, hex_none, hex_all, hex_long, hex_turn}
+use Rattle.listing_lines.specs.Wrote.{Wrote}
 use Rattle.listing_lines.proofs.hexadecimal.Given as goal
 
 abbrev pub invariant-loop-i : goal.invariant-loop-i

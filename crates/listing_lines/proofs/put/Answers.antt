@@ -1,5 +1,4 @@
 -- `listing_lines::put`: one byte.
-use borrow.Author.Rules.{rules}
 use Rattle.listing_lines.specs.Wrote.{one_byte}
 use Rattle.listing_lines.proofs.put.Goals as goal
 
