@@ -1,7 +1,6 @@
 use borrow.Author.Tests.{le-leb, lt-leb, eq-eqb, ne_eqb}
 use mathlib.Core.Bool.{and-false}
 use Rattle.read_nodes.specs.Leaf.{aggregate_of}
-use borrow.Author.Rules.{rules}
 use Rattle.read_nodes.proofs.aggregate.Goals as goal
 
 pub returns-then-part-lt6 : goal.returns-then-part-lt6

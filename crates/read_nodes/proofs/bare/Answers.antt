@@ -1,4 +1,3 @@
-use borrow.Author.Rules.{rules}
 use Rattle.model.specs.WalkTests.{bare_head}
 use Rattle.read_nodes.specs.Leaves.{both_zero}
 use Rattle.read_nodes.proofs.bare.Goals as goal

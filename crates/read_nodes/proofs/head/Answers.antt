@@ -1,8 +1,7 @@
+use mathlib.Core.Path.{sym, ◌∙◌}
 use mathlib.Core.Bool.{and-false}
-use borrow.Author.Rules.{rules}
 use borrow.Author.Tests.{lt-leb}
 use Rattle.model.specs.WalkTests.{passing_kind}
-use Rattle.theory_check.specs.Facts.{passes, fails}
 use Rattle.read_nodes.specs.Stand.{formed_is}
 use Rattle.read_nodes.proofs.head.Goals as goal
 
@@ -16,9 +15,9 @@ returns-then-kind-gt4 c = simp (← c.wide-kind.ensures.0, lt-leb _ _ c.if-kind-
 
 pub returns-then-not-may_stand : goal.returns-then-not-may_stand
 unfolding passing_kind
-returns-then-not-may_stand c = simp (← c.wide-kind.ensures.0, fails c.may_stand.ensures c.if-not-may_stand.true, and-false)
+returns-then-not-may_stand c = simp (← c.wide-kind.ensures.0, sym c.may_stand.ensures ∙ c.if-not-may_stand.true, and-false)
 
 pub returns : goal.returns
 returns c =
     formed_is _ _ _ _ c.wide-kind.ensures.0 c.if-part-lt6.false c.if-kind-gt4.false
-    (passes c.may_stand.ensures c.if-not-may_stand.false) c.well-formed-2.ensures
+    (sym c.may_stand.ensures ∙ c.if-not-may_stand.false) c.well_formed-2.ensures

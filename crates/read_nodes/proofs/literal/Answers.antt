@@ -1,6 +1,5 @@
 use borrow.Author.Tests.{le-leb, lt-leb}
 use Rattle.read_nodes.specs.Leaf.{literal_of}
-use borrow.Author.Rules.{rules}
 use Rattle.read_nodes.proofs.literal.Goals as goal
 
 pub returns-then-size-gt-NODE : goal.returns-then-size-gt-NODE

@@ -1,4 +1,3 @@
-use borrow.Author.Rules.{rules}
 use Rattle.read_nodes.proofs.origin_fits.Goals as goal
 
 pub returns : goal.returns

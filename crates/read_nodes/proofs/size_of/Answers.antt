@@ -1,5 +1,4 @@
 use mathlib.Core.Bool.{and-false}
-use borrow.Author.Rules.{rules}
 use borrow.Author.Tests.{le-leb, lt-leb}
 use Rattle.model.specs.WalkTests.{whole_size}
 use Rattle.read_nodes.proofs.size_of.Goals as goal

@@ -1,8 +1,7 @@
+use mathlib.Core.Path.{sym, ◌∙◌}
 use borrow.Author.Tests.{le-leb, lt-leb, eq-eqb, ne_eqb}
 use mathlib.Core.Bool.{and-false}
-use Rattle.theory_check.specs.Facts.{passes, fails}
 use Rattle.read_nodes.specs.Leaf.{stands_of}
-use borrow.Author.Rules.{rules}
 use Rattle.read_nodes.proofs.stands.Goals as goal
 
 pub returns-then-wide-kind : goal.returns-then-wide-kind
@@ -11,7 +10,7 @@ returns-then-wide-kind c = simp (← c.wide.ensures.0, ne_eqb _ _ c.if-wide-kind
 
 pub returns-then-not-origin_fits : goal.returns-then-not-origin_fits
 unfolding stands_of
-returns-then-not-origin_fits c = simp (fails c.origin_fits.ensures c.if-not-origin_fits.true, and-false)
+returns-then-not-origin_fits c = simp (sym c.origin_fits.ensures ∙ c.if-not-origin_fits.true, and-false)
 
 pub returns-then-level-gt-LEVELS : goal.returns-then-level-gt-LEVELS
 unfolding stands_of
@@ -20,8 +19,8 @@ returns-then-level-gt-LEVELS c = simp (lt-leb _ _ c.if-level-gt-LEVELS.true, and
 pub returns : goal.returns
 unfolding stands_of
 returns c = simp (
-      ← c.wide.ensures.0,
-      eq-eqb _ _ c.if-wide-kind.false,
-      passes c.origin_fits.ensures c.if-not-origin_fits.false,
-      le-leb _ _ c.if-level-gt-LEVELS.false,
-    )
+  ← c.wide.ensures.0,
+  eq-eqb _ _ c.if-wide-kind.false,
+  sym c.origin_fits.ensures ∙ c.if-not-origin_fits.false,
+  le-leb _ _ c.if-level-gt-LEVELS.false,
+)
