@@ -86,6 +86,7 @@ module _ {item : Item} where
 
   -- It starts in the row.
   pub has_low : (pos : ℕ) (row : Row) → Has item pos row → pos ≤ order.at item
+  has_low pos nil h = elim h [ ]
   has_low pos (agg h cs rest) (agg_here e) = rw e (omega arith)
   has_low pos (agg h cs rest) (agg_in b) = omega (arith, has_low (pos + 6) cs b)
   has_low pos (agg h cs rest) (agg_past b) = omega (arith, has_low (pos + (6 + size cs)) rest b)
@@ -95,6 +96,7 @@ module _ {item : Item} where
   has_low pos (rec p s r rest) (rec_past b) = omega (arith, has_low (pos + 8) rest b)
 
   pub has_high : (pos : ℕ) (row : Row) → Has item pos row → order.at item < pos + size row
+  has_high pos nil h = elim h [ ]
   has_high pos (agg h cs rest) (agg_here e) = rw e (omega arith)
   has_high pos (agg h cs rest) (agg_in b) = omega (arith, has_high (pos + 6) cs b)
   has_high pos (agg h cs rest) (agg_past b) = omega (arith, has_high (pos + (6 + size cs)) rest b)
@@ -104,6 +106,7 @@ module _ {item : Item} where
   has_high pos (rec p s r rest) (rec_past b) = omega (arith, has_high (pos + 8) rest b)
 
   pub spot_low : (pos : ℕ) (row : Row) (h : Has item pos row) → pos ≤ spot h
+  spot_low pos nil h = elim h [ ]
   spot_low pos (agg h cs rest) (agg_here e) = omega arith
   spot_low pos (agg h cs rest) (agg_in b) = omega arith
   spot_low pos (agg h cs rest) (agg_past b) = omega (arith, spot_low (pos + (6 + size cs)) rest b)
@@ -115,6 +118,7 @@ module _ {item : Item} where
   -- It is past the row's first node, or there.
   pub has_past : (pos : ℕ) (row : Row) (h : Has item pos row) → pos + size_of row ≤ order.at item
       → (b : Has item (pos + size_of row) (rest_of row)) × (spot b ≡ spot h) × (first_width row + before b ≡ before h)
+  has_past pos nil h k = elim h [ ]
   has_past pos (agg h cs rest) (agg_here e) k = absurd (omega (arith, ap order.at e))
   has_past pos (agg h cs rest) (agg_in b) k = absurd (omega (arith, has_high (pos + 6) cs b))
   has_past pos (agg h cs rest) (agg_past b) k = (b, refl, omega arith)
@@ -124,6 +128,7 @@ module _ {item : Item} where
   has_past pos (rec p s r rest) (rec_past b) k = (b, refl, refl)
 
   pub has_first : (pos : ℕ) (row : Row) (h : Has item pos row) → order.at item < pos + size_of row → (spot h ≡ pos) × (before h ≡ 0)
+  has_first pos nil h k = elim h [ ]
   has_first pos (agg h cs rest) (agg_here e) k = (refl, refl)
   has_first pos (agg h cs rest) (agg_in b) k = (refl, refl)
   has_first pos (agg h cs rest) (agg_past b) k = absurd (omega (arith, has_low (pos + (6 + size cs)) rest b))
@@ -155,6 +160,7 @@ module _ (page carry : ℕ) (tail : List ℕ) (x : Place) where
   pub finds : (item : Item) (pos : ℕ) (row : Row) (h : Has item pos row) (at : ℕ) → pos ≡ page_size * page + at → Under page item carry tail x
       → FindsFrom page at row (number carry h) (way carry h ++ tail) x
   unfolding place_at
+  finds item pos nil h at p u = elim h [ ]
   finds item pos (agg l cs rest) (agg_here e) at p u =
       let k = here at pos p (subst (λ (z : Item). Under page z carry tail x) e u) in
       record { low = rw k.0 (omega arith); place = rw (k.0, k.1) k.2 }
@@ -206,6 +212,7 @@ not_node : {A : Type 0} {pos q t : ℕ} {r : Row} → proxy t q r ≡ node pos �
 not_node e = let z : ◌≡◌ {A = ℕ} 0 1 = cc in absurd (omega arith)
 
 pub lower : (t p : ℕ) (r : Row) (pos : ℕ) (row : Row) → Has (proxy t p r) pos row → Within r row
+lower t p r pos nil h = elim h [ ]
 lower t p r pos (agg h cs rest) (agg_here e) = not_node e
 lower t p r pos (agg h cs rest) (agg_in b) = let l = lower t p r (pos + 6) cs b in record { high = omega arith; many = omega arith }
 lower t p r pos (agg h cs rest) (agg_past b) = let l = lower t p r (pos + (6 + size cs)) rest b in record { high = omega arith; many = omega arith }

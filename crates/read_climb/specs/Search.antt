@@ -80,6 +80,7 @@ pub record Search (img : List ℕ) (pos target : ℕ) : Type 0 where
   pub few : steps row ≤ most_bytes
 
 pub has_some : {item : Item} (pos : ℕ) (row : Row) → Has item pos row → 6 ≤ size row
+has_some {item = item} pos nil h = elim h [ ]
 has_some pos (agg l cs rest) h = omega arith
 has_some pos (lit l c rest) h = omega arith
 has_some pos (rec p s r rest) h = omega arith
@@ -146,6 +147,7 @@ go_end img target i n at passed len g long off =
     (sym s.0 ∙ g.same, omega (arith, s.1, g.counts))
 
 before_steps : {item : Item} (pos : ℕ) (row : Row) (b : Has item pos row) → before b ≤ steps row
+before_steps {item = item} pos nil b = elim b [ ]
 before_steps pos (agg l cs rest) (agg_here e) = omega arith
 before_steps pos (agg l cs rest) (agg_in b) = omega arith
 before_steps pos (agg l cs rest) (agg_past b) = omega (arith, before_steps (pos + (6 + size cs)) rest b)
@@ -169,6 +171,7 @@ pub record FurtherDown (img : List ℕ) (target carry at : ℕ) (n passed : ℕ)
 module _ (img : List ℕ) (target carry : ℕ) (item : Item) (starts : order.at item ≡ target) where
   below_row : (page pos : ℕ) (row : Row) → Here img page pos row → (b : Has item pos row) → steps row ≤ most_bytes → (spot b ≡ target → ⊥)
       → FurtherDown img target carry (spot b) (number carry b) (before b) (way carry b)
+  below_row page pos nil h b f k = elim b [ ]
   below_row page pos (agg l cs rest) h (agg_here e) f k = absurd (k (ap order.at (sym e) ∙ starts))
   below_row page pos (agg l cs rest) h (agg_in b) f k =
       let v = view h (omega arith) in
@@ -194,6 +197,7 @@ module _ (img : List ℕ) (target carry : ℕ) (item : Item) (starts : order.at 
       record { under = u.under; lower = u.lower; same = ap (λ (n : ℕ). width r + n) u.same; leads = u.leads }
 
   at_row : (pos : ℕ) (row : Row) (b : Has item pos row) → spot b ≡ target → (before b + carry ≡ number carry b) × (way carry b ≡ [])
+  at_row pos nil b k = elim b [ ]
   at_row pos (agg l cs rest) (agg_here e) k = (omega arith, refl)
   at_row pos (agg l cs rest) (agg_in b) k = absurd (omega (arith, has_low (pos + 6) cs b))
   at_row pos (agg l cs rest) (agg_past b) k = let u = at_row (pos + (6 + size cs)) rest b k in (omega (arith, u.0), u.1)
