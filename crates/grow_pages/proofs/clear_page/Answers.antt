@@ -1,4 +1,3 @@
-use borrow.Author.Rules.{rules}
 use Rattle.grow_pages.specs.Write.{page_written}
 use Rattle.grow_pages.proofs.clear_page.Goals as goal
 

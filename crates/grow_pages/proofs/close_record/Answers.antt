@@ -1,4 +1,3 @@
-use borrow.Author.Rules.{rules}
 use Rattle.grow_pages.specs.Write.{end_written}
 use Rattle.grow_pages.proofs.close_record.Goals as goal
 

@@ -1,4 +1,3 @@
-use borrow.Author.Rules.{rules}
 use Rattle.grow_pages.specs.Write.{record_written}
 use Rattle.grow_pages.proofs.put_record.Goals as goal
 

@@ -1,10 +1,9 @@
 -- What is left of the row leads to the same image.
-use mathlib.Core.Path.{◌≡◌, refl, ◌∙◌}
+use mathlib.Core.Path.{◌≡◌}
 use mathlib.Core.List.{List}
 use Prim.Native.Nat.{ℕ, ◌-◌}
-use native.Mathlib.Omega.{arith}
 use lib.ListN.{length}
-use Rattle.grow_pages.specs.Links.{link, links, Walking, WalkStep, walk_step, walk_end_lem, walk_start}
+use Rattle.grow_pages.specs.Links.{link, Walking}
 use Rattle.grow_pages.proofs.relink.Given as goal
 
 abbrev pub invariant-loop-pos : goal.invariant-loop-pos
