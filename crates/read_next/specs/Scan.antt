@@ -134,6 +134,7 @@ module _ {img : List ℕ} {page : ℕ} (w : OnRecord img page) (target : ℕ) wh
   scan_proxy pos s e k m = go s.ahead s.flat (s.keeps m)
     where
       go : (is : List Item) → Flat img page pos (close w) is → Memᴰ (node target) is → ⊥
+      go [] f m = elim m [ ]
       go (i ∷ is) f (Memᴰ.head q) = no_proxy img page pos target (subst (Stood img page pos) (sym q) f.0) k
       go (i ∷ is) f (Memᴰ.tail n) =
           omega (arith, (header_of img page pos i f.0).further, flat_low img page is (step img pos) (close w) f.1 (node target) n)

@@ -10,7 +10,7 @@ ghost use Rattle.model.specs.Calls.Next.{kind_of, origin_of, next_of};
 ghost use Rattle.read_find.specs.Rowed.{end_on};
 ghost use Rattle.theory_layout.specs.Order.{step};
 ghost use Rattle.theory_layout.specs.Widths.{Widths};
-ghost use Rattle.read_next.specs.Scan.{OnRecord, Reached, Standing, Located, HeldBy, NodeAt, names as namesPage};
+ghost use Rattle.read_next.specs.Scan.{OnRecord, Reached, Standing, Located, HeldBy, NodeAt, names as names_page};
 ghost use Rattle.read_next.specs.Read.{Inner, agg_read, lit_read};
 ghost use Rattle.read_next.specs.Follow.{ItemAfter, Ahead, Follows, Nexted};
 
@@ -84,7 +84,7 @@ pub fn node_at(image: &[u8], page: usize, offset: usize) -> usize
 // Whether a proxy to the page stands at pos.
 fn names(image: &[u8], pos: usize, page: usize) -> bool
     requires { (pos + 7 < length image.now) × (pos < most_bytes) }
-    ensures { result ≡ namesPage image.now pos page }
+    ensures { result ≡ names_page image.now pos page }
 {
     if image[pos] == 3 {
         return name_at(image, pos) == page;

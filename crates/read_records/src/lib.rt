@@ -29,8 +29,8 @@ pub fn count_pages(image: &[u8], pages: usize) -> usize
 
 // Writes the numbers of those pages to the front of the buffer.
 fn put_pages(image: &[u8], pages: usize, buffer: &mut [u8])
-    requires pages_in_bounds { (page_size * pages ≤ length image.now) × (pages ≤ 65536) }
-    requires pages_in_bounds_2 { 2 * length (up_from image.now (pages - 1) 1) ≤ length buffer.old }
+    requires inside { (page_size * pages ≤ length image.now) × (pages ≤ 65536) }
+    requires room { 2 * length (up_from image.now (pages - 1) 1) ≤ length buffer.old }
     ensures { buffer.new ≡ over 0 (page_bytes (up_from image.now (pages - 1) 1)) buffer.old }
 {
     let mut at = 0;

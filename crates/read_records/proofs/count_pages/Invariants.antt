@@ -1,8 +1,6 @@
 -- `read_records::count_pages`: the pages counted, and those that are left, are all of them.
-use mathlib.Core.Logic.{⊎_elim}
 use Prim.Native.Nat.{◌-◌}
-use native.Mathlib.Omega.{arith}
-use Rattle.read_records.specs.Loops.{Counted, count_start, count_up, count_skip, count_end}
+use Rattle.read_records.specs.Loops.{Counted}
 use Rattle.read_records.proofs.count_pages.Given as goal
 
 abbrev pub invariant-loop-p : goal.invariant-loop-p

@@ -1,12 +1,10 @@
-use mathlib.Core.Logic.{⊎_elim}
-use Prim.Native.Nat.{◌-◌}
 use native.Mathlib.Omega.{arith}
-use Rattle.read_records.specs.Loops.{Put, put_start, put_room, put_up, put_skip, put_end}
+use Rattle.read_records.specs.Loops.{put_start, put_room, put_up, put_skip, put_end}
 use Rattle.read_records.proofs.put_pages.Goals as goal
 use Rattle.read_records.proofs.put_pages.Goals.{else-image-p-eq1, then-image-p-eq1}
 
 pub loop-p-init : goal.loop-p-init
-loop-p-init c = put_start _ _ _ c.requires.1
+loop-p-init c = put_start _ _ _ c.requires.room
 
 pub put16-requires : goal.put16-requires
 put16-requires c =
@@ -25,9 +23,9 @@ loop-p-preserved c =
     let l = c.loop-p in
     let h = c.loop-p-test.true in
     elim c.if-image-p-eq1.branch [
- then-image-p-eq1 w ↦ rw (w.5, w.6) (put_up _ _ _ _ _ _ l.invariant h w.if-image-p-eq1.true _ w.2.ensures)
- | else-image-p-eq1 w ↦ rw (w.1, w.2) (put_skip _ _ _ _ _ _ l.invariant h w.if-image-p-eq1.false)
- ]
+      | then-image-p-eq1 w ↦ rw (w.buffer-is, w.at-is) (put_up _ _ _ _ _ _ l.invariant h w.if-image-p-eq1.true _ w.put16.ensures)
+      | else-image-p-eq1 w ↦ rw (w.buffer-is, w.at-is) (put_skip _ _ _ _ _ _ l.invariant h w.if-image-p-eq1.false)
+    ]
 
 pub shape_of-buffer : goal.shape_of-buffer
 shape_of-buffer c = c.loop-p.invariant.same

@@ -1,8 +1,6 @@
 -- `read_records::put_pages`: the pages that are left, written from `at`, make what all of them make in the buffer as it was.
-use mathlib.Core.Logic.{⊎_elim}
 use Prim.Native.Nat.{◌-◌}
-use native.Mathlib.Omega.{arith}
-use Rattle.read_records.specs.Loops.{Put, put_start, put_room, put_up, put_skip, put_end}
+use Rattle.read_records.specs.Loops.{Put}
 use Rattle.read_records.proofs.put_pages.Given as goal
 
 abbrev pub invariant-loop-p : goal.invariant-loop-p

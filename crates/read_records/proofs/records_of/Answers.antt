@@ -1,6 +1,5 @@
 -- `read_records::records_of`: the count decides whether the buffer is short, and the pages are written if it is not.
 use native.Mathlib.Omega.{arith}
-use borrow.Author.Rules.{rules}
 use Rattle.read_records.specs.Call.{few_pages_lem, few_records, short, written}
 use Rattle.read_records.proofs.records_of.Goals as goal
 
@@ -14,18 +13,13 @@ overflow_mul-n c =
 
 pub returns-then-buffer-n : goal.returns-then-buffer-n
 returns-then-buffer-n c =
-    short c.args.image.now _ _ c.requires c.count_pages-n.ensures
-    c.if-buffer-n.true
+    let a = short c.args.image.now _ _ c.requires c.count_pages-n.ensures c.if-buffer-n.true in
+    record { value = a.0; buffer_after = a.1 }
 
 pub put_pages-requires : goal.put_pages-requires
-put_pages-requires c = (
-  omega (arith, few_pages_lem c.args.image.now c.requires),
-  omega
-      (arith, c.count_pages-n.ensures),
-)
+put_pages-requires c = record { inside = omega (arith, few_pages_lem c.args.image.now c.requires); room = omega (arith, c.count_pages-n.ensures) }
 
 pub returns : goal.returns
 returns c =
-    written c.args.image.now _ _
-    c.requires c.count_pages-n.ensures _
-    c.if-buffer-n.false c.put_pages.ensures
+    let a = written c.args.image.now _ _ c.requires c.count_pages-n.ensures _ c.if-buffer-n.false c.put_pages.ensures in
+    record { value = a.0; buffer_after = a.1 }
