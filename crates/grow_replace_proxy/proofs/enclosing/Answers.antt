@@ -1,6 +1,5 @@
-use Prim.Native.Nat.{ℕ, ◌-◌}
 use native.Mathlib.Omega.{arith}
-use Rattle.grow_replace_proxy.specs.Inner.{Inner, InnerStep, inner_step, filled_in, inner_start, inner_end}
+use Rattle.grow_replace_proxy.specs.Inner.{InnerStep, inner_step, filled_in, inner_start, inner_end}
 use Rattle.grow_replace_proxy.proofs.enclosing.Goals as goal
 
 pub loop-pos-init : goal.loop-pos-init

@@ -1,7 +1,6 @@
 -- `grow_replace_proxy::enclosing`: from pos on, the walk leads to the same node.
 use Prim.Native.Nat.{ℕ, ◌-◌}
-use native.Mathlib.Omega.{arith}
-use Rattle.grow_replace_proxy.specs.Inner.{Inner, InnerStep, inner_step, filled_in, inner_start, inner_end}
+use Rattle.grow_replace_proxy.specs.Inner.{Inner}
 use Rattle.grow_replace_proxy.proofs.enclosing.Given as goal
 
 abbrev pub invariant-loop-pos : goal.invariant-loop-pos

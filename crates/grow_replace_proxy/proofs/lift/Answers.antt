@@ -1,10 +1,6 @@
 -- `grow_replace_proxy::lift`: the record's bytes, where its proxy stands, and the node that holds it.
-use mathlib.Core.Path.{◌≡◌}
 use native.Mathlib.Omega.{arith}
-use borrow.Author.Rules.{rules}
-use Rattle.model.specs.Row.{base}
-use Rattle.grow_splice.specs.Position.{at, parent}
-use Rattle.grow_replace_proxy.specs.Lift.{Lift, before, used, part, sep_most, long, names_once, filled, place}
+use Rattle.grow_replace_proxy.specs.Lift.{used, part, sep_most, long, names_once, filled, place}
 use Rattle.grow_replace_proxy.proofs.lift.Goals as goal
 
 pub slice_bounds-rec-end : goal.slice_bounds-rec-end

@@ -1,8 +1,6 @@
-use Prim.Native.Nat.{ℕ, ◌-◌}
 use native.Mathlib.Omega.{arith}
 use mathlib.Core.Path.{sym, ◌∙◌}
-use lib.ListN.{length}
-use Rattle.grow_replace_proxy.specs.Seek.{Seek, SeekStep, seek_step, proxy_position, seek_start}
+use Rattle.grow_replace_proxy.specs.Seek.{SeekStep, seek_step, proxy_position, seek_start}
 use Rattle.grow_replace_proxy.proofs.proxy_in.Goals as goal
 
 pub loop-pos-init : goal.loop-pos-init

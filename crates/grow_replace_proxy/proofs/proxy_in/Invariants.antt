@@ -1,9 +1,7 @@
 -- `grow_replace_proxy::proxy_in`: from pos on, the search leads to the same proxy.
 use Prim.Native.Nat.{ℕ, ◌-◌}
-use native.Mathlib.Omega.{arith}
-use mathlib.Core.Path.{sym, ◌∙◌}
 use lib.ListN.{length}
-use Rattle.grow_replace_proxy.specs.Seek.{Seek, SeekStep, seek_step, proxy_position, seek_start}
+use Rattle.grow_replace_proxy.specs.Seek.{Seek}
 use Rattle.grow_replace_proxy.proofs.proxy_in.Given as goal
 
 abbrev pub invariant-loop-pos : goal.invariant-loop-pos
