@@ -213,9 +213,9 @@ seek_on pos par n (agg l cs rest) zero h f = omega (arith, h.on.inside, h.start,
 seek_on pos par n (agg l cs rest) (suc k) h f = seek_on _ par n rest k (view h (omega arith)).after f
 seek_on pos par n (lit l c rest) zero h f = omega (arith, h.on.inside, h.start, h.room)
 seek_on pos par n (lit l c rest) (suc k) h f = seek_on _ par n rest k (view h (omega arith)).after f
-seek_on {img} pos par n (rec p s r rest) k h f =
+seek_on {img = img} {page = page} pos par n (rec p s r rest) k h f =
     let P : Located → Type 0 = λ l. l.found ≡ true → PageAround img l.at in
     let v = view h (omega arith) in
     cond_case P (ltb k (width r))
     (λ _. cond_case P (lone r) (λ _ _. omega (arith, h.on.inside, h.start, h.room))
-    (λ _ f. seek_on _ 0 (n + 1) r k v.under.here f)) (λ _ f. seek_on (pos + 8) par n rest (k - width r) v.after f) f
+    (λ _ f. seek_on {page = p} _ 0 (n + 1) r k v.under.here f)) (λ _ f. seek_on (pos + 8) par n rest (k - width r) v.after f) f

@@ -1,6 +1,6 @@
 -- The walk over a record's headers to its proxy to a page.
 use Rattle.std.specs.Prelude.{◌≡◌, refl, Bool, List, ℕ, ◌+◌, ◌<◌, ◌≤◌, length}
-use Rattle.std.proofs.Common.{sym, ap, ◌∙◌, arith}
+use Rattle.std.proofs.Common.{subst, sym, ap, ◌∙◌, arith}
 use Rattle.theory_row_bytes.specs.RowAt.{RecordIs}
 use Rattle.model.specs.Limits.{capacity}
 use Rattle.model.specs.Row.{Head, Row, nil, agg, lit, rec, size, base, record_size, count}
@@ -130,7 +130,7 @@ module _ (l : List ℕ) (page pos goal : ℕ) (b : Bool) (old rest : Row) where
       let d = push_first x (rec p s r nil) t v (omega arith) in
       let own = names_own p s r nil in
       let apart : page ≡ p → ⊥ = λ f.
-      let k : 1 ≤ count page (rec p s r nil) = rw f own in
+      let k : 1 ≤ count page (rec p s r nil) = subst (λ (q : ℕ). 1 ≤ count q (rec p s r nil)) (sym f) own in
       omega (arith, o, count_push page (rec p s r nil) t x, count_position t page b old rest) in
       record {
         within = room (push (rec p s r nil) t) v;

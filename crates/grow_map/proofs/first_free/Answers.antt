@@ -1,6 +1,5 @@
 -- `grow_map::first_free`: up to the map's end, then from page 2 up to where it began.
 use Rattle.grow_map.specs.Search.{found_up, found_again, found_none}
-use borrow.Author.Rules.{rules}
 use Rattle.grow_map.proofs.first_free.Goals as goal
 
 pub returns-then-q-map : goal.returns-then-q-map

@@ -1,9 +1,6 @@
 use mathlib.Core.Path.{sym, ◌∙◌}
-use Prim.Native.Nat.{◌*◌, ◌-◌}
 use native.Mathlib.Omega.{arith}
-use borrow.Author.Tests.{not-true, not-false}
-use lib.ListN.{length}
-use Rattle.grow_map.specs.Search.{Upto, upto_start, upto_page, upto_bytes}
+use Rattle.grow_map.specs.Search.{upto_start, upto_page, upto_bytes}
 use Rattle.grow_map.proofs.free_up.Goals as goal
 
 pub loop-q-init : goal.loop-q-init
@@ -17,7 +14,7 @@ is_used-requires c = c.loop-q-test.true
 
 pub returns-then-not-is_used : goal.returns-then-not-is_used
 returns-then-not-is_used c =
-    record { upto = c.loop-q.invariant; free = λ _. sym c.is_used.ensures ∙ not-true _ c.if-not-is_used.true }
+    record { upto = c.loop-q.invariant; free = λ _. sym c.is_used.ensures ∙ c.if-not-is_used.true }
 
 pub overflow_add-q : goal.overflow_add-q
 overflow_add-q c = omega (arith, c.loop-q.invariant.most)
@@ -28,7 +25,7 @@ loop-q-smaller-then-n-eq0 c = omega (arith, c.loop-q-test.true)
 pub loop-q-preserved-then-n-eq0 : goal.loop-q-preserved-then-n-eq0
 loop-q-preserved-then-n-eq0 c =
     upto_page _ _ _ c.loop-q.invariant c.loop-q-test.true c.requires.1
-    (sym c.is_used.ensures ∙ not-false _ c.if-not-is_used.false)
+    (sym c.is_used.ensures ∙ c.if-not-is_used.false)
 
 pub overflow_add-q-else-n-eq0 : goal.overflow_add-q-else-n-eq0
 overflow_add-q-else-n-eq0 c = omega (arith, c.full_bytes-n.ensures.0, c.requires.1)

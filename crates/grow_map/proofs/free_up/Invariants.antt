@@ -1,10 +1,7 @@
 -- `grow_map::free_up`: all pages that are passed are used, one by one or with the bytes that hold them.
-use mathlib.Core.Path.{sym, ◌∙◌}
 use Prim.Native.Nat.{◌*◌, ◌-◌}
-use native.Mathlib.Omega.{arith}
-use borrow.Author.Tests.{not-true, not-false}
 use lib.ListN.{length}
-use Rattle.grow_map.specs.Search.{Upto, upto_start, upto_page, upto_bytes}
+use Rattle.grow_map.specs.Search.{Upto}
 use Rattle.grow_map.proofs.free_up.Given as goal
 
 abbrev pub invariant-loop-q : goal.invariant-loop-q

@@ -1,5 +1,4 @@
 use mathlib.Core.Path.{refl}
-use borrow.Author.Rules.{rules}
 use Rattle.theory_check.specs.Tests.{is_marked}
 use Rattle.grow_map.proofs.is_used.Goals as goal
 

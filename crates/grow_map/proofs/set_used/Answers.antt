@@ -1,5 +1,4 @@
 use mathlib.Core.Path.{refl}
-use borrow.Author.Rules.{rules}
 use Rattle.theory_check.specs.Tests.{marked}
 use Rattle.grow_map.proofs.set_used.Goals as goal
 

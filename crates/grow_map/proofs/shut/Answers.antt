@@ -1,12 +1,11 @@
-use mathlib.Core.Path.{◌≡◌, refl, sym, ap, subst, ◌∙◌}
+use mathlib.Core.Path.{refl, sym, ap, subst, ◌∙◌}
 use mathlib.Core.List.{List}
-use Prim.Native.Nat.{ℕ, ◌+◌, ◌*◌, ◌-◌, ◌≤◌}
-use native.Mathlib.Omega.{arith}
+use Prim.Native.Nat.{ℕ, ◌+◌}
 use borrow.Author.Rules.{rules}
 use lib.ListN.{length}
 use Rattle.theory_check.specs.Tests.{marked}
 use Rattle.theory_check.specs.Marks.{length_mark}
-use Rattle.grow_map.specs.Map.{most_map, ShutTo, shut_start, shut_turn, shut_end}
+use Rattle.grow_map.specs.Map.{ShutTo, shut_start, shut_turn, shut_end}
 use Rattle.grow_map.proofs.shut.Goals as goal
 
 pub loop-p-init : goal.loop-p-init

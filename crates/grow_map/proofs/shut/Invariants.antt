@@ -1,13 +1,9 @@
 -- `grow_map::shut`: pages 0 and 1 are marked, and those from `pages` to p.
-use mathlib.Core.Path.{◌≡◌, refl, sym, ap, subst, ◌∙◌}
+use mathlib.Core.Path.{◌≡◌}
 use mathlib.Core.List.{List}
-use Prim.Native.Nat.{ℕ, ◌+◌, ◌*◌, ◌-◌, ◌≤◌}
-use native.Mathlib.Omega.{arith}
-use borrow.Author.Rules.{rules}
+use Prim.Native.Nat.{ℕ, ◌*◌, ◌-◌, ◌≤◌}
 use lib.ListN.{length}
-use Rattle.theory_check.specs.Tests.{marked}
-use Rattle.theory_check.specs.Marks.{length_mark}
-use Rattle.grow_map.specs.Map.{most_map, ShutTo, shut_start, shut_turn, shut_end}
+use Rattle.grow_map.specs.Map.{most_map, ShutTo}
 use Rattle.grow_map.proofs.shut.Given as goal
 
 abbrev pub invariant-loop-p : goal.invariant-loop-p

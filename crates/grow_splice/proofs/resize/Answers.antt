@@ -1,9 +1,6 @@
-use mathlib.Core.Path.{◌≡◌, refl, ◌∙◌}
-use mathlib.Core.List.{List}
-use Prim.Native.Nat.{ℕ, ◌+◌, ◌-◌, ◌≤◌}
+use mathlib.Core.Path.{refl, ◌∙◌}
 use native.Mathlib.Omega.{arith}
-use lib.ListN.{length}
-use Rattle.grow_splice.specs.Resize.{Mid, Look, look, mid_end, Cut, resized, cut_length, cut_least, cut_small, cut_start}
+use Rattle.grow_splice.specs.Resize.{Look, look, mid_end, resized, cut_length, cut_least, cut_small, cut_start}
 use Rattle.grow_splice.proofs.resize.Goals as goal
 
 pub size_at-whole-requires : goal.size_at-whole-requires
@@ -35,9 +32,9 @@ overflow_add-pos-then-par-pos c = let v : Look c.loop-pos.s (resized _ _ _ _ c.r
     (omega (arith, c.loop-pos-test.true)) in omega (arith, v.fits)
 
 pub overflow_sub-size : goal.overflow_sub-size
-overflow_sub-size c = omega (arith, (let v : Look c.loop-pos.s (resized _ _ _ _ c.requires) c.loop-pos.pos c.args.par c.args.less c.args.more = look _ _ _ _ _ _ (c.loop-pos.invariant.0 _ ((rw (c.put16.ensures, c.size_at-whole.ensures.0) (cut_start _ _ _ _ c.requires))))
+overflow_sub-size c = let v : Look c.loop-pos.s (resized _ _ _ _ c.requires) c.loop-pos.pos c.args.par c.args.less c.args.more = look _ _ _ _ _ _ (c.loop-pos.invariant.0 _ ((rw (c.put16.ensures, c.size_at-whole.ensures.0) (cut_start _ _ _ _ c.requires))))
     (omega (arith, c.loop-pos-test.true)) in
-    omega (arith, c.size_at-size.ensures.0, v.least (omega (arith, c.if-par-pos.true, c.size_at-size.ensures.0)))))
+    omega (arith, c.size_at-size.ensures.0, v.least (omega (arith, c.if-par-pos.true, c.size_at-size.ensures.0)))
 
 pub overflow_add-size : goal.overflow_add-size
 overflow_add-size c = let v : Look c.loop-pos.s (resized _ _ _ _ c.requires) c.loop-pos.pos c.args.par c.args.less c.args.more = look _ _ _ _ _ _ (c.loop-pos.invariant.0 _ ((rw (c.put16.ensures, c.size_at-whole.ensures.0) (cut_start _ _ _ _ c.requires))))
@@ -57,13 +54,12 @@ pub loop-pos-smaller-then-par-pos : goal.loop-pos-smaller-then-par-pos
 loop-pos-smaller-then-par-pos c = omega (arith, c.loop-pos-test.true)
 
 pub loop-pos-preserved-then-par-pos : goal.loop-pos-preserved-then-par-pos
-loop-pos-preserved-then-par-pos c =
-    (
-      λ g m. rw (c.put16-then-par-pos.ensures, c.size_at-size.ensures.0)
-          ((look _ _ _ _ _ _ (c.loop-pos.invariant.0 g m) (omega (arith, c.loop-pos-test.true))).enter
-          (omega (arith, c.if-par-pos.true, c.size_at-size.ensures.0))),
-      c.put16-then-par-pos.auto.0 ∙ c.loop-pos.invariant.1,
-    )
+loop-pos-preserved-then-par-pos c = (
+  λ g m. rw (c.put16-then-par-pos.ensures, c.size_at-size.ensures.0)
+      ((look _ _ _ _ _ _ (c.loop-pos.invariant.0 g m) (omega (arith, c.loop-pos-test.true))).enter
+      (omega (arith, c.if-par-pos.true, c.size_at-size.ensures.0))),
+  c.put16-then-par-pos.auto.s ∙ c.loop-pos.invariant.1,
+)
 
 pub overflow_add-pos-else-par-pos : goal.overflow_add-pos-else-par-pos
 overflow_add-pos-else-par-pos c = omega (arith, c.size_at-size.ensures.1, c.if-par-pos.false)
@@ -74,16 +70,15 @@ loop-pos-smaller c =
     (omega (arith, c.loop-pos-test.true)) in omega (arith, v.long, c.size_at-size.ensures.0, c.loop-pos-test.true)
 
 pub loop-pos-preserved : goal.loop-pos-preserved
-loop-pos-preserved c =
-    (
-      λ g m. rw c.size_at-size.ensures.0
-          ((look _ _ _ _ _ _ (c.loop-pos.invariant.0 g m) (omega (arith, c.loop-pos-test.true))).skip
-          (omega (arith, c.if-par-pos.false, c.size_at-size.ensures.0))),
-      c.loop-pos.invariant.1,
-    )
+loop-pos-preserved c = (
+  λ g m. rw c.size_at-size.ensures.0
+      ((look _ _ _ _ _ _ (c.loop-pos.invariant.0 g m) (omega (arith, c.loop-pos-test.true))).skip
+      (omega (arith, c.if-par-pos.false, c.size_at-size.ensures.0))),
+  c.loop-pos.invariant.1,
+)
 
 pub shape_of-s : goal.shape_of-s
-shape_of-s c = c.loop-pos.invariant.1 ∙ c.put16.auto.0
+shape_of-s c = c.loop-pos.invariant.1 ∙ c.put16.auto.s
 
 pub returns : goal.returns
 returns c = λ w. mid_end _ _ _ _ _ _ (c.loop-pos.invariant.0 _ ((rw (c.put16.ensures, c.size_at-whole.ensures.0) (cut_start _ _ _ _ w)))) (omega (arith, c.loop-pos-test.false))

@@ -1,10 +1,9 @@
 -- `grow_splice::resize`: from pos on, the nodes that contain the position have their old sizes.
-use mathlib.Core.Path.{◌≡◌, refl, ◌∙◌}
+use mathlib.Core.Path.{◌≡◌}
 use mathlib.Core.List.{List}
-use Prim.Native.Nat.{ℕ, ◌+◌, ◌-◌, ◌≤◌}
-use native.Mathlib.Omega.{arith}
+use Prim.Native.Nat.{ℕ, ◌+◌, ◌-◌}
 use lib.ListN.{length}
-use Rattle.grow_splice.specs.Resize.{Mid, Look, look, mid_end, Cut, resized, cut_length, cut_least, cut_small, cut_start}
+use Rattle.grow_splice.specs.Resize.{Mid}
 use Rattle.grow_splice.proofs.resize.Given as goal
 
 abbrev pub invariant-loop-pos : goal.invariant-loop-pos

@@ -1,10 +1,7 @@
 -- `grow_splice::splice`: the front with its nodes' new sizes, the new bytes, and what stood past those that go.
-use mathlib.Core.Path.{◌≡◌, refl, sym, ap, ◌∙◌}
-use mathlib.Core.List.{◌++◌}
-use Prim.Native.Nat.{◌+◌, ◌≤◌}
+use mathlib.Core.Path.{refl, sym, ap, ◌∙◌}
 use native.Mathlib.Omega.{arith}
-use borrow.Author.Rules.{rules}
-use lib.ListN.{length, drop, length-take, length-drop}
+use lib.ListN.{length, length-take, length-drop}
 use lib.Seq.{length-take-le, length_front}
 use Rattle.grow_splice.specs.Splice.{within, spliced_size, cut, steps, copied_front, part_end}
 use Rattle.grow_splice.proofs.splice.Goals as goal
@@ -18,10 +15,10 @@ copy_in-requires c =
 
 pub slice_bounds-resize-end : goal.slice_bounds-resize-end
 slice_bounds-resize-end c =
-    omega (arith, (within _ _ _ _ _ c.requires.0), c.requires.1.0, c.copy_in.auto.1.0)
+    omega (arith, (within _ _ _ _ _ c.requires.0), c.requires.1.0, c.copy_in.auto.dst)
 
 pub slice_bounds-resize-end-2 : goal.slice_bounds-resize-end-2
-slice_bounds-resize-end-2 c = sym (length-take-le _ _ (slice_bounds-resize-end c.before))
+slice_bounds-resize-end-2 c = sym (length-take-le _ _ (omega (arith, (within _ _ _ _ _ c.requires.0), c.requires.1.0, c.copy_in.auto.dst)))
 
 pub resize-requires : goal.resize-requires
 resize-requires c =
@@ -29,7 +26,7 @@ resize-requires c =
 
 pub copy_in-requires-2 : goal.copy_in-requires-2
 copy_in-requires-2 c =
-    omega (arith, (length_front c.copy_in.new.1.0 c.resize.new.0 c.args.at c.resize.auto.0 ∙ c.copy_in.auto.1.0), (within _ _ _ _ _ c.requires.0), c.requires.1.0)
+    omega (arith, (length_front c.copy_in.new.dst c.resize.new.s c.args.at c.resize.auto.s ∙ c.copy_in.auto.dst), (within _ _ _ _ _ c.requires.0), c.requires.1.0)
 
 pub overflow_add-rest : goal.overflow_add-rest
 overflow_add-rest c =
@@ -51,8 +48,8 @@ pub copy_in-requires-3 : goal.copy_in-requires-3
 copy_in-requires-3 c =
     simp (length-take, length-drop) (omega (
       arith,
-      (length_front c.copy_in.new.1.0 c.resize.new.0 c.args.at c.resize.auto.0 ∙ c.copy_in.auto.1.0),
-      c.copy_in-2.auto.1.0,
+      (length_front c.copy_in.new.dst c.resize.new.s c.args.at c.resize.auto.s ∙ c.copy_in.auto.dst),
+      c.copy_in-2.auto.dst,
       (within _ _ _ _ _ c.requires.0),
       c.requires.1.0,
     ))
@@ -71,5 +68,5 @@ returns c =
       sym (spliced_size _ _ _ _ _ w),
       steps _ _ _ _ _ w _ _ _ _ _ _ f c.requires.1.1 refl c.requires.1.0 c.copy_in.ensures
           (c.resize.ensures (cut _ _ _ _ _ w _ _ f c.requires.1.1))
-          (c.resize.auto.0 ∙ ap length f ∙ length-take-le _ _ ((omega (arith, (within _ _ _ _ _ c.requires.0))))) c.copy_in-2.ensures (rw part_end at c.copy_in-3.ensures),
+          (c.resize.auto.s ∙ ap length f ∙ length-take-le _ _ ((omega (arith, (within _ _ _ _ _ c.requires.0))))) c.copy_in-2.ensures (rw part_end at c.copy_in-3.ensures),
     )

@@ -1,15 +1,13 @@
 use mathlib.Core.Path.{refl}
-use mathlib.Core.Logic.{⊎_elim}
-use Prim.Native.Nat.{◌-◌}
 use native.Mathlib.Omega.{arith}
-use borrow.Author.Tests.{leb-true, leb-false}
+use borrow.Author.Tests.{leb-true}
 use Rattle.model.specs.Row.{nil}
 use Rattle.theory_rows.specs.Laws.{not_nil}
 use Rattle.theory_rows.specs.Cut.{choosing}
-use Rattle.grow_split_point.specs.Kids.{Kids, first_fits}
-use Rattle.grow_split_point.specs.Search.{Seeks, seek_on, last_ends, last_past}
+use Rattle.grow_split_point.specs.Kids.{first_fits}
+use Rattle.grow_split_point.specs.Search.{seek_on, last_ends, last_past}
 use Rattle.grow_split_point.proofs.child.Goals as goal
-use Rattle.grow_split_point.proofs.child.Goals.{else-else-next-end, then-else-next-end}
+use Rattle.grow_split_point.proofs.child.Goals.{else-next-end-via-else-next-end, else-next-end-via-then-next-end+else-next-p}
 
 pub loop-pos-init : goal.loop-pos-init
 loop-pos-init c = λ w. record { kids = w; left = nil; way = λ st. choosing st _ _ w.row (not_nil w.row w.some) }
@@ -36,7 +34,7 @@ returns-else-next-end c = λ w st.
       from = s.kids.row;
       way = s.way st;
       last = elim c.else-next-end.branch [
- then-else-next-end v ↦ last_past s is v.else-next-end.true (omega (arith, leb-false))
- | else-else-next-end v ↦ last_ends s is v.left
- ];
+        | else-next-end-via-then-next-end+else-next-p v ↦ last_past s is v.if-next-end.true v.if-next-p.false
+        | else-next-end-via-else-next-end v ↦ last_ends s is v.if-next-end.false
+      ];
     }

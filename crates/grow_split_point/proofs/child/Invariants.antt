@@ -1,14 +1,7 @@
 -- `grow_split_point::child`: the search has come to pos.
-use mathlib.Core.Path.{refl}
-use mathlib.Core.Logic.{⊎_elim}
 use Prim.Native.Nat.{◌-◌}
-use native.Mathlib.Omega.{arith}
-use borrow.Author.Tests.{leb-true, leb-false}
-use Rattle.model.specs.Row.{nil}
-use Rattle.theory_rows.specs.Laws.{not_nil}
-use Rattle.theory_rows.specs.Cut.{choosing}
-use Rattle.grow_split_point.specs.Kids.{Kids, first_fits}
-use Rattle.grow_split_point.specs.Search.{Seeks, seek_on, last_ends, last_past}
+use Rattle.grow_split_point.specs.Kids.{Kids}
+use Rattle.grow_split_point.specs.Search.{Seeks}
 use Rattle.grow_split_point.proofs.child.Given as goal
 
 abbrev pub invariant-loop-pos : goal.invariant-loop-pos

@@ -1,5 +1,4 @@
 -- `grow_split_point::first_node`: the first byte says whether the record is a helper.
-use borrow.Author.Rules.{rules}
 use borrow.Author.Tests.{eq-eqb, ne_eqb}
 use Rattle.theory_row_bytes.specs.RowAt.{record_whole, record_first}
 use Rattle.grow_split_point.proofs.first_node.Goals as goal

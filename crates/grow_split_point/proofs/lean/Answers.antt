@@ -1,5 +1,4 @@
 -- `grow_split_point::lean`: the machine's difference is the difference, and it is in the range.
-use borrow.Author.Rules.{rules}
 use mathlib.Core.Path.{◌≡◌, refl}
 use Prim.Native.Nat.{ℕ, ◌≤◌}
 use native.Mathlib.Omega.{arith}

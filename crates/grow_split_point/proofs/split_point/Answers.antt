@@ -1,6 +1,6 @@
 -- `grow_split_point::split_point`: what it gives is the nearest whole number, and that is the split point.
 use mathlib.Core.Path.{◌≡◌, sym, subst}
-use Prim.Native.Nat.{ℕ, ◌*◌, ◌≤◌}
+use Prim.Native.Nat.{ℕ, ◌*◌}
 use native.Mathlib.Omega.{arith}
 use native.Mathlib.Nat.{mul-le-mul_right}
 use Rattle.model.specs.Row.{Config}
