@@ -77,7 +77,7 @@ returns c w =
     let o = to-left f in
     gone_goes w ((to-less o).one_less.ensures (raising w)) (f.free-branch.ensures (branch w))
     (proxy_left w _ _ _ (o.take_out.ensures (removing w)) l.before.before.if1.true) _ _ l.lift-child.ensures
-    c.before.before.set_Free.ensures
+    c.before.before.set_free.ensures
 
 array-share-prefix-buf : tie.Need-array-share-prefix-buf
 array-share-prefix-buf c =
