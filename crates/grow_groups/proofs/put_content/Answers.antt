@@ -1,7 +1,6 @@
 -- `grow_groups::put_content`: the content is the nodes, or a helper with the nodes.
 use native.Mathlib.Omega.{arith}
 use Rattle.grow_groups.specs.Group.{part_fits, part_room, one_node, more_nodes, page_with}
-use borrow.Author.Rules.{rules}
 use Rattle.grow_groups.proofs.put_content.Goals as goal
 
 pub size_at-requires : goal.size_at-requires

@@ -5,7 +5,6 @@ use native.Mathlib.Omega.{arith}
 use lib.ListN.{length}
 use Rattle.grow_groups.specs.Used.{found_inside}
 use Rattle.grow_groups.specs.Group.{kept_room, group_kept, group_record, proxy_room, group_moved}
-use borrow.Author.Rules.{rules}
 use Rattle.grow_groups.proofs.put_group.Goals as goal
 use Rattle.grow_groups.proofs.put_group.Goals.{After-first_free-q}
 
@@ -50,4 +49,4 @@ returns c =
     λ w.
     let h = sym c.if-stays.false ∙ c.stays.ensures w.row w.is in
     let r = group_record c.requires.0 w h in
-    group_moved c.requires.0 w h _ _ _ _ _ _ _ c.first_free-q.ensures c.set_used.ensures (c.put_new.ensures.1 r) (c.put_new.ensures.0 r) c.put_proxy.ensures
+    group_moved c.requires.0 w h _ _ _ _ _ _ _ c.first_free-q.ensures c.set_used.ensures (c.put_new.ensures.widths r) (c.put_new.ensures.image r) c.put_proxy.ensures

@@ -1,6 +1,5 @@
 -- `grow_groups::put_helper`: three two-byte numbers, the nodes, and the record's end in a row.
 use Rattle.grow_groups.specs.Group.{helper_written}
-use borrow.Author.Rules.{rules}
 use Rattle.grow_groups.proofs.put_helper.Goals as goal
 
 pub returns : goal.returns

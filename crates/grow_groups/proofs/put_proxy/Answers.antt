@@ -1,6 +1,5 @@
 -- `grow_groups::put_proxy`: four two-byte numbers in a row.
 use Rattle.grow_groups.specs.Group.{proxy_written}
-use borrow.Author.Rules.{rules}
 use Rattle.grow_groups.proofs.put_proxy.Goals as goal
 
 pub returns : goal.returns
