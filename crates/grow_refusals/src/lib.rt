@@ -55,9 +55,9 @@ fn kind_bad(kind: usize, len: usize) -> bool
 // The search for the new node's spot is the test, so that the children are passed one time.
 fn try_parent(image: &[u8], widths: &[u32], parent: usize, child: usize) -> Admitted
     requires { ((n : Node) × ReadAt image.now n parent) × Widths image.now widths.now }
-    ensures number_value { (n : Node) → ReadAt image.now n parent → result.number ≡ parent_number n.kind n.children child }
-    ensures parent_value { result.number ≡ 0 → result.parent ≡ parent }
-    ensures receiver_value { result.number ≡ 0 → (w : Aimed image.now result.parent child) → result.receiver ≡ receiver_of w.t }
+    ensures number { (n : Node) → ReadAt image.now n parent → result.number ≡ parent_number n.kind n.children child }
+    ensures parent { result.number ≡ 0 → result.parent ≡ parent }
+    ensures receiver { result.number ≡ 0 → (w : Aimed image.now result.parent child) → result.receiver ≡ receiver_of w.t }
 {
     if image[parent] == 2 {
         return refused(8);
@@ -85,11 +85,11 @@ pub fn admit(
     content: &[u8],
 ) -> Admitted
     requires { (check_of image.now ≡ 0) × Widths image.now widths.now }
-    ensures number_value { (st : Config) (root : Row) → Reads image.now st root → (label : ℕ)
+    ensures number { (st : Config) (root : Row) → Reads image.now st root → (label : ℕ)
         → result.number ≡ insert_number (shown root) path.now child (new_of kind origin label content.now) false }
-    ensures parent_value { result.number ≡ 0 → result.parent ≡ page_size * (find_of image.now path.now).place.page
+    ensures parent { result.number ≡ 0 → result.parent ≡ page_size * (find_of image.now path.now).place.page
         + (find_of image.now path.now).place.offset }
-    ensures receiver_value { result.number ≡ 0 → (w : Aimed image.now result.parent child) → result.receiver ≡ receiver_of w.t }
+    ensures receiver { result.number ≡ 0 → (w : Aimed image.now result.parent child) → result.receiver ≡ receiver_of w.t }
 {
     if Settings::PARENT_PATH < path.len() {
         return refused(4);
