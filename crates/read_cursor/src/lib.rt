@@ -4,7 +4,7 @@
 ghost use Rattle.std.specs.Prelude.{◌≡◌, cond, List, ℕ, ◌+◌, ◌-◌, ◌≤◌, ◌<◌, length, set, eqb};
 ghost use Rattle.std.proofs.lemmas.List.Edits.{sets};
 ghost use Rattle.model.specs.Reading.{kind_at, head_at};
-ghost use Rattle.read_cursor.specs.Way.{way, begin as beginOf, told};
+ghost use Rattle.read_cursor.specs.Way.{way, begin as begin_of, told};
 ghost use Rattle.read_cursor.specs.Meets.{entry_at, entry_by};
 ghost use Rattle.read_cursor.specs.Going.{cursor, NodeHere, enters as enters_of, saved, Goal, Going, AtNode, AtEnd, Dealt, Roomy};
 
@@ -37,7 +37,7 @@ pub struct Told {
 
 // Where the entry of the node at i goes: the entries begin with the node at the target.
 fn begin(at: usize, i: usize, target: usize) -> usize
-    ensures { result ≡ beginOf target at i }
+    ensures { result ≡ begin_of target at i }
 {
     if at != 0 {
         return at;

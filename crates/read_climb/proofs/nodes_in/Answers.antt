@@ -8,7 +8,7 @@ pub returns-then-image-i-ne3 : goal.returns-then-image-i-ne3
 returns-then-image-i-ne3 c w = plain _ _ w c.if-image-i-ne3.true
 
 pub bounds-widths-p : goal.bounds-widths-p
-bounds-widths-p c = omega (arith, ((let fact : RecordTold c.args.image.now c.name_at-p.result (first_width c.requires.0.row) = record_told _ _ _ c.requires.0 c.name_at-p.ensures.0 c.if-image-i-ne3.false in fact)).on.inside, c.requires.1.long)
+bounds-widths-p c = omega (arith, (let fact : RecordTold c.args.image.now c.name_at-p.result (first_width c.requires.0.row) = record_told _ _ _ c.requires.0 c.name_at-p.ensures.0 c.if-image-i-ne3.false in fact).on.inside, c.requires.1.long)
 
 pub overflow_cast-result : goal.overflow_cast-result
 overflow_cast-result c =

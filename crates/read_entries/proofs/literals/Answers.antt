@@ -43,7 +43,7 @@ loop-out-preserved c =
     )
 
 pub shape_of-out : goal.shape_of-out
-shape_of-out c = ((let p = c.requires.0 in c.loop-out.invariant.0 p.0 p.1 p.2 p.3)).long ∙ sym c.requires.0.3.long
+shape_of-out c = (let p = c.requires.0 in c.loop-out.invariant.0 p.0 p.1 p.2 p.3).long ∙ sym c.requires.0.3.long
 
 pub returns : goal.returns
 returns c = let i = c.loop-out.invariant in record { goes = i.0; moves = (i.3, i.4, λ e. further _ _ _ _ i.3 i.5 (sym c.at_literal.ensures ∙ c.loop-out-test.false) e) }

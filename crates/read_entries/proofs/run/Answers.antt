@@ -10,10 +10,10 @@ pub loop-i-init : goal.loop-i-init
 loop-i-init c = (λ target g w e. w, omega arith, omega arith)
 
 pub writes-requires : goal.writes-requires
-writes-requires c = ((c.loop-i.invariant.0 c.requires.0 c.requires.1 c.requires.2 c.requires.3)).fair.low
+writes-requires c = (c.loop-i.invariant.0 c.requires.0 c.requires.1 c.requires.2 c.requires.3).fair.low
 
 pub shape_of-out-then-c-level : goal.shape_of-out-then-c-level
-shape_of-out-then-c-level c = ((c.loop-i.invariant.0 c.requires.0 c.requires.1 c.requires.2 c.requires.3)).long ∙ sym c.requires.2.long
+shape_of-out-then-c-level c = (c.loop-i.invariant.0 c.requires.0 c.requires.1 c.requires.2 c.requires.3).long ∙ sym c.requires.2.long
 
 pub returns-then-c-level : goal.returns-then-c-level
 returns-then-c-level c = let i = c.loop-i.invariant in record { goes = i.0; moves = (i.1, i.2) }
@@ -40,7 +40,7 @@ pub bounds-image-i : goal.bounds-image-i
 bounds-image-i c = let w : Going c.args.image.now c.requires.0 c.requires.1 c.loop-i.c c.loop-i.stack c.loop-i.out = c.loop-i.invariant.0 c.requires.0 c.requires.1 c.requires.2 c.requires.3 in (inside w (at_some w c.if-i-c.false)).0
 
 pub shape_of-out-then-kind-eq3 : goal.shape_of-out-then-kind-eq3
-shape_of-out-then-kind-eq3 c = ((c.loop-i.invariant.0 c.requires.0 c.requires.1 c.requires.2 c.requires.3)).long ∙ sym c.requires.2.long
+shape_of-out-then-kind-eq3 c = (c.loop-i.invariant.0 c.requires.0 c.requires.1 c.requires.2 c.requires.3).long ∙ sym c.requires.2.long
 
 pub returns-then-kind-eq3 : goal.returns-then-kind-eq3
 returns-then-kind-eq3 c = let i = c.loop-i.invariant in record { goes = i.0; moves = (i.1, i.2) }
@@ -48,13 +48,13 @@ returns-then-kind-eq3 c = let i = c.loop-i.invariant in record { goes = i.0; mov
 pub literals-c-requires : goal.literals-c-requires
 literals-c-requires c =
     let w : Going c.args.image.now c.requires.0 c.requires.1 c.loop-i.c c.loop-i.stack c.loop-i.out = c.loop-i.invariant.0 c.requires.0 c.requires.1 c.requires.2 c.requires.3 in
-    let r : Roomy c.loop-i.c (length c.loop-i.out) = writes_roomy c.loop-i.c (length c.loop-i.out) ((c.loop-i.invariant.0 c.requires.0 c.requires.1 c.requires.2 c.requires.3)).fair.low (sym c.writes.ensures ∙ c.loop-i-test.true) in
+    let r : Roomy c.loop-i.c (length c.loop-i.out) = writes_roomy c.loop-i.c (length c.loop-i.out) (c.loop-i.invariant.0 c.requires.0 c.requires.1 c.requires.2 c.requires.3).fair.low (sym c.writes.ensures ∙ c.loop-i-test.true) in
     ((_, _, _, w), r.begun, r.calm)
 
 pub loop-i-smaller-then-kind-eq2 : goal.loop-i-smaller-then-kind-eq2
 loop-i-smaller-then-kind-eq2 c =
     let w : Going c.args.image.now c.requires.0 c.requires.1 c.loop-i.c c.loop-i.stack c.loop-i.out = c.loop-i.invariant.0 c.requires.0 c.requires.1 c.requires.2 c.requires.3 in
-    let r : Roomy c.loop-i.c (length c.loop-i.out) = writes_roomy c.loop-i.c (length c.loop-i.out) ((c.loop-i.invariant.0 c.requires.0 c.requires.1 c.requires.2 c.requires.3)).fair.low (sym c.writes.ensures ∙ c.loop-i-test.true) in
+    let r : Roomy c.loop-i.c (length c.loop-i.out) = writes_roomy c.loop-i.c (length c.loop-i.out) (c.loop-i.invariant.0 c.requires.0 c.requires.1 c.requires.2 c.requires.3).fair.low (sym c.writes.ensures ∙ c.loop-i-test.true) in
     let m = c.literals-c.ensures.moves in
     omega (arith, m.1, m.2 (next_literal c.args.image.now c.loop-i.c (length c.loop-i.out) (record { some = c.if-i-c.false; kind = c.if-kind-eq2.true; roomy = r })), (inside w (at_some w c.if-i-c.false)).0)
 
@@ -68,7 +68,7 @@ pub write_aggregate-c-requires : goal.write_aggregate-c-requires
 write_aggregate-c-requires c =
     let w : Going c.args.image.now c.requires.0 c.requires.1 c.loop-i.c c.loop-i.stack c.loop-i.out = c.loop-i.invariant.0 c.requires.0 c.requires.1 c.requires.2 c.requires.3 in
     let a = at_node w c.if-i-c.false c.if-kind-eq3.false in
-    let r : Roomy c.loop-i.c (length c.loop-i.out) = writes_roomy c.loop-i.c (length c.loop-i.out) ((c.loop-i.invariant.0 c.requires.0 c.requires.1 c.requires.2 c.requires.3)).fair.low (sym c.writes.ensures ∙ c.loop-i-test.true) in
+    let r : Roomy c.loop-i.c (length c.loop-i.out) = writes_roomy c.loop-i.c (length c.loop-i.out) (c.loop-i.invariant.0 c.requires.0 c.requires.1 c.requires.2 c.requires.3).fair.low (sym c.writes.ensures ∙ c.loop-i-test.true) in
     ((_, _, a), r, aggregate _ (node_here a _ refl).kind c.if-kind-eq2.false)
 
 pub loop-i-smaller : goal.loop-i-smaller
@@ -87,7 +87,7 @@ loop-i-preserved c =
     )
 
 pub shape_of-out : goal.shape_of-out
-shape_of-out c = ((c.loop-i.invariant.0 c.requires.0 c.requires.1 c.requires.2 c.requires.3)).long ∙ sym c.requires.2.long
+shape_of-out c = (c.loop-i.invariant.0 c.requires.0 c.requires.1 c.requires.2 c.requires.3).long ∙ sym c.requires.2.long
 
 pub returns : goal.returns
 returns c = let i = c.loop-i.invariant in record { goes = i.0; moves = (i.1, i.2) }
