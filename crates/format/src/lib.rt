@@ -67,8 +67,8 @@ fn settings_fit(settings: Settings, matrix: &[u8], pages: usize) -> bool
 
 // Format: a store with a root aggregate alone in the whole image, or the refusal's number with the image as it was.
 pub fn format_image(image: &mut [u8], settings: Settings, matrix: &[u8], root_label: u16) -> u32
-    ensures value { result ≡ (format_of image.old settings matrix.now root_label).0 }
-    ensures image_after { image.new ≡ (format_of image.old settings matrix.now root_label).1 }
+    ensures answer { result ≡ (format_of image.old settings matrix.now root_label).0 }
+    ensures image { image.new ≡ (format_of image.old settings matrix.now root_label).1 }
 {
     let n = image.len();
     if !length_ok(n) {

@@ -140,8 +140,8 @@ fn unreached(image: &[u8], pages: usize, marks: &[u8; Settings::MARKS]) -> usize
 
 // The walk from page 1, whose root is an aggregate; there are `left` record pages.
 fn walk_fault(image: &[u8], left: usize) -> Diagnosis
-    requires image_value { (length_ok (length image.now) ≡ true) × (before_walk image.now ≡ true) }
-    requires left_value { left ≡ record_count image.now (page_count image.now - 1) 1 }
+    requires before { (length_ok (length image.now) ≡ true) × (before_walk image.now ≡ true) }
+    requires count { left ≡ record_count image.now (page_count image.now - 1) 1 }
     ensures { result ≡ answer (walk_fault image.now) }
 {
     let pages = image.len() / Settings::PAGE;

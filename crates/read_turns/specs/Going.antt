@@ -9,7 +9,6 @@ use Rattle.std.proofs.Math.ListN.{get_or, set, length-take, length-set}
 use Rattle.std.proofs.Math.Seq.{get_or-set_same, get_or-set_other}
 use Rattle.std.proofs.Math.Dec.{eqb}
 use Rattle.model.specs.Limits.{most_pages, page_size, capacity, most_levels}
-use Rattle.model.specs.Row.{count}
 use Rattle.model.specs.Tree.{width}
 use Rattle.model.specs.Reading.{used_at, settled_at, name_at, back_at}
 use Rattle.model.specs.WalkTests.{whole_size, passing_kind, record_of}

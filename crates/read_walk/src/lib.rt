@@ -24,7 +24,7 @@ use read_walker::{Walker, enter, first, leave, past, reach, refused};
 // ── nodes and lists: all of it asks for the part before the walk ──
 
 // The aggregate that the part is, well formed by itself. It starts at byte `at` of the image.
-#[cycle(list_check_node_check_part_check_proxy_check)]
+#[cycle(walk)]
 fn node_check<'a>(
     image: &'a [u8],
     part: &'a [u8],
@@ -61,7 +61,7 @@ fn node_check<'a>(
 }
 
 // The record of the page that the proxy names. A helper's record is entered, and the list goes on there.
-#[cycle(list_check_node_check_part_check_proxy_check)]
+#[cycle(walk)]
 fn proxy_check<'a>(
     image: &'a [u8],
     node: &'a [u8],
@@ -103,7 +103,7 @@ fn proxy_check<'a>(
 }
 
 // A node of a list that is neither an empty aggregate nor a literal that passes.
-#[cycle(list_check_node_check_part_check_proxy_check)]
+#[cycle(walk)]
 fn part_check<'a>(
     image: &'a [u8],
     node: &'a [u8],
@@ -135,7 +135,7 @@ fn part_check<'a>(
 
 // The nodes of a logical list, one after another. The part that starts at byte `start` of the image is its own row. What holds no other node is passed without
 // a call: an aggregate by a constant, so that the next header is read without waiting for this one's size.
-#[cycle(list_check_node_check_part_check_proxy_check)]
+#[cycle(walk)]
 fn list_check<'a>(
     image: &'a [u8],
     part: &'a [u8],
