@@ -31,8 +31,8 @@ pub struct Fresh {
 // Writes the new node to the front of out; its size.
 pub fn put_node(out: &mut [u8], kind: usize, origin: usize, label: usize, content: &[u8]) -> usize
     requires { Sound kind origin label content.now × (6 + length content.now ≤ length out.old) }
-    ensures value { (st : Config) → result ≡ size (as_row st (new_of kind origin label content.now) nil) }
-    ensures out_after { (st : Config) → out.new ≡ over 0 (bytes (as_row st (new_of kind origin label content.now) nil)) out.old }
+    ensures size { (st : Config) → result ≡ size (as_row st (new_of kind origin label content.now) nil) }
+    ensures bytes { (st : Config) → out.new ≡ over 0 (bytes (as_row st (new_of kind origin label content.now) nil)) out.old }
 {
     let n = 6 + content.len();
     // kind and origin, a byte each

@@ -8,7 +8,6 @@ use Rattle.model.specs.Reading.{page_of}
 use Rattle.model.specs.Growth.{Work, Cut, start_of, start_of_d, separate, cut_from, cut_of, split_point, separator}
 use Rattle.theory_rows.specs.Bound.{base_le}
 use Rattle.theory_rows.specs.Fits.{Fits}
-use Rattle.base_numbers.specs.Over.{over}
 use Rattle.base_layout.specs.declared.Growing.{Growing}
 use Rattle.base_layout.specs.Setup.{setup_of}
 use Rattle.base_layout.specs.Growing.{separator_size}

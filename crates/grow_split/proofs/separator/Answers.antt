@@ -2,7 +2,6 @@
 -- In each need: s the start, w the record, f where its row starts.
 use native.Mathlib.Omega.{arith}
 use Rattle.grow_split.specs.Severed.{large_long, large_sep, severed}
-use borrow.Author.Rules.{rules}
 use Rattle.grow_split.proofs.separator.Goals as goal
 
 pub first_node-requires : goal.first_node-requires
