@@ -1,6 +1,5 @@
-use Prim.Native.Nat.{◌+◌}
 use native.Mathlib.Omega.{arith}
-use Rattle.listing_text.specs.Lined.{row_text, Underway, node_fits, own_of, at_node, lines_at, underway_start, own_room}
+use Rattle.listing_text.specs.Lined.{node_fits, at_node, lines_at, underway_start, own_room}
 use Rattle.listing_text.specs.Lined.{inside_fitting, underway_on, underway_end}
 use Rattle.listing_text.proofs.+walk.Goals as goal
 

@@ -1,9 +1,7 @@
 -- `listing_text::walk`: what is written and what is left are the whole text. The measure of the recursion is the depth. cN is c N places before.
 use mathlib.Core.List.{List}
-use native.Mathlib.Omega.{arith}
-use Prim.Native.Nat.{ℕ, ◌+◌, ◌-◌, ◌<◌}
-use Rattle.listing_text.specs.Lined.{row_text, Lined, LinedNode, node_fits, NodeLines, Underway, own_of, at_node, lines_at, underway_start, own_room}
-use Rattle.listing_text.specs.Lined.{inside_fitting, underway_on, underway_end}
+use Prim.Native.Nat.{ℕ, ◌-◌}
+use Rattle.listing_text.specs.Lined.{Underway}
 use Rattle.listing_text.proofs.+walk.Given as goal
 
 abbrev pub decreases-walk : goal.decreases-walk

@@ -1,6 +1,5 @@
 -- `listing_text::own`: by the kind of the node. cN is c N places before.
 use mathlib.Core.Path.{sym}
-use borrow.Author.Rules.{rules}
 use native.Mathlib.Omega.{arith}
 use Rattle.listing_lines.specs.Wrote.{nothing, same_room, same_text}
 use Rattle.listing_text.specs.Lined.{node_fits, own_aggregate, own_literal, own_none}

@@ -1,6 +1,5 @@
 -- `listing_text::print`: over 15 pages, refused, or listed. cN is c N places before.
 use mathlib.Core.Path.{sym, ◌∙◌}
-use borrow.Author.Rules.{rules}
 use native.Mathlib.Omega.{arith}
 use Rattle.listing_lines.specs.Wrote.{same_text}
 use Rattle.listing_text.specs.Whole.{over_printed, listing_printed, refused_printed, refused_room}
