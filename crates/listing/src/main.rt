@@ -1,7 +1,7 @@
 // Lists an image of up to 15 pages that stands on standard input.
 #![tactic(auto)]
 
-ghost use Rattle.std.specs.Prelude.{◌≡◌, ◌≤◌, length, OnOk};
+ghost use Rattle.std.specs.Prelude.{◌≡◌, ◌≤◌, length, IfOk};
 
 use std::io::{self, Read, Write};
 
@@ -21,7 +21,7 @@ fn room() -> [u8; 155648]
 
 // Reads until the buffer is full or the input ends, and answers how much it read.
 fn read_full<R: Read>(input: &mut R, buffer: &mut [u8]) -> io::Result<usize>
-    ensures { OnOk result (λ n. n ≤ length buffer.new) }
+    ensures { IfOk result (λ n. n ≤ length buffer.new) }
 {
     let mut n = 0;
     while n < buffer.len() {
@@ -41,12 +41,12 @@ fn more<R: Read>(input: &mut R) -> io::Result<bool> {
     Ok(n == 65536)
 }
 
-// Reads the rest of a long input, so that whoever writes it to a pipe is not stopped. A proved loop has to end: it counts down from a number that no
-// input uses up.
+// Reads the rest of a long input, so that whoever writes it to a pipe is not stopped. A proved loop has to end: it takes as many turns as no input uses up.
 fn drain<R: Read>(input: &mut R) -> io::Result<()> {
-    let mut turns = u64::MAX;
-    while turns > 0 && more(input)? {
-        turns -= 1;
+    for _ in 0..u64::MAX {
+        if !more(input)? {
+            break;
+        }
     }
     Ok(())
 }

@@ -10,7 +10,7 @@ use Rattle.model.specs.Reading.{page_of, settled_at, back_at}
 use Rattle.model.specs.Spot.{Position, fill, Chain, top, below, last_page, whole, last_holder, Stand}
 use Rattle.model.specs.Removal.{without}
 use Rattle.theory_rows.specs.Fits.{Fits}
-use Rattle.theory_rows.specs.Image.{once, length_record, length_record_page}
+use Rattle.theory_rows.specs.Image.{length_record, length_record_page}
 use Rattle.theory_rows.specs.Laws.{width-⊹}
 use Rattle.theory_rows.specs.Pages.{bit}
 use Rattle.theory_decoding.specs.Steps.{named_inside}

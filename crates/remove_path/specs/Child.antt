@@ -1,5 +1,5 @@
 -- The child of a node, by the node's path and the child's number.
-use Rattle.std.specs.Prelude.{◌≡◌, refl, Bool, true, not, ◌&&◌, List, [], ◌∷◌, ◌++◌, ℕ, zero, suc, ◌+◌, ◌-◌, ◌%◌, ◌≤◌, length, take, drop, ltb, eqb}
+use Rattle.std.specs.Prelude.{◌≡◌, refl, Bool, true, not, ◌&&◌, List, [], ◌∷◌, ◌++◌, ℕ, zero, suc, ◌-◌, ◌%◌, ◌≤◌, length, take, drop, ltb, eqb}
 use Rattle.std.proofs.Common.{sym, ap, ◌∙◌, true≢false, arith, length-take, length-drop, take-append-drop, lt-ltb, le-ltb}
 use Rattle.std.proofs.Math.Option.{Option, none, some, map, some-injective, none-ne-some}
 use Rattle.std.proofs.Math.Dec.{leb-suc-suc}
