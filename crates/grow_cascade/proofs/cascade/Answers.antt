@@ -1,3 +1,4 @@
+-- In each answer l is the loop's variables, w what cascade requires, o and k what the loop goes by, r the record that it is at.
 use mathlib.Core.Path.{◌≡◌, refl, sym, ap, subst, ◌∙◌}
 use mathlib.Core.Bool.{true, ◌||◌, cond}
 use Prim.Native.Nat.{◌+◌, ◌≤◌, ◌<◌}

@@ -1,5 +1,4 @@
 -- `grow_cascade::cascade`: at each record, growth from there upwards gives what it gave from the first one.
--- In each need: l the loop's variables, x and y the places after split_off and lean_now, w what cascade requires, o and k what the loop goes by, r the record that it is at.
 use mathlib.Core.Path.{◌≡◌}
 use Prim.Native.Nat.{◌-◌}
 use lib.ListN.{length}

@@ -1,6 +1,5 @@
 -- `grow_insert::insert_of`: the tests, whether a page is missing, the run, and the new node's place give the definition's answer and image; table and map are
 -- the new image's.
--- In each need: a is the place after the tests, y that after the node's bytes, f that after is_full, m that after one_more, p that after the run.
 use mathlib.Core.Path.{◌≡◌, refl, sym, ap, subst, ◌∙◌}
 use mathlib.Core.Bool.{Bool, true, false, true≢false}
 use mathlib.Core.List.{List}

@@ -1,5 +1,5 @@
 -- `grow_run::once`: the node is placed, goes into the record that takes it, and growth goes on from there.
--- In each need: x is the place after place_node, y that after take_in, w what once requires.
+-- In each answer w is what once requires.
 use mathlib.Core.Path.{◌≡◌, refl, sym, ap, ◌∙◌}
 use mathlib.Core.List.{List}
 use Prim.Native.Nat.{ℕ, ◌≤◌}

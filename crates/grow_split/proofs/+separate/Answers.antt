@@ -1,3 +1,4 @@
+-- In each answer w is the row that stands at the start, v what the left group leaves, i what the inner level leaves.
 use mathlib.Core.Path.{◌≡◌, sym, ◌∙◌}
 use mathlib.Core.Bool.{true, false}
 use native.Mathlib.Omega.{arith}

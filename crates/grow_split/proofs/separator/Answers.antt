@@ -1,5 +1,5 @@
 -- `grow_split::separator`: the record's row is split as a level is.
--- In each need: s the start, w the record, f where its row starts.
+-- In each answer w is the record, f where its row starts.
 use native.Mathlib.Omega.{arith}
 use Rattle.grow_split.specs.Severed.{large_long, large_sep, severed}
 use Rattle.grow_split.proofs.separator.Goals as goal

@@ -1,5 +1,5 @@
 -- `grow_write_back::keep`: the record, then the links of its row.
--- In each need: s the start, w the content, f says where the row starts.
+-- In each answer w is the content, f says where the row starts.
 use mathlib.Core.Path.{refl, ap}
 use mathlib.Core.Bool.{not}
 use Prim.Native.Nat.{◌≤◌}

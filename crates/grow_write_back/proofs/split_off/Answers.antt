@@ -1,5 +1,5 @@
 -- `grow_write_back::split_off`: the page is left, then the record is split.
--- In each need: s the start, x the place after the separator, w the record, d what `leave` did, p what the split point is.
+-- In each answer w is the record, d what `leave` did, p what the split point is.
 use mathlib.Core.Path.{◌∙◌}
 use mir.Syntax.{w32}
 use mir.Facts.{to_z-of_z}
