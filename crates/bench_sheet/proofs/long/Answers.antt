@@ -2,11 +2,7 @@
 use mathlib.Core.Path.{sym}
 use Prim.Native.Nat.{ℕ}
 use lib.ListN.{length-replicate}
-use Rattle.bench_sheet.proofs.long.Statement.{statement}
-use Rattle.bench_sheet.proofs.long.Tie as tie
+use Rattle.bench_sheet.proofs.long.Goals as goal
 
-returns : tie.Need-returns
+pub returns : goal.returns
 returns c = sym (length-replicate {A = ℕ} 4198400 0)
-
-pub long-spec : {M : Type 1} → statement M
-long-spec = tie.close (tie.spec returns)
