@@ -420,7 +420,7 @@ fn answer<'a>(content: &'a [u8], node: ReadNode) -> ReadAnswer<'a>
 // What stands at a place: the node's numbers, and its content.
 pub fn read<'a>(image: &'a [u8], page: usize, offset: usize) -> ReadAnswer<'a>
     ensures { (result.content.now ≡ part_of image.now (read_of image.now (record { page = page; offset = offset })))
-        × (result.content.ptr ≡ byte_of image.entry (read_of image.now (record { page = page; offset = offset })).start)
+        × (result.content.ref_ptr ≡ byte_of image.entry (read_of image.now (record { page = page; offset = offset })).start)
         × (result.node ≡ read_of image.now (record { page = page; offset = offset })) }
 {
     let node = read_at(image, page, offset);

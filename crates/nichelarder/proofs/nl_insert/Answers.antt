@@ -1,0 +1,38 @@
+-- `nichelarder::nl_insert` meets its contract: the numbers fit, and the answer is handed over as it is.
+use mathlib.Core.Path.{ap, ◌∙◌}
+use mathlib.Core.List.{[], ◌∷◌}
+use native.Mathlib.Omega.{arith}
+use mir.Syntax.{w32}
+use mir.Facts.{to_z-of_z}
+use Rattle.model.specs.Calls.Insert.{insert_of}
+use Rattle.model.specs.declared.InsertAnswer.{InsertAnswer}
+use Rattle.theory_check.specs.Heads.{is_byte_lem}
+use Rattle.grow_split_point.specs.Lean.{lean_signed}
+use Rattle.nichelarder.specs.Small.{SmallInsert, insert_small}
+use Rattle.nichelarder.proofs.nl_insert.Goals as goal
+use Rattle.nichelarder.proofs.nl_insert.Goals.{After-insert-a}
+
+-- the answer's numbers are small
+answer-small : (c : After-insert-a) → let s = c.args in SmallInsert
+    (insert_of s.image.now s.parent.now s.child s.kind s.origin s.label s.content.now).0
+answer-small c = insert_small c.args.image.now c.args.parent.now c.args.child c.args.kind c.args.origin c.args.label c.args.content.now
+    (omega (arith, c.ranges)) (is_byte_lem c.args.content.now (λ i. omega (arith, c.type_inv.content i)))
+
+pub overflow_cast-answer : goal.overflow_cast-answer
+overflow_cast-answer c =
+    record { fits = omega (arith, ap (λ (r : InsertAnswer). r.place.page) c.insert-a.ensures.answer, (answer-small (goal.at.overflow_cast-answer c).After-insert-a).place.page) }
+
+pub overflow_cast-answer-2 : goal.overflow_cast-answer-2
+overflow_cast-answer-2 c =
+    record { fits = omega (arith, ap (λ (r : InsertAnswer). r.place.offset) c.insert-a.ensures.answer, (answer-small (goal.at.overflow_cast-answer-2 c).After-insert-a).place.offset) }
+
+pub returns : goal.returns
+returns c =
+    let e = c.insert-a.ensures.answer in
+    let l = ap (λ (r : InsertAnswer). r.lean) e in
+    record {
+      number = ap (λ (r : InsertAnswer). r.number) e;
+      answer = ap (λ (r : InsertAnswer). r.place.page ∷ r.place.offset ∷ r.splits ∷ []) e;
+      lean = to_z-of_z {w = w32} (lean_signed c.insert-a.result.lean (rw l (answer-small (goal.at.returns c).After-insert-a).lean)) ∙ l;
+      image = c.insert-a.ensures.image;
+    }
