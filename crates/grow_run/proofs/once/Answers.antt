@@ -15,7 +15,7 @@ use Rattle.base_numbers.specs.Over.{over}
 use Rattle.base_layout.specs.declared.Growing.{Growing}
 use Rattle.base_layout.specs.Setup.{setup_of}
 use Rattle.base_layout.specs.Growing.{buffer_size, matrix_of}
-use Rattle.grow_locate.specs.Aim.{parent_label}
+use Rattle.grow_locate.proofs.Aim.{parent_label}
 use Rattle.grow_groups.specs.Used.{tables}
 use Rattle.grow_new_node.specs.Placed.{NodePlaced}
 use Rattle.grow_run.specs.Begin.{Begin, node_most, st, root, h, W, long, valid, setup_is, start_env, placed_size, into_record}
