@@ -45,7 +45,7 @@ use Rattle.grow_widths.specs.Tally.{most_entry}
 use Rattle.grow_groups.specs.Used.{Tables, used_by, AsLong, holds_still}
 use Rattle.grow_groups.specs.Tells.{Keeps}
 use Rattle.grow_groups.specs.Step.{front_is}
-use Rattle.grow_cascade.specs.Rising.{Rising, valid, inside as page-inside, long_image, good, named_once, named_used, tabled}
+use Rattle.grow_cascade.specs.Rising.{Rising, valid, inside as page_inside, long_image, good, named_once, named_used, tabled}
 
 -- ── the page that is left ──
 
@@ -84,7 +84,7 @@ module _ {st : Config} {was : List ℕ} {root : Row} {c : Chain} {s : Position} 
   next_goal = sym (rise_goes st c s q false rest row work too_large)
 
   pub split_after : After g.dry img₁ img (separator_mem st q row v (set_mem q blank (page_of img)))
-  split_after = after_then (separator_mem st q row v) (left_after (near_to g q) img (omega (arith, page-inside w))) cut.after
+  split_after = after_then (separator_mem st q row v) (left_after (near_to g q) img (omega (arith, page_inside w))) cut.after
 
   pub next_mem : g.dry ≡ false → rise_mem st c next S.1 (page_of img₁) ≡ rise_mem st (below c s q false rest) row work (page_of img)
   next_mem z = ap (rise_mem st c next S.1) (split_after.pages z) ∙ sym (mem_goes st c s q false rest row work too_large (page_of img))
@@ -125,7 +125,7 @@ module _ {st : Config} {was : List ℕ} {root : Row} {c : Chain} {s : Position} 
     left = left_tables (near_to g q) false u
 
     low : q < 8 * length u.map
-    low = omega (arith, page-inside w, w.holds.map)
+    low = omega (arith, page_inside w, w.holds.map)
 
     -- the other pages are as they were
     kept : (p : ℕ) → (p ≡ q → ⊥) → used_by u p ≡ true → used_by left p ≡ true

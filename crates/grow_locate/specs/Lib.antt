@@ -2,6 +2,5 @@ pub mod Seek
 pub mod Walk
 pub mod Choose
 pub mod Parent
-pub mod Siblings
 pub mod Children
 pub mod Aim

@@ -17,7 +17,7 @@ use Rattle.read_find.specs.Rowed.{start_on, end_on}
 use Rattle.read_cursor.specs.Way.{Way}
 use Rattle.read_cursor.specs.Going.{cursor, reached, Goal, Going}
 use Rattle.read_cursor.specs.declared.Cursor.{Cursor}
-use Rattle.read_entries.specs.Nested.{Recorded, goal, going_start, naming, within, at_stop, at_last, entered, nested, named_level, inner as innerGoal, outer as outerGoal, going_in, names_both, proxy_walked}
+use Rattle.read_entries.specs.Nested.{Recorded, goal, going_start, naming, within, at_stop, at_last, entered, nested, named_level, inner as inner_goal, outer as outer_goal, going_in, names_both, proxy_walked}
 use Rattle.read_nest.specs.declared.Nest.{Nest}
 use Rattle.read_nest.specs.Nest.{nest, inner, kept, held_in, way_out, behind_of, outer, Leaving}
 
@@ -44,10 +44,10 @@ pub record Holder (img : List ℕ) (t : ℕ) : Type 0 where
 module _ {img : List ℕ} {t : ℕ} (h : Holder img t) where
   -- What the walk over the other record comes to, and what is left behind the proxy.
   abbrev pub inside : Goal
-  inside = innerGoal h.going h.some h.kind h.page h.is_named
+  inside = inner_goal h.going h.some h.kind h.page h.is_named
 
   abbrev pub rest : Goal
-  rest = outerGoal h.going h.some h.kind h.page h.is_named
+  rest = outer_goal h.going h.some h.kind h.page h.is_named
 
 -- The page of the innermost record.
 abbrev pub page_in : {img : List ℕ} {t : ℕ} → List (Holder img t) → ℕ

@@ -47,8 +47,8 @@ fn put_pages(image: &[u8], pages: usize, buffer: &mut [u8])
 // Records, of an image that passes the check.
 pub fn records_of(image: &[u8], buffer: &mut [u8]) -> WriteAnswer
     requires { check_of image.now ≡ 0 }
-    ensures value { result ≡ (records_of (up_pages image.now) image.now buffer.old).0 }
-    ensures buffer_after { buffer.new ≡ (records_of (up_pages image.now) image.now buffer.old).1 }
+    ensures answer { result ≡ (records_of (up_pages image.now) image.now buffer.old).0 }
+    ensures buffer { buffer.new ≡ (records_of (up_pages image.now) image.now buffer.old).1 }
 {
     let pages = image.len() / Settings::PAGE;
     let n = count_pages(image, pages);

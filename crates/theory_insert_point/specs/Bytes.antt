@@ -69,7 +69,7 @@ module _ (img : List ℕ) where
     pub chain_bytes : (c : Chain) (row : Row) → whole c row ≡ root → page_of img (last_page c) ≡ record_page (last_held c row)
     chain_bytes top row e =
         let m : Stored (page_of img) 0 (store root) =
-            subst (λ (i : List ℕ). Stored (page_of i) 0 (store root)) (sym r.same) (stored_image st root (reads_valid img st root r)) in
+        subst (λ (i : List ℕ). Stored (page_of i) 0 (store root)) (sym r.same) (stored_image st root (reads_valid img st root r)) in
         rw e m.0
     chain_bytes (below c s q b rest) row e = (chain_here c s q b rest row e).stored.0
 

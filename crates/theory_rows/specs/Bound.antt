@@ -112,10 +112,10 @@ is_nil-⊹ (agg l cs rest) b e = refl
 is_nil-⊹ (lit l c rest) b e = refl
 is_nil-⊹ (rec p s r rest) b e = refl
 
--- Every record that a split makes fits, if those of its groups do: `type_size` is the size of the record that is split.
-module _ (p type_size : ℕ) (left-room : p + 6 ≤ capacity) (right-room : type_size + 531 ≤ p + capacity)
+-- Every record that a split makes fits, if those of its groups do: `size_of` is the size of the record that is split.
+module _ (p size_of : ℕ) (left-room : p + 6 ≤ capacity) (right-room : size_of + 531 ≤ p + capacity)
     {S : Type 0} (f : Row → S → Row × S) (fit : (g : Row) (s : S) → Fits g → size g + 6 ≤ capacity → Fits (f g s).0) where
-  separate_fits : (at : ℕ) (c : Cut) (s : S) → Follows p at c → Fits (cut_row c) → p < at + size (cut_row c) → at + size (cut_row c) ≤ type_size
+  separate_fits : (at : ℕ) (c : Cut) (s : S) → Follows p at c → Fits (cut_row c) → p < at + size (cut_row c) → at + size (cut_row c) ≤ size_of
       → Fits (separate f c s).0
   unfolding separate
   separate_fits at (at_d left right) s k g h i =
@@ -155,20 +155,20 @@ pub record SplitGood (sep : Row) (lean : ℤ) : Type 0 where
   pub leans : InLean lean
 
 module _ (st : Config) (k : Ranges st) (near : ℕ) where
-  -- What is made of the children of a root, which start at byte 6: `type_size` is the record's.
-  row_good : (row : Row) (w : Work) (type_size : ℕ) → 6 + size row ≡ type_size → Fits row → capacity < type_size → type_size ≤ capacity + most_node → depth row ≤ 23
-      → let p = split_point st type_size in let c = cut_from st p 6 nil row in let sep = (separate (group st near) c w).0 in
+  -- What is made of the children of a root, which start at byte 6: `size_of` is the record's.
+  row_good : (row : Row) (w : Work) (size_of : ℕ) → 6 + size row ≡ size_of → Fits row → capacity < size_of → size_of ≤ capacity + most_node → depth row ≤ 23
+      → let p = split_point st size_of in let c = cut_from st p 6 nil row in let sep = (separate (group st near) c w).0 in
       Fits sep × (size sep ≤ 500) × InLean (sub_ℕ (start_of 6 c) p)
-  row_good row w type_size whole f over most deep =
-      let p = split_point st type_size in
+  row_good row w size_of whole f over most deep =
+      let p = split_point st size_of in
       let c = cut_from st p 6 nil row in
       let n = cut_follows st p k.tol 6 row (not_nil row (omega arith)) in
       let e = cut_row_lem st p row 6 nil in
       let g = subst Fits (sym e) f in
       let z = ap size e in
-      let lo = p_low st k type_size over most in
-      let hi = p_high st k type_size over most in (
-        separate_fits p type_size (omega arith) (omega arith) (group st near) (group_fits st near) 6 c w n g (omega arith) (omega arith),
+      let lo = p_low st k size_of over most in
+      let hi = p_high st k size_of over most in (
+        separate_fits p size_of (omega arith) (omega arith) (group st near) (group_fits st near) 6 c w n g (omega arith) (omega arith),
         omega (arith, ap depth e, separate_size p (group st near) (group_size st near) 6 c w n),
         in_lean (start_of 6 c) p (omega (arith, ap depth e, start_high p 6 c n)) (omega (arith, start_low p 6 c n g (omega arith))),
       )

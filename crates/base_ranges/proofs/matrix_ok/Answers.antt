@@ -18,8 +18,8 @@ less a b h e = le-leb a 2 (omega (arith, leb-true b 2 e))
 abbrev taken : ℕ → ℕ
 taken x = cond (eqb x 1) 255 x
 
-entry-low : (x : ℕ) → is_entry x ≡ low (taken x)
-entry-low x = go (eqb x 1) (eqb x 0) (eqb x 2) (leb x 2) refl refl refl refl
+entry_low : (x : ℕ) → is_entry x ≡ low (taken x)
+entry_low x = go (eqb x 1) (eqb x 0) (eqb x 2) (leb x 2) refl refl refl refl
   where
     go : (a b d l : Bool) → eqb x 1 ≡ a → eqb x 0 ≡ b → eqb x 2 ≡ d → leb x 2 ≡ l → is_entry x ≡ low (taken x)
     go true b d l p q r s = rw (eqb-true x 1 p)
@@ -42,7 +42,7 @@ loop-i-preserved c =
       | then-x-eq1 w ↦ simp (eq-eqb _ _ w.if-x-eq1.true) (sym w.x-is)
       | else-x-eq1 w ↦ simp (ne_eqb _ _ w.if-x-eq1.false) (sym w.x-is)
     ] in
-    let e = entry-low (get_or m l.i 0) ∙ ap low is in
+    let e = entry_low (get_or m l.i 0) ∙ ap low is in
     elim c.if-most-x.branch [
       | then-most-x w ↦ (omega arith, rw w.most-is (larger is_entry m low less l.i x l.most h e l.invariant.1 w.if-most-x.true))
       | else-most-x w ↦ (omega arith, rw w.most-is (as_large is_entry m low less l.i x l.most h e l.invariant.1 w.if-most-x.false))

@@ -54,23 +54,23 @@ pub back_at-holder-requires : goal.back_at-holder-requires
 back_at-holder-requires c = omega (arith, inside (here (goal.at.back_at-holder-requires c).At-loop-len).now.rising)
 
 -- the length of the new content
-fits-buffer : (c : At-loop-len) → c.loop-len.len ≤ length c.loop-len.buf
-fits-buffer c =
+fits_buffer : (c : At-loop-len) → c.loop-len.len ≤ length c.loop-len.buf
+fits_buffer c =
     let r = (here c).now.rising in omega (arith, r.long, (able r).most, c.loop-len.invariant.1)
 
-taken-length : (c : At-loop-len) → c.loop-len.len ≡ length (take c.loop-len.len c.loop-len.buf)
-taken-length c =
-    sym (length-take-le c.loop-len.len c.loop-len.buf (fits-buffer c))
+taken_length : (c : At-loop-len) → c.loop-len.len ≡ length (take c.loop-len.len c.loop-len.buf)
+taken_length c =
+    sym (length-take-le c.loop-len.len c.loop-len.buf (fits_buffer c))
 
 pub slice_bounds-keep-end : goal.slice_bounds-keep-end
-slice_bounds-keep-end c = fits-buffer (goal.at.slice_bounds-keep-end c).At-loop-len
+slice_bounds-keep-end c = fits_buffer (goal.at.slice_bounds-keep-end c).At-loop-len
 
 pub slice_bounds-keep-end-then-len-le-CAPACITY : goal.slice_bounds-keep-end-then-len-le-CAPACITY
-slice_bounds-keep-end-then-len-le-CAPACITY c = taken-length (goal.at.slice_bounds-keep-end-then-len-le-CAPACITY c).At-loop-len
+slice_bounds-keep-end-then-len-le-CAPACITY c = taken_length (goal.at.slice_bounds-keep-end-then-len-le-CAPACITY c).At-loop-len
 
 -- the trailer of its page
-settled-in : (c : After-back_at-holder) → (c.settled_at-settled.result ≤ 1) × (c.back_at-holder.result < most_pages)
-settled-in c =
+settled_in : (c : After-back_at-holder) → (c.settled_at-settled.result ≤ 1) × (c.back_at-holder.result < most_pages)
+settled_in c =
     let r = (here (goal.at.After-back_at-holder c).At-loop-len).now.rising in
     omega (arith, c.settled_at-settled.ensures.0, settled_most r, c.back_at-holder.ensures.0, holder_is r, holder_high r)
 
@@ -88,7 +88,7 @@ keep-requires c =
         omega (arith, long_image r),
         (
           i.1.0,
-          ((settled-in (goal.at.keep-requires c).After-back_at-holder).0, ((settled-in (goal.at.keep-requires c).After-back_at-holder).1, content r (omega (arith, r.long, c.if-len-le-CAPACITY.true)))),
+          ((settled_in (goal.at.keep-requires c).After-back_at-holder).0, ((settled_in (goal.at.keep-requires c).After-back_at-holder).1, content r (omega (arith, r.long, c.if-len-le-CAPACITY.true)))),
         ),
       ),
     )
@@ -112,10 +112,10 @@ returns-then-len-le-CAPACITY c =
     (c.keep.ensures (content r fit) (last_settled o.now.chain) (bit_of (goal.at.returns-then-len-le-CAPACITY c).After-back_at-holder w)))
 
 pub slice_bounds-split_off-end : goal.slice_bounds-split_off-end
-slice_bounds-split_off-end c = fits-buffer (goal.at.slice_bounds-split_off-end c).At-loop-len
+slice_bounds-split_off-end c = fits_buffer (goal.at.slice_bounds-split_off-end c).At-loop-len
 
 pub slice_bounds-split_off-end-in-loop-len : goal.slice_bounds-split_off-end-in-loop-len
-slice_bounds-split_off-end-in-loop-len c = taken-length (goal.at.slice_bounds-split_off-end-in-loop-len c).At-loop-len
+slice_bounds-split_off-end-in-loop-len c = taken_length (goal.at.slice_bounds-split_off-end-in-loop-len c).At-loop-len
 
 pub split_off-s-requires : goal.split_off-s-requires
 split_off-s-requires c =
@@ -135,8 +135,8 @@ cut_of c w =
     c.split_off-s.ensures (off (c.loop-len.invariant.0 w).now.rising (large c w) c.args.start.dry _ (bit_of (goal.at.After-split_off-s c).After-back_at-holder w))
 
 -- its lean
-lean-last : (c : After-split_off-s) → let z = c.split_off-s.result.lean in InLean z × (to_z w32 (of_z w32 z) ≡ z)
-lean-last c =
+lean_last : (c : After-split_off-s) → let z = c.split_off-s.result.lean in InLean z × (to_z w32 (of_z w32 z) ≡ z)
+lean_last c =
     let w = c.requires.1 in
     let k = (c.loop-len.invariant.0 w).now in
     let y = subst InLean (sym (cut_of c w).1) (good k.rising (large c w) k.work).leans in
@@ -144,15 +144,15 @@ lean-last c =
 
 pub lean_now-lean-requires : goal.lean_now-lean-requires
 lean_now-lean-requires c =
-    (range (here (goal.at.lean_now-lean-requires c).At-loop-len).now.rising, subst InLean (sym (lean-last (goal.at.lean_now-lean-requires c).After-split_off-s).1) (lean-last (goal.at.lean_now-lean-requires c).After-split_off-s).0)
+    (range (here (goal.at.lean_now-lean-requires c).At-loop-len).now.rising, subst InLean (sym (lean_last (goal.at.lean_now-lean-requires c).After-split_off-s).1) (lean_last (goal.at.lean_now-lean-requires c).After-split_off-s).0)
 
-lean-of : (c : After-lean_now-lean) → let l = c.loop-len in (w : Given (goal.at.After-lean_now-lean c).Start)
+lean_here : (c : After-lean_now-lean) → let l = c.loop-len in (w : Given (goal.at.After-lean_now-lean c).Start)
     → let k = (l.invariant.0 w).now in to_z w32 (of_z w32 c.lean_now-lean.result) ≡ lean_now l.splits (to_z w32 l.lean-bits) (lean_of k.st k.row)
-lean-of c w =
+lean_here c w =
     let l = c.loop-len in
     let now = lean_now l.splits (to_z w32 l.lean-bits) in
-    let e : c.lean_now-lean.result ≡ now c.split_off-s.result.lean = c.lean_now-lean.ensures ∙ ap now (lean-last (goal.at.After-lean_now-lean c).After-split_off-s).1 in
-    to_z-of_z {w = w32} (lean_signed _ (subst InLean (sym e) (lean_in l.splits _ _ (range (l.invariant.0 w).now.rising) (lean-last (goal.at.After-lean_now-lean c).After-split_off-s).0))) ∙ e
+    let e : c.lean_now-lean.result ≡ now c.split_off-s.result.lean = c.lean_now-lean.ensures ∙ ap now (lean_last (goal.at.After-lean_now-lean c).After-split_off-s).1 in
+    to_z-of_z {w = w32} (lean_signed _ (subst InLean (sym e) (lean_in l.splits _ _ (range (l.invariant.0 w).now.rising) (lean_last (goal.at.After-lean_now-lean c).After-split_off-s).0))) ∙ e
     ∙ ap now (cut_of (goal.at.After-lean_now-lean c).After-split_off-s w).1
 
 pub overflow_add-splits : goal.overflow_add-splits
@@ -166,15 +166,15 @@ ends c =
     let v = leaves k.st (last_settled k.chain) c.loop-len.near k.row k.work in
     front_end (cut_of c w).0 (omega (arith, (good k.rising (large c w) v).small))
 
-taken-end : (c : After-split_off-s) → let r = c.split_off-s.result.end in r ≡ length (take r c.split_off-s.new.out)
-taken-end c =
+taken_end : (c : After-split_off-s) → let r = c.split_off-s.result.end in r ≡ length (take r c.split_off-s.new.out)
+taken_end c =
     sym (length-take-le _ _ (ends c))
 
 pub slice_bounds-sep-end : goal.slice_bounds-sep-end
 slice_bounds-sep-end c = ends (goal.at.slice_bounds-sep-end c).After-split_off-s
 
 pub slice_bounds-keep-end-then-settled-eq1 : goal.slice_bounds-keep-end-then-settled-eq1
-slice_bounds-keep-end-then-settled-eq1 c = taken-end (goal.at.slice_bounds-keep-end-then-settled-eq1 c).After-split_off-s
+slice_bounds-keep-end-then-settled-eq1 c = taken_end (goal.at.slice_bounds-keep-end-then-settled-eq1 c).After-split_off-s
 
 -- the split record is settled
 stays_of : (c : After-split_off-s) → c.settled_at-settled.result ≡ 1 → (w : Given (goal.at.After-split_off-s c).Start)
@@ -190,7 +190,7 @@ keep-requires-then-settled-eq1 c =
     let y = stays_of (goal.at.keep-requires-then-settled-eq1 c).After-split_off-s c.if-settled-eq1.true w in
     let v = (cut_of (goal.at.keep-requires-then-settled-eq1 c).After-split_off-s w).0 in (
       i.1.1.0,
-      (omega (arith, long_image r, severed_long r (large (goal.at.keep-requires-then-settled-eq1 c).After-split_off-s w) y v), (i.1.0, ((settled-in (goal.at.keep-requires-then-settled-eq1 c).After-back_at-holder).0, ((settled-in (goal.at.keep-requires-then-settled-eq1 c).After-back_at-holder).1, severed_content r (large (goal.at.keep-requires-then-settled-eq1 c).After-split_off-s w) y v)))),
+      (omega (arith, long_image r, severed_long r (large (goal.at.keep-requires-then-settled-eq1 c).After-split_off-s w) y v), (i.1.0, ((settled_in (goal.at.keep-requires-then-settled-eq1 c).After-back_at-holder).0, ((settled_in (goal.at.keep-requires-then-settled-eq1 c).After-back_at-holder).1, severed_content r (large (goal.at.keep-requires-then-settled-eq1 c).After-split_off-s w) y v)))),
     )
 
 pub shape_of-image-then-settled-eq1 : goal.shape_of-image-then-settled-eq1
@@ -213,14 +213,14 @@ returns-then-settled-eq1 c =
     let r = o.now.rising in
     let y = stays_of (goal.at.returns-then-settled-eq1 c).After-split_off-s c.if-settled-eq1.true w in
     let v = (cut_of (goal.at.returns-then-settled-eq1 c).After-split_off-s w).0 in
-    onward_end o (settled_done r (large (goal.at.returns-then-settled-eq1 c).After-split_off-s w) y v (lean-of (goal.at.returns-then-settled-eq1 c).After-lean_now-lean w) (c.back_at-holder.ensures.0 ∙ holder_is r)
+    onward_end o (settled_done r (large (goal.at.returns-then-settled-eq1 c).After-split_off-s w) y v (lean_here (goal.at.returns-then-settled-eq1 c).After-lean_now-lean w) (c.back_at-holder.ensures.0 ∙ holder_is r)
     (c.keep-then-settled-eq1.ensures (severed_content r (large (goal.at.returns-then-settled-eq1 c).After-split_off-s w) y v) (last_settled o.now.chain) (bit_of (goal.at.returns-then-settled-eq1 c).After-back_at-holder w)))
 
 pub slice_bounds-sep-end-in-loop-len : goal.slice_bounds-sep-end-in-loop-len
 slice_bounds-sep-end-in-loop-len c = ends (goal.at.slice_bounds-sep-end-in-loop-len c).After-split_off-s
 
 pub slice_bounds-lift-end : goal.slice_bounds-lift-end
-slice_bounds-lift-end c = taken-end (goal.at.slice_bounds-lift-end c).After-split_off-s
+slice_bounds-lift-end c = taken_end (goal.at.slice_bounds-lift-end c).After-split_off-s
 
 -- the record above
 above : (c : After-lean_now-lean) → let l = c.loop-len in let z = c.split_off-s.new in let q = c.split_off-s.result in (c.settled_at-settled.result ≡ 1 → ⊥) → (w : Given (goal.at.After-lean_now-lean c).Start)
@@ -229,7 +229,7 @@ above : (c : After-lean_now-lean) → let l = c.loop-len in let z = c.split_off-
 above c e w =
     let o = c.loop-len.invariant.0 w in
     upward o (large (goal.at.After-lean_now-lean c).After-split_off-s w) (bit_other (last_settled o.now.chain) (bit_of (goal.at.After-lean_now-lean c).After-back_at-holder w) e) (c.back_at-holder.ensures.0 ∙ holder_is o.now.rising)
-    (cut_of (goal.at.After-lean_now-lean c).After-split_off-s w).0 (lean-of c w)
+    (cut_of (goal.at.After-lean_now-lean c).After-split_off-s w).0 (lean_here c w)
 
 pub lift-len-requires : goal.lift-len-requires
 lift-len-requires c =

@@ -132,8 +132,8 @@ asked c =
 pub is_full-requires : goal.is_full-requires
 is_full-requires c = (asked (goal.at.is_full-requires c).After-put_node-n, c.setup_on-setup.ensures)
 
-still-is : (c : After-is_full) → c.is_full.new.image ≡ c.args.image.now
-still-is c =
+still_is : (c : After-is_full) → c.is_full.new.image ≡ c.args.image.now
+still_is c =
     c.is_full.ensures.image
 
 kept_is : (c : After-is_full) → c.is_full.new.widths ≡ c.args.widths.now
@@ -148,7 +148,7 @@ pub returns-then-is_full : goal.returns-then-is_full
 returns-then-is_full c =
     let p = passed (goal.at.returns-then-is_full c).Else-a-ne0 in
     let e = refused_full p (sym c.if-is_full.true ∙ c.is_full.ensures.full (asked (goal.at.returns-then-is_full c).After-put_node-n)) in
-    let i = still-is (goal.at.returns-then-is_full c).After-is_full in
+    let i = still_is (goal.at.returns-then-is_full c).After-is_full in
     let r = reads_as p i in
     let h = holds_of (goal.at.returns-then-is_full c).Else-a-ne0 in
     record {
@@ -164,7 +164,7 @@ returns-then-is_full c =
 abbrev ready : (c : After-is_full) → let r = c.admit-a.result.receiver in
     Raising c.is_full.new.image c.is_full.new.widths r.page r.deep
 ready c =
-    raising (passed (goal.at.After-is_full c).Else-a-ne0) (table_at c) (still-is c)
+    raising (passed (goal.at.After-is_full c).Else-a-ne0) (table_at c) (still_is c)
 
 pub one_more-requires : goal.one_more-requires
 one_more-requires c = ready (goal.at.one_more-requires c).After-is_full
@@ -180,60 +180,60 @@ pub slice_bounds-once-end : goal.slice_bounds-once-end
 slice_bounds-once-end c = sym (length-take-le _ _ (node_fits (goal.at.slice_bounds-once-end c).After-put_node-n))
 
 -- the tables of the run
-abbrev more-tables : (c : After-one_more) → Tables
-more-tables c =
+abbrev more_tables : (c : After-one_more) → Tables
+more_tables c =
     tables c.one_more.new.widths (given (goal.at.After-one_more c).Else-a-ne0).map
 
-more-holds : (c : After-one_more) → Holds (passed (goal.at.After-one_more c).Else-a-ne0).st.pages (more-tables c)
-more-holds c =
+more_holds : (c : After-one_more) → Holds (passed (goal.at.After-one_more c).Else-a-ne0).st.pages (more_tables c)
+more_holds c =
     holds_still (holds_of (goal.at.After-one_more c).Else-a-ne0) (record {
       widths = ap length (c.one_more.ensures (ready (goal.at.After-one_more c).After-is_full)) ∙ changed_long _ _ _ _ ∙ ap length (kept_is (goal.at.After-one_more c).After-is_full);
       map = refl;
     })
 
 -- the run, on the image as it was
-abbrev told : (c : After-one_more) → Given false c.is_full.new.image (more-tables c) (goal.at.After-one_more c).After-put_node-n
+abbrev told : (c : After-one_more) → Given false c.is_full.new.image (more_tables c) (goal.at.After-one_more c).After-put_node-n
 told c =
     let p = passed (goal.at.After-one_more c).Else-a-ne0 in
     let e = sym (c.one_more.ensures (ready (goal.at.After-one_more c).After-is_full)) in
-    begin p false (still-is (goal.at.After-one_more c).After-is_full) (more-holds c) (in_use_lem (goal.at.After-one_more c).Else-a-ne0 _) (λ _. subst (λ (u : List ℕ). Awaits u (spot p).0) e (awaits p (table_at (goal.at.After-one_more c).After-is_full)))
+    begin p false (still_is (goal.at.After-one_more c).After-is_full) (more_holds c) (in_use_lem (goal.at.After-one_more c).Else-a-ne0 _) (λ _. subst (λ (u : List ℕ). Awaits u (spot p).0) e (awaits p (table_at (goal.at.After-one_more c).After-is_full)))
     (node_is (goal.at.After-one_more c).After-put_node-n) (λ _. room_is c)
 
 pub once-made-requires : goal.once-made-requires
 once-made-requires c =
-    (told (goal.at.once-made-requires c).After-one_more, c.setup_on-setup.ensures ∙ ap setup_on (sym (still-is (goal.at.once-made-requires c).After-is_full)))
+    (told (goal.at.once-made-requires c).After-one_more, c.setup_on-setup.ensures ∙ ap setup_on (sym (still_is (goal.at.once-made-requires c).After-is_full)))
 
-reads-new : (c : After-once-made) → let w = passed (goal.at.After-once-made c).Else-a-ne0 in Reads c.once-made.new.image w.st (made w).0
-reads-new c =
+reads_new : (c : After-once-made) → let w = passed (goal.at.After-once-made c).Else-a-ne0 in Reads c.once-made.new.image w.st (made w).0
+reads_new c =
     new_reads (passed (goal.at.After-once-made c).Else-a-ne0) (room_is (goal.at.After-once-made c).After-one_more) ((c.once-made.ensures (told (goal.at.After-once-made c).After-one_more)).writes refl)
 
-holds-new : (c : After-once-made) → Holds (passed (goal.at.After-once-made c).Else-a-ne0).st.pages (tables c.once-made.new.widths c.once-made.new.map)
-holds-new c =
-    holds_still (more-holds (goal.at.After-once-made c).After-one_more) (c.once-made.ensures (told (goal.at.After-once-made c).After-one_more)).as_long
+holds_new : (c : After-once-made) → Holds (passed (goal.at.After-once-made c).Else-a-ne0).st.pages (tables c.once-made.new.widths c.once-made.new.map)
+holds_new c =
+    holds_still (more_holds (goal.at.After-once-made c).After-one_more) (c.once-made.ensures (told (goal.at.After-once-made c).After-one_more)).as_long
 
 -- its table, and its map
-widths-new : (c : After-once-made) → Widths c.once-made.new.image c.once-made.new.widths
-widths-new c =
-    widths _ _ _ _ (reads-new c) (left_table _ _ (holds-new c) ((c.once-made.ensures (told (goal.at.After-once-made c).After-one_more)).table refl))
+widths_new : (c : After-once-made) → Widths c.once-made.new.image c.once-made.new.widths
+widths_new c =
+    widths _ _ _ _ (reads_new c) (left_table _ _ (holds_new c) ((c.once-made.ensures (told (goal.at.After-once-made c).After-one_more)).table refl))
 
-map-new : (c : After-once-made) → Mapped c.once-made.new.image c.once-made.new.map
-map-new c =
+map_new : (c : After-once-made) → Mapped c.once-made.new.image c.once-made.new.map
+map_new c =
     let n = new_tally (passed (goal.at.After-once-made c).Else-a-ne0) (room_is (goal.at.After-once-made c).After-one_more) in
-    let h = holds-new c in
-    mapped _ _ _ _ (reads-new c) h.map h.small (left_map_lem (passed (goal.at.After-once-made c).Else-a-ne0).st (made (passed (goal.at.After-once-made c).Else-a-ne0)) n ((c.once-made.ensures (told (goal.at.After-once-made c).After-one_more)).table refl))
+    let h = holds_new c in
+    mapped _ _ _ _ (reads_new c) h.map h.small (left_map_lem (passed (goal.at.After-once-made c).Else-a-ne0).st (made (passed (goal.at.After-once-made c).Else-a-ne0)) n ((c.once-made.ensures (told (goal.at.After-once-made c).After-one_more)).table refl))
 
-path-fits : (c : After-once-made) → c.child_path-end.result ≤ length c.child_path-end.new.out
-path-fits c =
+path_fits : (c : After-once-made) → c.child_path-end.result ≤ length c.child_path-end.new.out
+path_fits c =
     omega (arith, c.child_path-end.ensures.0, c.child_path-end.auto.out, (tests (passed (goal.at.After-once-made c).Else-a-ne0)).short)
 
 pub slice_bounds-whole-end : goal.slice_bounds-whole-end
-slice_bounds-whole-end c = path-fits (goal.at.slice_bounds-whole-end c).After-once-made
+slice_bounds-whole-end c = path_fits (goal.at.slice_bounds-whole-end c).After-once-made
 
 pub slice_bounds-find_in-end : goal.slice_bounds-find_in-end
-slice_bounds-find_in-end c = sym (length-take-le _ _ (path-fits (goal.at.slice_bounds-find_in-end c).After-once-made))
+slice_bounds-find_in-end c = sym (length-take-le _ _ (path_fits (goal.at.slice_bounds-find_in-end c).After-once-made))
 
 pub find_in-requires : goal.find_in-requires
-find_in-requires c = (passes _ _ _ (reads-new (goal.at.find_in-requires c).After-once-made), widths-new (goal.at.find_in-requires c).After-once-made)
+find_in-requires c = (passes _ _ _ (reads_new (goal.at.find_in-requires c).After-once-made), widths_new (goal.at.find_in-requires c).After-once-made)
 
 pub shape_of-image : goal.shape_of-image
 shape_of-image c = c.once-made.auto.image ∙ c.is_full.auto.image
@@ -254,6 +254,6 @@ returns c =
     record {
       answer = ap (λ (z : InsertAnswer × List ℕ). z.0) e;
       image = ap (λ (z : InsertAnswer × List ℕ). z.1) e;
-      table = widths-new (goal.at.returns c).After-once-made;
-      map = map-new (goal.at.returns c).After-once-made;
+      table = widths_new (goal.at.returns c).After-once-made;
+      map = map_new (goal.at.returns c).After-once-made;
     }

@@ -68,8 +68,8 @@ closes : (c : After-closer-after)
     → c.closer-after.result ≡ closer_of (past_span c.loop-span.span (size_at c.args.image.now c.loop-span.span.pos)) c.loop-span.after
 closes c = c.closer-after.ensures ∙ ap (λ (r : Span). closer_of r c.loop-span.after) c.past_first-next.ensures
 
-closes-deep : (c : After-closer-after) → c.closer-after.result.deep ≤ c.args.from.deep + most_pages
-closes-deep c =
+closes_deep : (c : After-closer-after) → c.closer-after.result.deep ≤ c.args.from.deep + most_pages
+closes_deep c =
     let n = c.args.from.deep + most_pages in
     let next = past_span c.loop-span.span (size_at c.args.image.now c.loop-span.span.pos) in
     subst (λ (r : Span). r.deep ≤ n) (sym (closes c)) (closer_deep next c.loop-span.after n c.loop-span.invariant.2 c.loop-span.invariant.3)
@@ -90,7 +90,7 @@ returns-then-not-leads_on c =
     let a = c.args in (
       c.first_node.ensures ∙ ap (λ (r : Span). located_at span.pos r.pos span.par span.deep) c.past_first-next.ensures ∙ h.0,
       subst (λ (r : Span). Follows a.image.now r (seek_span a.from w.row (suc a.k))) (sym (closes z)) h.1,
-      closes-deep z,
+      closes_deep z,
     )
 
 -- What leads on is the proxy of a record whose helper shows the node.
@@ -143,7 +143,7 @@ loop-span-preserved c =
           (seek_inside w c.loop-span-test.true (c.shown_by-n.ensures o) (omega arith) c.if-n-to_pass.false (leads x w.rest))),
       omega (arith, c.loop-span.invariant.1),
       omega (arith, c.loop-span.invariant.1, (under x).below),
-      closes-deep y,
+      closes_deep y,
     )
 
 pub returns : goal.returns

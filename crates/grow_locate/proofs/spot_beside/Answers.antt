@@ -28,11 +28,11 @@ right_wins-requires c =
     let w = c.requires.0 in
     both_on c.args.span w c.args.i _ _ (c.seek-s.ensures w).0 (right_is (goal.at.right_wins-requires c).After-seek-t w)
 
-by-choice : (c : After-right_wins) → let a = c.args in
+by_choice : (c : After-right_wins) → let a = c.args in
     (r : Sighted) (b : Bool) → c.right_wins.result ≡ b → r ≡ cond b (sight_before c.seek-t.result.node) (sight_after c.seek-s.result.node)
     → (w : Rowed a.image.now a.span.pos a.span.end most_pages)
     → r ≡ sight_beside a.image.now (seek_span a.span w.row a.i) (seek_span a.span w.row (suc a.i))
-by-choice c x b e f w =
+by_choice c x b e f w =
     let img = c.args.image.now in
     let l = c.seek-s.result.node in
     let r = c.seek-t.result.node in
@@ -41,7 +41,7 @@ by-choice c x b e f w =
     f ∙ ap (λ (b : Bool). cond b (sight_before r) (sight_after l)) (sym e ∙ c.right_wins.ensures) ∙ (λ j. sight_beside img (p j) (q j))
 
 pub returns-then-right_wins : goal.returns-then-right_wins
-returns-then-right_wins c = by-choice (goal.at.returns-then-right_wins c).After-right_wins _ true c.if-right_wins.true c.sight.ensures
+returns-then-right_wins c = by_choice (goal.at.returns-then-right_wins c).After-right_wins _ true c.if-right_wins.true c.sight.ensures
 
 pub returns : goal.returns
-returns c = by-choice (goal.at.returns c).After-right_wins _ false c.if-right_wins.false c.sight-2.ensures
+returns c = by_choice (goal.at.returns c).After-right_wins _ false c.if-right_wins.false c.sight-2.ensures

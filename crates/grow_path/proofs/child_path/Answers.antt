@@ -17,9 +17,8 @@ pub shape_of-out : goal.shape_of-out
 shape_of-out c = search rules
 
 pub returns : goal.returns
-returns c =
-    (
-      refl,
-      spelled c.args.path.now c.args.out.now _ _ c.args.child c.requires.1 c.requires.0
-          c.copy_in.ensures c.put32.ensures,
-    )
+returns c = (
+  refl,
+  spelled c.args.path.now c.args.out.now _ _ c.args.child c.requires.1 c.requires.0
+      c.copy_in.ensures c.put32.ensures,
+)

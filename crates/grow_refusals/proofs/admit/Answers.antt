@@ -62,20 +62,20 @@ parent_at c z =
     parent_is _ _ c.args.child _ _ _ (formed (goal.at.After-find_in-found c).Else-content-gt-CONTENT) _ c.find_in-found.ensures z refl
 
 -- What is read there.
-parent-node : (c : After-find_in-found) → (c.find_in-found.result.number ≡ 0) → (n : Node) × ReadAt c.args.image.now n (page_size * c.find_in-found.result.place.page + c.find_in-found.result.place.offset)
-parent-node c z =
+parent_node : (c : After-find_in-found) → (c.find_in-found.result.number ≡ 0) → (n : Node) × ReadAt c.args.image.now n (page_size * c.find_in-found.result.place.page + c.find_in-found.result.place.offset)
+parent_node c z =
     let (t, r) = passing c.args.image.now c.requires.0 in
     parent_read _ _ c.args.child _ _ _ (formed (goal.at.After-find_in-found c).Else-content-gt-CONTENT) _ c.find_in-found.ensures z t.0 t.1 r (parent_at c z)
 
 pub overflow_mul-parent : goal.overflow_mul-parent
-overflow_mul-parent c = omega (arith, read_room (parent-node (goal.at.overflow_mul-parent c).After-find_in-found c.if-found-ne0.false).1)
+overflow_mul-parent c = omega (arith, read_room (parent_node (goal.at.overflow_mul-parent c).After-find_in-found c.if-found-ne0.false).1)
 
 pub overflow_add-parent : goal.overflow_add-parent
-overflow_add-parent c = omega (arith, read_room (parent-node (goal.at.overflow_add-parent c).After-find_in-found c.if-found-ne0.false).1)
+overflow_add-parent c = omega (arith, read_room (parent_node (goal.at.overflow_add-parent c).After-find_in-found c.if-found-ne0.false).1)
 
 pub try_parent-requires : goal.try_parent-requires
 try_parent-requires c =
-    (parent-node (goal.at.try_parent-requires c).After-find_in-found c.if-found-ne0.false, c.requires.1)
+    (parent_node (goal.at.try_parent-requires c).After-find_in-found c.if-found-ne0.false, c.requires.1)
 
 pub returns : goal.returns
 returns c =

@@ -2,7 +2,7 @@
 use mathlib.Core.Path.{refl, ap, ◌∙◌}
 use native.Mathlib.Omega.{arith}
 use borrow.Author.Tests.{not-true, not-false}
-use Rattle.grow_locate.specs.Aim.{received}
+use Rattle.grow_locate.proofs.Aim.{received}
 use Rattle.grow_refusals.specs.declared.Admitted.{Admitted}
 use Rattle.grow_refusals.specs.Admit.{not_zero, read_room, is_literal_lem, searched, is_past, is_within}
 use Rattle.grow_refusals.proofs.try_parent.Goals as goal

@@ -15,7 +15,7 @@ use Rattle.base_numbers.specs.Over.{over}
 use Rattle.base_layout.specs.declared.Growing.{Growing}
 use Rattle.base_layout.specs.Setup.{setup_of}
 use Rattle.base_layout.specs.Growing.{buffer_size, matrix_of}
-use Rattle.grow_locate.specs.Aim.{parent_label}
+use Rattle.grow_locate.proofs.Aim.{parent_label}
 use Rattle.grow_groups.specs.Used.{tables}
 use Rattle.grow_new_node.specs.Placed.{NodePlaced}
 use Rattle.grow_run.specs.Begin.{Begin, node_most, st, root, h, W, long, valid, setup_is, start_env, placed_size, into_record}
@@ -40,55 +40,55 @@ place_node-f-requires c =
     (start_env w f, (omega (arith, matrix_of f, long w, (valid w).ranges.few), (omega arith, (z, omega arith))))
 
 -- what page 0 says, and what placing the node leaves
-setup-of : (c : After-place_node-f) → (w : Given (goal.at.After-place_node-f c).Start) → setup_of (st w) ≡ c.args.setup
-setup-of c w =
+setup_here : (c : After-place_node-f) → (w : Given (goal.at.After-place_node-f c).Start) → setup_of (st w) ≡ c.args.setup
+setup_here c w =
     setup_is w c.requires.1
 
-placed-is : (c : After-place_node-f) → (w : Given (goal.at.After-place_node-f c).Start)
+placed_is : (c : After-place_node-f) → (w : Given (goal.at.After-place_node-f c).Start)
     → let z = c.place_node-f.new in
     let g : Growing = record { setup = c.args.setup; near = c.args.t.page; dry = c.args.dry } in
     NodePlaced (st w) w.x (h w) g (W w)
     (tables c.args.widths.now c.args.map.now) c.args.image.now (replicate most_node 0) c.place_node-f.result
     (tables z.widths z.map) z.image z.out
-placed-is c w =
-    c.place_node-f.ensures (st w) (root w) w.aim.reads (setup-of c w) (W w) w.marked w.x (h w)
+placed_is c w =
+    c.place_node-f.ensures (st w) (root w) w.aim.reads (setup_here c w) (W w) w.marked w.x (h w)
     (sym (c.label_at-above.ensures.0 ∙ (parent_label w.aim).1)) w.named w.is
 
-fits-new : (c : After-place_node-f) → c.place_node-f.result.size ≤ length c.place_node-f.new.out
-fits-new c =
+fits_new : (c : After-place_node-f) → c.place_node-f.result.size ≤ length c.place_node-f.new.out
+fits_new c =
     let w = c.requires.0 in
-    let z = placed_size w (setup-of c w) (placed-is c w) in
+    let z = placed_size w (setup_here c w) (placed_is c w) in
     omega (arith, z, c.place_node-f.auto.out)
 
 pub slice_bounds-new-end : goal.slice_bounds-new-end
-slice_bounds-new-end c = fits-new (goal.at.slice_bounds-new-end c).After-place_node-f
+slice_bounds-new-end c = fits_new (goal.at.slice_bounds-new-end c).After-place_node-f
 
 pub slice_bounds-take_in-end : goal.slice_bounds-take_in-end
-slice_bounds-take_in-end c = sym (length-take-le _ _ (fits-new (goal.at.slice_bounds-take_in-end c).After-place_node-f))
+slice_bounds-take_in-end c = sym (length-take-le _ _ (fits_new (goal.at.slice_bounds-take_in-end c).After-place_node-f))
 
 pub take_in-len-requires : goal.take_in-len-requires
 take_in-len-requires c =
     let w = c.requires.0 in
-    (into_record w (setup-of (goal.at.take_in-len-requires c).After-place_node-f w) (placed-is (goal.at.take_in-len-requires c).After-place_node-f w), refl)
+    (into_record w (setup_here (goal.at.take_in-len-requires c).After-place_node-f w) (placed_is (goal.at.take_in-len-requires c).After-place_node-f w), refl)
 
 -- the record with the node
 taken_is : (c : After-take_in-len) → (w : Given (goal.at.After-take_in-len c).Start)
     → let r = fill (position w) (P w ⊹ rest w) in
     (c.take_in-len.result ≡ record_size r) × (c.take_in-len.new.buf ≡ over 0 (record_bytes r) (replicate buffer_size 0))
 taken_is c w =
-    c.take_in-len.ensures (into_record w (setup-of (goal.at.After-take_in-len c).After-place_node-f w) (placed-is (goal.at.After-take_in-len c).After-place_node-f w))
+    c.take_in-len.ensures (into_record w (setup_here (goal.at.After-take_in-len c).After-place_node-f w) (placed_is (goal.at.After-take_in-len c).After-place_node-f w))
 
 pub cascade-requires : goal.cascade-requires
 cascade-requires c =
     let w = c.requires.0 in
     let t = taken_is (goal.at.cascade-requires c).After-take_in-len w in
-    (c.take_in-len.auto.buf, cascade_ready w (setup-of (goal.at.cascade-requires c).After-place_node-f w) (placed-is (goal.at.cascade-requires c).After-place_node-f w) (replicate buffer_size 0) t.0 t.1)
+    (c.take_in-len.auto.buf, cascade_ready w (setup_here (goal.at.cascade-requires c).After-place_node-f w) (placed_is (goal.at.cascade-requires c).After-place_node-f w) (replicate buffer_size 0) t.0 t.1)
 
 pub returns : goal.returns
 returns c =
     λ w.
-    let f = setup-of (goal.at.returns c).After-place_node-f w in
-    let z = placed-is (goal.at.returns c).After-place_node-f w in
+    let f = setup_here (goal.at.returns c).After-place_node-f w in
+    let z = placed_is (goal.at.returns c).After-place_node-f w in
     let b : List ℕ = replicate buffer_size 0 in
     let t = taken_is (goal.at.returns c).After-take_in-len w in
     once_done w f z b t.0 t.1 (c.cascade.ensures (cascade_ready w f z b t.0 t.1))

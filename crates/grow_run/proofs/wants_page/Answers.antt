@@ -10,7 +10,7 @@ use Rattle.model.specs.Growth.{apart}
 use Rattle.base_layout.specs.Growing.{matrix_of}
 use Rattle.grow_groups.specs.Used.{Tables}
 use Rattle.grow_locate.specs.declared.Receiver.{Receiver}
-use Rattle.grow_locate.specs.Aim.{parent_label}
+use Rattle.grow_locate.proofs.Aim.{parent_label}
 use Rattle.grow_run.specs.Begin.{Begin, st, root, h, long, valid, setup_is, stands}
 use Rattle.grow_run.specs.Unsplit.{by_matrix}
 use Rattle.grow_run.proofs.wants_page.Goals as goal

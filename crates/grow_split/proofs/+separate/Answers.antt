@@ -20,9 +20,9 @@ Given t c =
     let a = c.args in Sep a.g a.row a.buf.now (tables a.widths.now a.map.now) a.image.now (length a.out.now - a.at)
 
 -- the chosen child is in the row
-x-in : (t : ℕ) (c : After-child-x t) → let a = c.args in
+x_in : (t : ℕ) (c : After-child-x t) → let a = c.args in
     (a.row.pos ≤ c.child-x.result) × ((c.child-x.result + 6 ≤ a.row.end) × (a.row.end ≤ length a.buf.now))
-x-in t c =
+x_in t c =
     let w = c.requires.1.1.1 in chosen_fits w.kids (c.child-x.ensures w.kids w.st)
 
 pub child-x-requires : goal.child-x-requires
@@ -48,7 +48,7 @@ left t c w =
 pub enters-requires : goal.enters-requires
 enters-requires t c =
     let w = c.requires.1.1.1 in
-    (omega (arith, x-in t (goal.at.enters-requires t c).After-child-x), first_low (at_x w (c.child-x.ensures w.kids w.st)))
+    (omega (arith, x_in t (goal.at.enters-requires t c).After-child-x), first_low (at_x w (c.child-x.ensures w.kids w.st)))
 
 -- the split goes on in the chosen child,
 into : (t : ℕ) (c : After-size_at t) → (w : Given t (goal.at.After-size_at t c).Start)
@@ -57,31 +57,31 @@ into t c w =
     sym (c.enters.ensures _ (at_x w (left t (goal.at.After-size_at t c).After-put_group-a w).is) w.st (tolerance_of w.setup)) ∙ c.if-enters.true
 
 -- which is in the row
-inner-in : (t : ℕ) (c : After-size_at t) → let x = c.child-x.result in
+inner_in : (t : ℕ) (c : After-size_at t) → let x = c.child-x.result in
     let a = c.args in let k = c.size_at.result in
     (x + 6 < x + k) × ((x + k ≤ a.row.end) × (a.row.end ≤ length a.buf.now))
-inner-in t c =
+inner_in t c =
     let w = c.requires.1.1.1 in
     inner_fits (at_x w (left t (goal.at.After-size_at t c).After-put_group-a w).is) w.st (into t c w) _ c.size_at.ensures.0
 
 -- its header has room in out
-header-in : (t : ℕ) (c : After-size_at t) → let z = c.put_group-a in
+header_in : (t : ℕ) (c : After-size_at t) → let z = c.put_group-a in
     let n = length c.args.out.now in
     (z.result.end + 6 ≤ n) × ((length z.new.out ≡ n) × (n < 65536))
-header-in t c =
+header_in t c =
     let v = left t (goal.at.After-size_at t c).After-put_group-a c.requires.1.1.1 in
     omega (arith, header_room v (into t c c.requires.1.1.1), v.same, c.requires.1.1.0)
 
 pub copy_in-requires : goal.copy_in-requires
-copy_in-requires t c = simp length-take (omega (arith, header-in t (goal.at.copy_in-requires t c).After-size_at))
+copy_in-requires t c = simp length-take (omega (arith, header_in t (goal.at.copy_in-requires t c).After-size_at))
 
 pub separate-b-requires : goal.separate-b-requires
 separate-b-requires t c =
     let w = c.requires.1.1.1 in
     let v = left t (goal.at.separate-b-requires t c).After-put_group-a w in
-    let n = header-in t (goal.at.separate-b-requires t c).After-size_at in
+    let n = header_in t (goal.at.separate-b-requires t c).After-size_at in
     let k = c.copy_in.auto.dst in (
-      omega (arith, c.decreases, x-in t (goal.at.separate-b-requires t c).After-child-x, inner-in t (goal.at.separate-b-requires t c).After-size_at),
+      omega (arith, c.decreases, x_in t (goal.at.separate-b-requires t c).After-child-x, inner_in t (goal.at.separate-b-requires t c).After-size_at),
       (env_left v c.requires.0, (omega arith, (omega arith, inner_sep v (into t (goal.at.separate-b-requires t c).After-size_at w) c.size_at.ensures.0 c.copy_in.ensures))),
     )
 
@@ -102,7 +102,7 @@ inner_out : (t : ℕ) (c : After-separate-b t) → let n = length c.args.out.now
     × ((length c.separate-b.new.out ≡ n) × (n < 65536)))
 inner_out t c =
     let i = inside t c c.requires.1.1.1 in
-    omega (arith, inner_room _ i, i.same, header-in t (goal.at.After-separate-b t c).After-size_at)
+    omega (arith, inner_room _ i, i.same, header_in t (goal.at.After-separate-b t c).After-size_at)
 
 pub put_group-c-requires : goal.put_group-c-requires
 put_group-c-requires t c =
@@ -146,28 +146,28 @@ returns t c w =
     done_apart (left t (goal.at.returns t c).After-put_group-a w) (stops t (goal.at.returns t c).Else-enters w) (c.put_group-b.ensures (right_group (left t (goal.at.returns t c).After-put_group-a w) (stops t (goal.at.returns t c).Else-enters w)))
 
 pub slice_bounds-put_group-count : goal.slice_bounds-put_group-count
-slice_bounds-put_group-count t c = omega (arith, x-in t (goal.at.slice_bounds-put_group-count t c).After-child-x)
+slice_bounds-put_group-count t c = omega (arith, x_in t (goal.at.slice_bounds-put_group-count t c).After-child-x)
 
 pub slice_bounds-put_group-start : goal.slice_bounds-put_group-start
-slice_bounds-put_group-start t c = omega (arith, x-in t (goal.at.slice_bounds-put_group-start t c).After-child-x)
+slice_bounds-put_group-start t c = omega (arith, x_in t (goal.at.slice_bounds-put_group-start t c).After-child-x)
 
 pub slice_bounds-put_group-end : goal.slice_bounds-put_group-end
-slice_bounds-put_group-end t c = omega (arith, x-in t (goal.at.slice_bounds-put_group-end t c).After-child-x)
+slice_bounds-put_group-end t c = omega (arith, x_in t (goal.at.slice_bounds-put_group-end t c).After-child-x)
 
 pub overflow_add-inner : goal.overflow_add-inner
-overflow_add-inner t c = omega (arith, x-in t (goal.at.overflow_add-inner t c).After-child-x)
+overflow_add-inner t c = omega (arith, x_in t (goal.at.overflow_add-inner t c).After-child-x)
 
 pub size_at-requires : goal.size_at-requires
-size_at-requires t c = omega (arith, x-in t (goal.at.size_at-requires t c).After-child-x)
+size_at-requires t c = omega (arith, x_in t (goal.at.size_at-requires t c).After-child-x)
 
 pub overflow_add-next : goal.overflow_add-next
-overflow_add-next t c = omega (arith, inner-in t (goal.at.overflow_add-next t c).After-size_at)
+overflow_add-next t c = omega (arith, inner_in t (goal.at.overflow_add-next t c).After-size_at)
 
 pub slice_bounds-copy_in-end : goal.slice_bounds-copy_in-end
-slice_bounds-copy_in-end t c = omega (arith, x-in t (goal.at.slice_bounds-copy_in-end t c).After-child-x)
+slice_bounds-copy_in-end t c = omega (arith, x_in t (goal.at.slice_bounds-copy_in-end t c).After-child-x)
 
 pub overflow_add-a : goal.overflow_add-a
-overflow_add-a t c = omega (arith, header-in t (goal.at.overflow_add-a t c).After-size_at)
+overflow_add-a t c = omega (arith, header_in t (goal.at.overflow_add-a t c).After-size_at)
 
 pub overflow_add-a-then-enters : goal.overflow_add-a-then-enters
 overflow_add-a-then-enters t c = omega (arith, inner_out t (goal.at.overflow_add-a-then-enters t c).After-separate-b)
@@ -179,19 +179,19 @@ pub put16-requires : goal.put16-requires
 put16-requires t c = omega (arith, inner_out t (goal.at.put16-requires t c).After-separate-b)
 
 pub slice_bounds-put_group-count-then-enters : goal.slice_bounds-put_group-count-then-enters
-slice_bounds-put_group-count-then-enters t c = omega (arith, inner-in t (goal.at.slice_bounds-put_group-count-then-enters t c).After-size_at)
+slice_bounds-put_group-count-then-enters t c = omega (arith, inner_in t (goal.at.slice_bounds-put_group-count-then-enters t c).After-size_at)
 
 pub slice_bounds-put_group-start-then-enters : goal.slice_bounds-put_group-start-then-enters
-slice_bounds-put_group-start-then-enters t c = omega (arith, inner-in t (goal.at.slice_bounds-put_group-start-then-enters t c).After-size_at)
+slice_bounds-put_group-start-then-enters t c = omega (arith, inner_in t (goal.at.slice_bounds-put_group-start-then-enters t c).After-size_at)
 
 pub slice_bounds-put_group-end-then-enters : goal.slice_bounds-put_group-end-then-enters
-slice_bounds-put_group-end-then-enters t c = omega (arith, inner-in t (goal.at.slice_bounds-put_group-end-then-enters t c).After-size_at)
+slice_bounds-put_group-end-then-enters t c = omega (arith, inner_in t (goal.at.slice_bounds-put_group-end-then-enters t c).After-size_at)
 
 pub slice_bounds-put_group-count-2 : goal.slice_bounds-put_group-count-2
-slice_bounds-put_group-count-2 t c = omega (arith, x-in t (goal.at.slice_bounds-put_group-count-2 t c).After-child-x)
+slice_bounds-put_group-count-2 t c = omega (arith, x_in t (goal.at.slice_bounds-put_group-count-2 t c).After-child-x)
 
 pub slice_bounds-put_group-start-2 : goal.slice_bounds-put_group-start-2
-slice_bounds-put_group-start-2 t c = omega (arith, x-in t (goal.at.slice_bounds-put_group-start-2 t c).After-child-x)
+slice_bounds-put_group-start-2 t c = omega (arith, x_in t (goal.at.slice_bounds-put_group-start-2 t c).After-child-x)
 
 pub slice_bounds-put_group-end-2 : goal.slice_bounds-put_group-end-2
-slice_bounds-put_group-end-2 t c = omega (arith, x-in t (goal.at.slice_bounds-put_group-end-2 t c).After-child-x)
+slice_bounds-put_group-end-2 t c = omega (arith, x_in t (goal.at.slice_bounds-put_group-end-2 t c).After-child-x)

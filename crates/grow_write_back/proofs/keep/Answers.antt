@@ -25,8 +25,8 @@ pub first_node-from-requires : goal.first_node-from-requires
 first_node-from-requires c = (content_fits c.requires.1.1.1.1.1).0
 
 -- the row starts inside the content
-start-in : (c : After-first_node-from) → c.first_node-from.result ≤ length c.args.content.now
-start-in c =
+start_in : (c : After-first_node-from) → c.first_node-from.result ≤ length c.args.content.now
+start_in c =
     let w = c.requires.1.1.1.1.1 in start_inside w (c.first_node-from.ensures w.row w.is)
 
 pub relink-requires : goal.relink-requires
@@ -46,10 +46,10 @@ returns c =
     (kept_is w q a.holder i b e c.put_record.ensures (c.relink.ensures (content_linked w f)))
 
 pub slice_bounds-relink-count : goal.slice_bounds-relink-count
-slice_bounds-relink-count c = omega (arith, start-in (goal.at.slice_bounds-relink-count c).After-first_node-from)
+slice_bounds-relink-count c = omega (arith, start_in (goal.at.slice_bounds-relink-count c).After-first_node-from)
 
 pub slice_bounds-relink-start : goal.slice_bounds-relink-start
-slice_bounds-relink-start c = omega (arith, start-in (goal.at.slice_bounds-relink-start c).After-first_node-from)
+slice_bounds-relink-start c = omega (arith, start_in (goal.at.slice_bounds-relink-start c).After-first_node-from)
 
 pub slice_bounds-relink-end : goal.slice_bounds-relink-end
-slice_bounds-relink-end c = omega (arith, start-in (goal.at.slice_bounds-relink-end c).After-first_node-from)
+slice_bounds-relink-end c = omega (arith, start_in (goal.at.slice_bounds-relink-end c).After-first_node-from)

@@ -1,4 +1,4 @@
--- `listing_lines::decimal`: the digits before the last, then the last. The measure is the number. cN is c N places before.
+-- `listing_lines::decimal`: the digits before the last, then the last. The measure is the number.
 use Rattle.listing_lines.proofs.+decimal.Given as goal
 
 abbrev pub decreases-decimal : goal.decreases-decimal

@@ -1,4 +1,4 @@
--- `listing_lines::content`: empty content is a dash. cN is c N places before.
+-- `listing_lines::content`: empty content is a dash.
 use mathlib.Core.Path.{sym}
 use Rattle.listing_lines.specs.Wrote.{same_room, same_text}
 use Rattle.listing_lines.specs.Digits.{content_empty, content_hex}

@@ -1,4 +1,4 @@
--- `listing_lines::fields`: its pieces one after another. cN is c N places before.
+-- `listing_lines::fields`: its pieces one after another.
 use native.Mathlib.Omega.{arith}
 use Rattle.listing_lines.specs.Wrote.{then}
 use Rattle.listing_lines.specs.Digits.{fields_of, fields_long}

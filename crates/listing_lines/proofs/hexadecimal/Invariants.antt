@@ -1,4 +1,4 @@
--- `listing_lines::hexadecimal`: the bytes before i are written. cN is c N places before.
+-- `listing_lines::hexadecimal`: the bytes before i are written.
 use Prim.Native.Nat.{◌≤◌, ◌-◌}
 use lib.ListN.{length, take}
 use Rattle.listing_lines.specs.Text.{hex_of}

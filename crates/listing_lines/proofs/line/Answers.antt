@@ -1,4 +1,4 @@
--- `listing_lines::line`: its pieces one after another. cN is c N places before.
+-- `listing_lines::line`: its pieces one after another.
 use native.Mathlib.Omega.{arith}
 use Rattle.listing_lines.specs.Wrote.{then}
 use Rattle.listing_lines.specs.Text.{line_of}

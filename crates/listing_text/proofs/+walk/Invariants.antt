@@ -1,4 +1,4 @@
--- `listing_text::walk`: what is written and what is left are the whole text. The measure of the recursion is the depth. cN is c N places before.
+-- `listing_text::walk`: what is written and what is left are the whole text. The measure of the recursion is the depth.
 use mathlib.Core.List.{List}
 use Prim.Native.Nat.{ℕ, ◌-◌}
 use Rattle.listing_text.specs.Lined.{Underway}

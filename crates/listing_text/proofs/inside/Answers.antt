@@ -1,4 +1,4 @@
--- `listing_text::inside`: by the kind of the node. cN is c N places before.
+-- `listing_text::inside`: by the kind of the node.
 use Rattle.listing_text.specs.Lined.{inside_aggregate, inside_proxy, inside_none, named_page}
 use Rattle.listing_text.proofs.inside.Goals as goal
 

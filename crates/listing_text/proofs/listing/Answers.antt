@@ -1,4 +1,4 @@
--- `listing_text::listing`: the head line, then the walk from the root record. cN is c N places before.
+-- `listing_text::listing`: the head line, then the walk from the root record.
 use native.Mathlib.Omega.{arith}
 use Rattle.listing_text.specs.Whole.{plan, whole_fitting, whole_wrote}
 use Rattle.listing_text.proofs.listing.Goals as goal

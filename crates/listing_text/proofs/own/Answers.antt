@@ -1,4 +1,4 @@
--- `listing_text::own`: by the kind of the node. cN is c N places before.
+-- `listing_text::own`: by the kind of the node.
 use mathlib.Core.Path.{sym}
 use native.Mathlib.Omega.{arith}
 use Rattle.listing_lines.specs.Wrote.{nothing, same_room, same_text}

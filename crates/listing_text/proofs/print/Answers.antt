@@ -1,4 +1,4 @@
--- `listing_text::print`: over 15 pages, refused, or listed. cN is c N places before.
+-- `listing_text::print`: over 15 pages, refused, or listed.
 use mathlib.Core.Path.{sym, ◌∙◌}
 use native.Mathlib.Omega.{arith}
 use Rattle.listing_lines.specs.Wrote.{same_text}

@@ -13,18 +13,18 @@ use Rattle.nichelarder.proofs.nl_insert.Goals as goal
 use Rattle.nichelarder.proofs.nl_insert.Goals.{After-insert-a}
 
 -- the answer's numbers are small
-answer-small : (c : After-insert-a) → let s = c.args in SmallInsert
+answer_small : (c : After-insert-a) → let s = c.args in SmallInsert
     (insert_of s.image.now s.parent.now s.child s.kind s.origin s.label s.content.now).0
-answer-small c = insert_small c.args.image.now c.args.parent.now c.args.child c.args.kind c.args.origin c.args.label c.args.content.now
+answer_small c = insert_small c.args.image.now c.args.parent.now c.args.child c.args.kind c.args.origin c.args.label c.args.content.now
     (omega (arith, c.ranges)) (is_byte_lem c.args.content.now (λ i. omega (arith, c.type_inv.content i)))
 
 pub overflow_cast-answer : goal.overflow_cast-answer
 overflow_cast-answer c =
-    record { fits = omega (arith, ap (λ (r : InsertAnswer). r.place.page) c.insert-a.ensures.answer, (answer-small (goal.at.overflow_cast-answer c).After-insert-a).place.page) }
+    record { fits = omega (arith, ap (λ (r : InsertAnswer). r.place.page) c.insert-a.ensures.answer, (answer_small (goal.at.overflow_cast-answer c).After-insert-a).place.page) }
 
 pub overflow_cast-answer-2 : goal.overflow_cast-answer-2
 overflow_cast-answer-2 c =
-    record { fits = omega (arith, ap (λ (r : InsertAnswer). r.place.offset) c.insert-a.ensures.answer, (answer-small (goal.at.overflow_cast-answer-2 c).After-insert-a).place.offset) }
+    record { fits = omega (arith, ap (λ (r : InsertAnswer). r.place.offset) c.insert-a.ensures.answer, (answer_small (goal.at.overflow_cast-answer-2 c).After-insert-a).place.offset) }
 
 pub returns : goal.returns
 returns c =
@@ -33,6 +33,6 @@ returns c =
     record {
       number = ap (λ (r : InsertAnswer). r.number) e;
       answer = ap (λ (r : InsertAnswer). r.place.page ∷ r.place.offset ∷ r.splits ∷ []) e;
-      lean = to_z-of_z {w = w32} (lean_signed c.insert-a.result.lean (rw l (answer-small (goal.at.returns c).After-insert-a).lean)) ∙ l;
+      lean = to_z-of_z {w = w32} (lean_signed c.insert-a.result.lean (rw l (answer_small (goal.at.returns c).After-insert-a).lean)) ∙ l;
       image = c.insert-a.ensures.image;
     }

@@ -1,4 +1,4 @@
--- `read_fault_nodes::first`: a size, then the node. cN is c N places before.
+-- `read_fault_nodes::first`: a size, then the node.
 use native.Mathlib.Omega.{arith}
 use Rattle.read_fault_nodes.specs.Nodes.{leads_stop, leads_same, within_front, within_long, first_none, first_some, first_sized, first_says}
 use Rattle.read_fault_nodes.proofs.first.Goals as goal

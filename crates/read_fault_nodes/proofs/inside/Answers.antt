@@ -1,4 +1,4 @@
--- `read_fault_nodes::inside`: by the kind of the node. cN is c N places before.
+-- `read_fault_nodes::inside`: by the kind of the node.
 use mathlib.Core.Path.{refl}
 use native.Mathlib.Omega.{arith}
 use Rattle.read_fault_nodes.specs.Rows.{literal, aggregate}

@@ -1,4 +1,4 @@
--- `read_fault_nodes::proxy_row`: test by test; the page that is entered is marked. cN is c N places before.
+-- `read_fault_nodes::proxy_row`: test by test; the page that is entered is marked.
 use mathlib.Core.Path.{sym, ◌∙◌}
 use native.Mathlib.Omega.{arith}
 use Rattle.read_fault_nodes.specs.Nodes.{leads_stop, holds, proxy_names, proxy_left, proxy_again, proxy_leads}

@@ -1,5 +1,5 @@
 use mathlib.Core.Path.{sym, ◌∙◌}
--- `read_fault_nodes::record_row`: test by test. cN is c N places before.
+-- `read_fault_nodes::record_row`: test by test.
 use native.Mathlib.Omega.{arith}
 use Rattle.read_fault_nodes.specs.Nodes.{to_stop, record_root, record_tail, record_part, record_leads}
 use Rattle.read_fault_nodes.proofs.record_row.Goals as goal

@@ -1,5 +1,4 @@
 -- `read_fault_walk::row_walk`: what is left, done from the byte at hand, comes to the call's walk. Pages to reach fall, then bytes.
--- cN is c N places before; f is where `first` has returned, e where an aggregate with nodes is met.
 use Prim.Native.Nat.{◌+◌, ◌-◌, ◌*◌}
 use Rattle.read_fault_walk.specs.Steps.{Going, call_of}
 use Rattle.read_fault_walk.proofs.+row_walk.Given as goal

@@ -10,17 +10,17 @@ use Rattle.read_leaves.proofs.leaves.Goals as goal
 use Rattle.read_leaves.proofs.leaves.Goals.{Else-not-literal, Then-aggregate}
 
 -- After the turn that passes an empty aggregate.
-empty-passed : (c : Then-aggregate) → let a = c.args in
+empty_passed : (c : Then-aggregate) → let a = c.args in
     Passed a.part.now a.level (c.loop-at.at + 6) × (6 ≤ 6) × (c.loop-at.at + 6 ≤ length a.part.now)
-empty-passed c = let a = c.args in
+empty_passed c = let a = c.args in
     passed_empty a.part.now a.level c.loop-at.at c.loop-at.invariant
     (sym (aggregate_by _ 6 1 a.level _ c.in_aggregate-may.ensures _ c.aggregate.ensures) ∙ c.if-aggregate.true)
 
 -- After the turn that passes a literal.
-literal-passed : (c : Else-not-literal) → let a = c.args in
+literal_passed : (c : Else-not-literal) → let a = c.args in
     let n = c.size_of-size.result in
     Passed a.part.now a.level (c.loop-at.at + n) × (6 ≤ n) × (c.loop-at.at + n ≤ length a.part.now)
-literal-passed c = let a = c.args in
+literal_passed c = let a = c.args in
     let n = c.size_of-size in
     passed_literal a.part.now a.level c.loop-at.at c.loop-at.invariant n.result n.ensures c.if-size-eq0.false
     (sym (literal_by _ n.result 1 a.level _ c.in_aggregate-may.ensures _ c.literal.ensures) ∙ c.if-not-literal.false)
@@ -29,13 +29,13 @@ pub loop-at-init : goal.loop-at-init
 loop-at-init c = passed_none _ _
 
 pub overflow_add-at : goal.overflow_add-at
-overflow_add-at c = omega (arith, (empty-passed (goal.at.overflow_add-at c).Then-aggregate).2, c.well_formed)
+overflow_add-at c = omega (arith, (empty_passed (goal.at.overflow_add-at c).Then-aggregate).2, c.well_formed)
 
 pub loop-at-smaller-then-aggregate : goal.loop-at-smaller-then-aggregate
-loop-at-smaller-then-aggregate c = omega (arith, (empty-passed (goal.at.loop-at-smaller-then-aggregate c).Then-aggregate).2)
+loop-at-smaller-then-aggregate c = omega (arith, (empty_passed (goal.at.loop-at-smaller-then-aggregate c).Then-aggregate).2)
 
 pub loop-at-preserved-then-aggregate : goal.loop-at-preserved-then-aggregate
-loop-at-preserved-then-aggregate c = (empty-passed (goal.at.loop-at-preserved-then-aggregate c).Then-aggregate).0
+loop-at-preserved-then-aggregate c = (empty_passed (goal.at.loop-at-preserved-then-aggregate c).Then-aggregate).0
 
 pub returns-then-size-eq0 : goal.returns-then-size-eq0
 returns-then-size-eq0 c = λ e. absurd (false≢true e)
@@ -47,13 +47,13 @@ pub returns-then-not-literal : goal.returns-then-not-literal
 returns-then-not-literal c = λ e. absurd (false≢true e)
 
 pub overflow_add-at-else-aggregate : goal.overflow_add-at-else-aggregate
-overflow_add-at-else-aggregate c = omega (arith, (literal-passed (goal.at.overflow_add-at-else-aggregate c).Else-not-literal).2, c.well_formed)
+overflow_add-at-else-aggregate c = omega (arith, (literal_passed (goal.at.overflow_add-at-else-aggregate c).Else-not-literal).2, c.well_formed)
 
 pub loop-at-smaller : goal.loop-at-smaller
-loop-at-smaller c = omega (arith, (literal-passed (goal.at.loop-at-smaller c).Else-not-literal).1, (literal-passed (goal.at.loop-at-smaller c).Else-not-literal).2)
+loop-at-smaller c = omega (arith, (literal_passed (goal.at.loop-at-smaller c).Else-not-literal).1, (literal_passed (goal.at.loop-at-smaller c).Else-not-literal).2)
 
 pub loop-at-preserved : goal.loop-at-preserved
-loop-at-preserved c = (literal-passed (goal.at.loop-at-preserved c).Else-not-literal).0
+loop-at-preserved c = (literal_passed (goal.at.loop-at-preserved c).Else-not-literal).0
 
 pub returns : goal.returns
 returns c = λ e. passed_all _ _ _ c.loop-at.invariant c.loop-at-test.false

@@ -9,12 +9,12 @@ use Rattle.model.specs.WalkTests.{tail_zero}
 use Rattle.read_marks.proofs.tail_zero.Goals as goal
 
 -- from the length used to the trailer
-tail-is : (img : List ℕ) (a u : ℕ) → all_zero (take (a + capacity - (a + u)) (drop (a + u) img)) ≡ all_zero (take (capacity - u) (drop (a + u) img))
-tail-is img a u = let n : a + capacity - (a + u) ≡ capacity - u = omega arith in rw n
+tail_is : (img : List ℕ) (a u : ℕ) → all_zero (take (a + capacity - (a + u)) (drop (a + u) img)) ≡ all_zero (take (capacity - u) (drop (a + u) img))
+tail_is img a u = let n : a + capacity - (a + u) ≡ capacity - u = omega arith in rw n
 
 pub returns : goal.returns
 unfolding tail_zero
 returns c =
     let a = c.args in
     let used = c.used_at in
-    rw (← used.ensures.0) (c.zeros.ensures ∙ tail-is a.image.now (page_size * a.p) used.result)
+    rw (← used.ensures.0) (c.zeros.ensures ∙ tail_is a.image.now (page_size * a.p) used.result)

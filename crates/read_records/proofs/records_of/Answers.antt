@@ -14,7 +14,7 @@ overflow_mul-n c =
 pub returns-then-buffer-n : goal.returns-then-buffer-n
 returns-then-buffer-n c =
     let a = short c.args.image.now _ _ c.requires c.count_pages-n.ensures c.if-buffer-n.true in
-    record { value = a.0; buffer_after = a.1 }
+    record { answer = a.0; buffer = a.1 }
 
 pub put_pages-requires : goal.put_pages-requires
 put_pages-requires c = record { inside = omega (arith, few_pages_lem c.args.image.now c.requires); room = omega (arith, c.count_pages-n.ensures) }
@@ -22,4 +22,4 @@ put_pages-requires c = record { inside = omega (arith, few_pages_lem c.args.imag
 pub returns : goal.returns
 returns c =
     let a = written c.args.image.now _ _ c.requires c.count_pages-n.ensures _ c.if-buffer-n.false c.put_pages.ensures in
-    record { value = a.0; buffer_after = a.1 }
+    record { answer = a.0; buffer = a.1 }
