@@ -5,7 +5,8 @@ cd "$(dirname "$0")/.."
 cc=${CC:-gcc}
 flags=(-std=c99 -D_POSIX_C_SOURCE=200809L -O3 -Wall -Wextra)
 echo "bench: proving and building the archive (minutes)"
-bash tools/build.sh archive 2>/dev/null
+mkdir -p target
+bash tools/build.sh archive 2>target/build.log || { cat target/build.log; exit 1; }
 "$cc" "${flags[@]}" bench/check.c target/staticlib/libnichelarder.a -o target/bench_check
 "$cc" "${flags[@]}" bench/walk.c target/staticlib/libnichelarder.a -o target/bench_walk
 "$cc" "${flags[@]}" bench/insert.c target/staticlib/libnichelarder.a -o target/bench_insert

@@ -2,7 +2,8 @@
 # Builds the listing program, runs it on inputs made by make_images.py, from a file and through a pipe, and compares what it prints.
 set -euo pipefail
 cd "$(dirname "$0")/.."
-bash tools/build.sh listing 2>/dev/null
+mkdir -p target
+bash tools/build.sh listing 2>target/build.log || { cat target/build.log; exit 1; }
 program=target/bin/listing
 images=target/images
 python3 -B tests/make_images.py "$images"

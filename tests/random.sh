@@ -14,7 +14,7 @@ mkdir -p target
 replay=${REPLAY:-}
 if [ -z "$replay" ]; then
     echo "$kind: proving and building the archive (minutes)"
-    bash tools/build.sh archive 2>/dev/null
+    bash tools/build.sh archive 2>target/build.log || { cat target/build.log; exit 1; }
     replay=target/replay
     "${CC:-cc}" -std=c99 -O2 -Wall -Wextra -Werror tests/replay.c target/staticlib/libnichelarder.a -o "$replay"
 fi

@@ -5,7 +5,8 @@ cd "$(dirname "$0")/.."
 cc=${CC:-cc}
 at() { echo "tests: $1 of 14: $2"; }
 at 1 "the archive (minutes, where the crates are not proved yet)"
-bash tools/build.sh archive 2>/dev/null
+mkdir -p target
+bash tools/build.sh archive 2>target/build.log || { cat target/build.log; exit 1; }
 flags=(-std=c99 -O2 -Wall -Wextra -Werror)
 "$cc" "${flags[@]}" tests/replay.c target/staticlib/libnichelarder.a -o target/replay
 "$cc" "${flags[@]}" tests/deep.c target/staticlib/libnichelarder.a -o target/deep
