@@ -1,12 +1,13 @@
 // How the bytes of an image are laid out: a node's header, a page's trailer, page 0.
 #![tactic(auto)]
 
-ghost use Rattle.std.specs.Prelude.{◌≡◌, ◌+◌, ◌≤◌, ◌<◌, length};
-ghost use Rattle.model.specs.Limits.{page_size, settings_size};
+ghost use Rattle.std.specs.Prelude.{◌≡◌, ◌+◌, ◌*◌, ◌≤◌, ◌<◌, length};
+ghost use Rattle.model.specs.Limits.{most_pages, page_size, settings_size};
 ghost use Rattle.model.specs.Reading.{head_at, size_at, name_at, settled_at, used_at, back_at};
 ghost use Rattle.base_layout.specs.Setup.{setup_on};
 
-use base_numbers::{two, wide};
+use base_numbers::two;
+use model::Settings;
 
 // ── the header of the node at a byte ──
 
@@ -15,7 +16,7 @@ pub fn origin_at(s: &[u8], at: usize) -> usize
     requires { at + 6 ≤ length s.now }
     ensures { (result ≡ (head_at s.now at).origin) × (result < 256) }
 {
-    wide(s[at + 1])
+    usize::from(s[at + 1])
 }
 
 // Its label.
@@ -49,7 +50,7 @@ pub fn settled_at(s: &[u8], start: usize) -> usize
     requires { start + page_size ≤ length s.now }
     ensures { (result ≡ settled_at s.now start) × (result < 256) }
 {
-    wide(s[start + 4081])
+    usize::from(s[start + 4081])
 }
 
 // The length used.
@@ -66,6 +67,15 @@ pub fn back_at(s: &[u8], start: usize) -> usize
     ensures { (result ≡ back_at s.now start) × (result < 65536) }
 {
     two(s, start + 4084)
+}
+
+// Where the record on a page ends.
+pub fn record_end(image: &[u8], page: usize) -> usize
+    requires { (page < most_pages) × (page_size * page + page_size ≤ length image.now) }
+    ensures { result ≡ page_size * page + used_at image.now (page_size * page) }
+{
+    let start = Settings::PAGE * page;
+    start + used_at(image, start)
 }
 
 // ── page 0 ──
@@ -85,7 +95,7 @@ pub fn setup_on(image: &[u8]) -> Setup
 {
     Setup {
         pages: two(image, 0),
-        target: wide(image[2]),
+        target: usize::from(image[2]),
         tolerance: two(image, 4),
         matrix: 16,
     }

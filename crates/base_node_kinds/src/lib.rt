@@ -6,16 +6,16 @@ ghost use Rattle.model.specs.Row.{may_stand};
 ghost use Rattle.base_node_kinds.specs.Holders.{kinds_in};
 
 // Row: the holder, 0 a record's page. Column: the kind.
-pub const MAY_STAND: [u8; 25] = [
-    // a record's page
-    0, 1, 1, 0, // a proxy is no root
-    1,
+pub const MAY_STAND: [[bool; 5]; 5] = [
+    // a record's page; a proxy is no root
+    [false, true, true, false, true],
     // an aggregate
-    0, 1, 1, 1, 0,
+    [false, true, true, true, false],
     // a literal, a proxy
-    0, 0, 0, 0, 0, 0, 0, 0, 0, 0,
+    [false; 5],
+    [false; 5],
     // a helper
-    0, 1, 1, 1, 0,
+    [false, true, true, true, false],
 ];
 
 // Whether a node of a kind may stand in a holder.
@@ -23,10 +23,15 @@ pub fn may_stand(holder: usize, kind: usize) -> bool
     requires { (holder < 5) × (kind < 5) }
     ensures { result ≡ may_stand holder kind }
 {
-    MAY_STAND[holder * 5 + kind] == 1
+    MAY_STAND[holder][kind]
 }
 
 // ── asked once for a row of nodes ──
+
+// The holders whose rows are gone through.
+pub const AGGREGATE: usize = 1;
+
+pub const HELPER: usize = 4;
 
 // Which kinds of node may stand in a row.
 #[derive(Clone, Copy)]
@@ -36,24 +41,14 @@ pub struct Kinds {
     pub proxy: bool,
 }
 
-// In the row of an aggregate.
-pub fn in_aggregate() -> Kinds
-    ensures { result ≡ kinds_in 1 }
+// In the row that a holder has.
+pub fn kinds_in(holder: usize) -> Kinds
+    requires { holder < 5 }
+    ensures { result ≡ kinds_in holder }
 {
     Kinds {
-        aggregate: may_stand(1, 1),
-        literal: may_stand(1, 2),
-        proxy: may_stand(1, 3),
-    }
-}
-
-// In the row of a helper.
-pub fn in_helper() -> Kinds
-    ensures { result ≡ kinds_in 4 }
-{
-    Kinds {
-        aggregate: may_stand(4, 1),
-        literal: may_stand(4, 2),
-        proxy: may_stand(4, 3),
+        aggregate: may_stand(holder, 1),
+        literal: may_stand(holder, 2),
+        proxy: may_stand(holder, 3),
     }
 }

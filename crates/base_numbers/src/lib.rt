@@ -11,7 +11,7 @@ ghost use Rattle.base_numbers.specs.Over.{over};
 pub fn wide(x: u8) -> usize
     ensures { (result ≡ x) × (result < 256) }
 {
-    x as usize
+    usize::from(x)
 }
 
 // The two-byte number at `at`, low byte first.
@@ -19,9 +19,7 @@ pub fn two(s: &[u8], at: usize) -> usize
     requires { at + 1 < length s.now }
     ensures { (result ≡ two_at s.now at) × (result < 65536) }
 {
-    let low = wide(s[at]);
-    let high = wide(s[at + 1]);
-    low + 256 * high
+    usize::from(u16::from_le_bytes([s[at], s[at + 1]]))
 }
 
 // Writes the two-byte number v at `at`.
@@ -29,8 +27,7 @@ pub fn put16(s: &mut [u8], at: usize, v: usize)
     requires { (at + 1 < length s.old) × (v < 65536) }
     ensures { s.new ≡ over at (row.two v) s.old }
 {
-    s[at] = (v % 256) as u8;
-    s[at + 1] = (v / 256) as u8;
+    s[at..at + 2].copy_from_slice(&v.to_le_bytes()[..2]);
 }
 
 // Writes the low four bytes of the number v at `at`, low byte first.
@@ -38,21 +35,16 @@ pub fn put32(s: &mut [u8], at: usize, v: usize)
     requires { at + 4 ≤ length s.old }
     ensures { s.new ≡ over at (four v) s.old }
 {
-    s[at] = (v % 256) as u8;
-    s[at + 1] = (v / 256 % 256) as u8;
-    s[at + 2] = (v / 65536 % 256) as u8;
-    s[at + 3] = (v / 16777216 % 256) as u8;
+    s[at..at + 4].copy_from_slice(&v.to_le_bytes()[..4]);
 }
 
-// Copies all of src into dst from `at`.
+// Copies all of src into dst from `at`. By a loop: `copy_from_slice` would ask the C library for memmove as well.
 pub fn copy_in(src: &[u8], dst: &mut [u8], at: usize)
     requires { at + length src.now ≤ length dst.old }
     ensures { dst.new ≡ over at src.now dst.old }
 {
-    let mut j = 0;
-    while j < src.len() {
+    for j in 0..src.len() {
         dst[at + j] = src[j];
-        j += 1;
     }
 }
 
@@ -61,9 +53,5 @@ pub fn clear(s: &mut [u8], at: usize, n: usize)
     requires { at + n ≤ length s.old }
     ensures { s.new ≡ over at (replicate n 0) s.old }
 {
-    let mut j = 0;
-    while j < n {
-        s[at + j] = 0;
-        j += 1;
-    }
+    s[at..at + n].fill(0);
 }

@@ -11,16 +11,11 @@ ghost use Rattle.base_ranges.specs.Tables.{tables_for};
 use model::Settings;
 
 // Whether an image may have so many bytes: whole pages, 2 to 1,024.
+#[tactic(auto, unfolding(model::specs::Reading::length_ok))]
 pub fn length_ok(n: usize) -> bool
     ensures { result ≡ length_ok n }
 {
-    if n % Settings::PAGE != 0 {
-        return false;
-    }
-    if n / Settings::PAGE < 2 {
-        return false;
-    }
-    n / Settings::PAGE <= Settings::PAGES
+    n % Settings::PAGE == 0 && (2..=Settings::PAGES).contains(&(n / Settings::PAGE))
 }
 
 // The entries of a small table that has one for each page.
@@ -49,44 +44,21 @@ pub fn matrix_ok(matrix: &[u8]) -> bool
     ensures { result ≡ every is_entry matrix.now }
 {
     let mut most: u8 = 0;
-    let mut i = 0;
-    while i < matrix.len() {
-        let mut x = matrix[i];
-        if x == 1 {
-            x = 255;
-        }
-        if most < x {
-            most = x;
-        }
-        i = i + 1;
+    for &x in matrix {
+        most = most.max(if x == 1 { 255 } else { x });
     }
     most <= 2
 }
 
 // Whether the settings and their matrix are in range.
+#[tactic(auto, unfolding(model::specs::Row::in_range))]
 pub fn in_range(settings: Settings, matrix: &[u8]) -> bool
     ensures { result ≡ in_range (config settings matrix.now) }
 {
-    if settings.pages < 2 {
-        return false;
-    }
-    if Settings::PAGES < settings.pages {
-        return false;
-    }
-    if settings.target < Settings::LEAST_TARGET {
-        return false;
-    }
-    if Settings::MOST_TARGET < settings.target {
-        return false;
-    }
-    if Settings::MOST_TOLERANCE < settings.tolerance {
-        return false;
-    }
-    if settings.form != Settings::FORM {
-        return false;
-    }
-    if matrix.len() != Settings::ENTRIES {
-        return false;
-    }
-    matrix_ok(matrix)
+    (2..=Settings::PAGES).contains(&settings.pages)
+        && (Settings::LEAST_TARGET..=Settings::MOST_TARGET).contains(&settings.target)
+        && settings.tolerance <= Settings::MOST_TOLERANCE
+        && settings.form == Settings::FORM
+        && matrix.len() == Settings::ENTRIES
+        && matrix_ok(matrix)
 }

@@ -4,12 +4,13 @@
 ghost use Rattle.std.specs.Prelude.{◌≡◌, true, ◌&&◌, ◌*◌, length, eqb};
 ghost use Rattle.model.specs.Row as row;
 ghost use Rattle.model.specs.Limits.{page_size};
+ghost use Rattle.model.specs.Answers.{result_number};
 ghost use Rattle.model.specs.Calls.Format.{config, format_of};
 ghost use Rattle.format.specs.First.{first_root, first_page, root_page, zeros, Numbers};
 
 use base_numbers::{clear, copy_in, put16};
 use base_ranges::{in_range, length_ok};
-use model::Settings;
+use model::{Refusal, Settings};
 
 // Where a page's trailer has the length used, that of page 0, and the bytes of pages 0 and 1.
 const USED: usize = Settings::CAPACITY + 2;
@@ -59,24 +60,25 @@ pub fn write_first(image: &mut [u8], settings: Settings, matrix: &[u8], label: u
 fn settings_fit(settings: Settings, matrix: &[u8], pages: usize) -> bool
     ensures { result ≡ (row.in_range (config settings matrix.now) && eqb settings.pages pages) }
 {
-    if settings.pages != pages {
-        return false;
-    }
-    in_range(settings, matrix)
+    settings.pages == pages && in_range(settings, matrix)
 }
 
-// Format: a store with a root aggregate alone in the whole image, or the refusal's number with the image as it was.
-pub fn format_image(image: &mut [u8], settings: Settings, matrix: &[u8], root_label: u16) -> u32
-    ensures answer { result ≡ (format_of image.old settings matrix.now root_label).0 }
+// Format: a store with a root aggregate alone in the whole image; refused, the image is as it was.
+pub fn format_image(
+    image: &mut [u8],
+    settings: Settings,
+    matrix: &[u8],
+    root_label: u16,
+) -> Result<(), Refusal>
+    ensures answer { result_number result ≡ (format_of image.old settings matrix.now root_label).0 }
     ensures image { image.new ≡ (format_of image.old settings matrix.now root_label).1 }
 {
-    let n = image.len();
-    if !length_ok(n) {
-        return 1;
+    if !length_ok(image.len()) {
+        return Err(Refusal::WrongLength);
     }
-    if !settings_fit(settings, matrix, n / Settings::PAGE) {
-        return 2;
+    if !settings_fit(settings, matrix, image.len() / Settings::PAGE) {
+        return Err(Refusal::WrongSettings);
     }
     write_first(image, settings, matrix, root_label);
-    0
+    Ok(())
 }

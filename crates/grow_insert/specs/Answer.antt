@@ -1,15 +1,15 @@
 -- An insert's answer and image: from its tests, whether a page is missing, and its run to the definition.
-use Rattle.std.specs.Prelude.{◌≡◌, refl, Bool, true, false, List, ◌++◌, ℕ, ◌+◌, ◌<◌, ◌≤◌, length, ℤ}
+use Rattle.std.specs.Prelude.{◌≡◌, refl, Bool, true, false, List, [], ◌∷◌, ◌++◌, ℕ, ◌+◌, ◌<◌, ◌≤◌, length, ℤ}
 use Rattle.std.proofs.Math.Path.{sym}
 use Rattle.std.proofs.Common.{ap, subst, ◌∙◌, arith}
 use Rattle.std.proofs.Math.Option.{some}
 use borrow.Author.Tests.{ne_eqb}
 use Rattle.model.specs.Row.{Row, nil, bytes, count, image, Config}
 use Rattle.model.specs.Reading.{Reads}
-use Rattle.model.specs.Tree.{shown, New}
+use Rattle.model.specs.Tree.{shown, New, place_of}
 use Rattle.model.specs.Growth.{Out, as_row, at_rest}
-use Rattle.model.specs.Answers.{insert_refused}
-use Rattle.model.specs.Common.{four, entries, path_of}
+use Rattle.model.specs.Answers.{FindAnswer, insert_refused}
+use Rattle.model.specs.Common.{four, entries, path_of, place_or}
 use Rattle.model.specs.Calls.Insert.{insert_number, new_of, grown, insert_of}
 use Rattle.model.specs.declared.Place.{Place}
 use Rattle.theory_rows.specs.Fits.{IsByte}
@@ -24,7 +24,7 @@ use Rattle.model.specs.Calls.Find.{find_of}
 use Rattle.theory_calls.specs.Growth.{growth}
 use Rattle.theory_calls.specs.Spot.{spot_accepted}
 use Rattle.grow_groups.specs.Used.{Tables, InUse, Holds}
-use Rattle.grow_path.specs.Path.{find_more}
+use Rattle.grow_path.specs.Path.{find_all}
 use Rattle.theory_calls.specs.Open.{opens}
 use Rattle.theory_calls.specs.Paths.{path_length, whole_path}
 use Rattle.theory_calls.specs.Tests.{Accepted, accepted, full_last, full_unasked}
@@ -138,12 +138,16 @@ module _ {img path : List ℕ} {child kind origin label : ℕ} {content : List �
         grow_tally p.st X p.root (path_of path) child spot.0 spot.1 new_fits (reads_valid img p.st p.root p.reads) short room
 
     -- Find gives the new node's place.
+    pub finds : {i : List ℕ} → child < 4294967296 → i ≡ image p.st made.0
+        → find_of i (path ++ four child) ≡ record { number = 0; place = place_or (place_of made.0 (path_of path ++ child ∷ [])) }
+    finds {i} k e =
+        find_all i p.st made.0 (new_reads e) path child tests.short k (whole_path (shown p.root) (entries path) tests.named) grows.named.0 grows.named.1
+
     pub accepted_is : {i : List ℕ} {at : Place} {splits : ℕ} {lean : ℤ} → child < 4294967296 → i ≡ image p.st made.0
         → at ≡ (find_of i (path ++ four child)).place → splits ≡ made.1.splits → lean ≡ made.1.lean
         → (record { number = 0; place = at; splits = splits; lean = lean }, i) ≡ insert_of img path child kind origin label content
     unfolding insert_of
     accepted_is {i} k e f q l =
-        let entire = whole_path (shown p.root) (entries path) tests.named in
-        let new = f ∙ find_more i p.st made.0 (new_reads e) path child tests.short k entire grows.named.0 grows.named.1 in
+        let new = f ∙ ap (λ (a : FindAnswer). a.place) (finds k e) in
         (λ j. (record { number = 0; place = new j; splits = q j; lean = l j }, e j))
         ∙ sym (rw (opens img p.st p.root p.reads, room, ← p.zero))

@@ -1,5 +1,5 @@
 -- The spot that the code chooses is step 1's.
-use Rattle.std.specs.Prelude.{◌≡◌, refl, Bool, true, false, List, [], ℕ, zero, suc, ◌*◌, ◌-◌, ◌/◌, ◌≤◌, ltb}
+use Rattle.std.specs.Prelude.{Option as Found, Some, None, ◌≡◌, refl, Bool, true, false, List, [], ℕ, zero, suc, ◌*◌, ◌-◌, ◌/◌, ◌≤◌, ltb}
 use Rattle.std.proofs.Common.{sym, ap, subst, ◌∙◌, arith, lt-ltb, le-ltb, ltb-true, ltb-false}
 use Rattle.std.proofs.Math.Option.{Option, none, some, some-injective, none-ne-some}
 use Rattle.model.specs.Limits.{page_size, capacity}
@@ -11,9 +11,10 @@ use Rattle.theory_growth.specs.Chain.{both, fill_past}
 use Rattle.theory_growth.specs.Stand.{not_alone_into, root_of, stood_in}
 use Rattle.theory_insert_point.specs.Bytes.{chain_page, chain_fill}
 use Rattle.grow_locate.specs.declared.Located.{Located}
+use Rattle.grow_locate.specs.declared.Receiver.{Receiver}
 use Rattle.grow_locate.specs.declared.Span.{Span}
 use Rattle.grow_locate.specs.Seek.{seek_span}
-use Rattle.grow_locate.specs.Choose.{used_around, right_wins, sight_beside, sight_first, sight_child}
+use Rattle.grow_locate.specs.Choose.{used_around, right_wins, sight_at, sight_after, sight_before, sight_beside, sight_first, sight_child}
 use Rattle.grow_locate.specs.Parent.{Goes, Stands, IsStand, stand_hits, Sights, after_sights, before_sights}
 
 -- Fewer bytes used are more unused.
@@ -43,26 +44,32 @@ module _ {img : List ℕ} {st : Config} {root : Row} (reads : Reads img st root)
   wins_more h x y l r a b c d =
       let u = used_there x l a c in
       let v = used_there y r b d in
-      rw (b.found, u.0, v.0, fill_past l.position l.node l.rest)
+      rw (u.0, v.0, fill_past l.position l.node l.rest)
       (fewer_used (record_size (around_it l)) (record_size (around_it r)) capacity u.1 v.1)
 
-  beside_sights : (h : Head) (x y : Located) (lo ro : Option Stand) (t : Spot) → IsStand x lo → IsStand y ro
+  beside_sights : (h : Head) (x y : Found Located) (lo ro : Option Stand) (t : Spot) → IsStand x lo → IsStand y ro
       → ((n : Stand) → lo ≡ some n → root_of n ≡ root) → ((n : Stand) → ro ≡ some n → root_of n ≡ root) → spot_beside h lo ro ≡ some t
       → Sights h (sight_beside img x y) t
   beside_sights h x y none ro t a b c d e = absurd (none-ne-some t e)
-  beside_sights h x y (some l) none t a b c d e =
-      subst (Sights h (sight_beside img x y)) (some-injective (spot_after h l) t e) (rw b (after_sights h x l a))
-  beside_sights h x y (some l) (some r) t a b c d e =
+  beside_sights h None y (some l) ro t a b c d e = absurd a
+  beside_sights h (Some x) None (some l) none t a b c d e =
+      subst (Sights h (Some (sight_after x))) (some-injective (spot_after h l) t e) (after_sights h x l a)
+  beside_sights h (Some x) (Some y) (some l) none t a b c d e = absurd b
+  beside_sights h (Some x) None (some l) (some r) t a b c d e = absurd b
+  beside_sights h (Some x) (Some y) (some l) (some r) t a b c d e =
       let z = wins_more h x y l r a b (c l refl) (d r refl) in
-      subst (Sights h (sight_beside img x y)) (some-injective _ t e)
-      (rw z (both (Sights h) (ltb (unused (spot_after h l)) (unused (spot_before h r))) (λ _. before_sights h y r b) (λ _. after_sights h x l a)))
+      subst (Sights h (sight_beside img (Some x) (Some y))) (some-injective _ t e)
+      (rw z (both (λ (s : Receiver) (t : Spot). Sights h (Some s) t) (ltb (unused (spot_after h l)) (unused (spot_before h r))) (λ _. before_sights h y r b)
+      (λ _. after_sights h x l a)))
 
-  first_sights : (own : Spot) (span : Span) (y : Located) (ro : Option Stand) (t : Spot) → IsStand y ro
-      → Goes own.chain own.position own.rest span.pos span.par span.deep → spot_first own ro ≡ t → Sights own.parent (sight_first span y) t
-  first_sights own span y none t b g e =
-      subst (Sights own.parent (sight_first span y)) e
-      (rw b (record { pos = span.pos; par = span.par; deep = span.deep; is = refl; goes = g; parent = refl }))
-  first_sights own span y (some r) t b g e = subst (Sights own.parent (sight_first span y)) e (rw b.found (before_sights own.parent y r b))
+  first_sights : (own : Spot) (span : Span) (y : Found Located) (ro : Option Stand) (t : Spot) → IsStand y ro
+      → Goes own.chain own.position own.rest span.pos span.par span.deep → spot_first own ro ≡ t → Sights own.parent (Some (sight_first span y)) t
+  first_sights own span None none t b g e =
+      subst (Sights own.parent (Some (sight_at span.pos span.par span.deep))) e
+      (record { pos = span.pos; par = span.par; deep = span.deep; is = refl; goes = g; parent = refl })
+  first_sights own span (Some y) none t b g e = absurd b
+  first_sights own span None (some r) t b g e = absurd b
+  first_sights own span (Some y) (some r) t b g e = subst (Sights own.parent (Some (sight_before y))) e (before_sights own.parent y r b)
 
   -- Of a child of the aggregate whose children are the span.
   pub child_sights : (h : Head) (c : Chain) (s : Position) (rest : Row) (k : ℕ) (row : Row) (t : Spot) (span : Span) → whole c (fill (into s h rest) row) ≡ root

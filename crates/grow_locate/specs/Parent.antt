@@ -1,5 +1,6 @@
 -- A node as bytes of the image, one that stands in the records and a new one, and the node that holds it.
-use Rattle.std.specs.Prelude.{◌≡◌, refl, Bool, true, false, [], ℕ, zero, suc, ◌+◌, ◌*◌, ◌-◌, length, ltb}
+use Rattle.std.specs.Prelude.{Option as Found, Some, None}
+use Rattle.std.specs.Prelude.{◌≡◌, refl, [], ℕ, zero, suc, ◌+◌, ◌*◌, ◌-◌, length, ltb}
 use Rattle.std.proofs.Common.{sym, ap, ◌∙◌, arith}
 use Rattle.std.proofs.Math.Bool.{and-true}
 use Rattle.std.proofs.Math.Option.{Option, none, some}
@@ -10,7 +11,7 @@ use Rattle.model.specs.Spot.{Position, here, inside, fill, past, into, Chain, be
 use Rattle.theory_growth.specs.Chain.{both, before, fill_past, fill_into, offset_in, offset_past, hang, hang_past}
 use Rattle.grow_splice.specs.Position.{at, parent}
 use Rattle.grow_locate.specs.declared.Located.{Located}
-use Rattle.grow_locate.specs.declared.Sighted.{Sighted}
+use Rattle.grow_locate.specs.declared.Receiver.{Receiver}
 use Rattle.grow_locate.specs.Seek.{seek_of}
 use Rattle.grow_locate.specs.Choose.{sight_at, sight_after, sight_before}
 
@@ -55,51 +56,52 @@ go_past c s one rest n e g = record {
 
 -- What the code finds for it.
 pub record Stands (l : Located) (t : Stand) : Type 0 where
-  pub found : l.found ≡ true
   pub goes : Goes t.chain t.position (t.node ⊹ t.rest) l.at l.par l.deep
   pub ends : l.past ≡ l.at + size t.node
 
-abbrev pub IsStand : Located → Option Stand → Type 0
-IsStand l none = l.found ≡ false
-IsStand l (some t) = Stands l t
+abbrev pub IsStand : Found Located → Option Stand → Type 0
+IsStand None none = Unit {0}
+IsStand None (some t) = ⊥
+IsStand (Some l) none = ⊥
+IsStand (Some l) (some t) = Stands l t
 
 -- Node i of a row stands where the code finds it.
 pub stand_hits : (c : Chain) (s : Position) (i : ℕ) (row : Row) {pos par deep : ℕ} → Goes c s row pos par deep
     → IsStand (seek_of pos par deep row i) (stand_in c s i [] row)
 unfolding seek_of stand_in
-stand_hits c s i nil g = refl
-stand_hits c s zero (agg h cs rest) g = record { found = refl; goes = g; ends = omega arith }
+stand_hits c s i nil g = tt
+stand_hits c s zero (agg h cs rest) g = record { goes = g; ends = omega arith }
 stand_hits c s (suc i) (agg h cs rest) g = stand_hits c _ i rest (go_past c s (agg h cs nil) rest (6 + size cs) (omega arith) g)
-stand_hits c s zero (lit h x rest) g = record { found = refl; goes = g; ends = omega arith }
+stand_hits c s zero (lit h x rest) g = record { goes = g; ends = omega arith }
 stand_hits c s (suc i) (lit h x rest) g = stand_hits c _ i rest (go_past c s (lit h x nil) rest (6 + length x) (omega arith) g)
 stand_hits c s i (rec q b r rest) g =
     both IsStand (ltb i (width r))
     (λ _. rw (and-true (lone r))
-    (both IsStand (lone r) (λ _. record { found = refl; goes = g; ends = omega arith })
+    (both IsStand (lone r) (λ _. record { goes = g; ends = omega arith })
     (λ _. stand_hits (below c s q b rest) (here nil) i r (record { at = omega arith; holder = refl; hangs = omega (arith, g.hangs) }))))
     (λ _. stand_hits c _ (i - width r) rest (go_past c s (rec q b r nil) rest 8 (omega arith) g))
 
 -- ── a new node ──
 
 -- The code aims at the spot.
-pub record Sights (h : Head) (s : Sighted) (t : Spot) : Type 0 where
+pub record Sights (h : Head) (s : Found Receiver) (t : Spot) : Type 0 where
   pub pos : ℕ
   pub par : ℕ
   pub deep : ℕ
-  pub is : s ≡ sight_at true pos par deep
+  pub is : s ≡ Some (sight_at pos par deep)
   pub goes : Goes t.chain t.position t.rest pos par deep
   pub parent : t.parent ≡ h
 
 -- After a node that stands there, and before it.
-pub after_sights : (h : Head) (l : Located) (n : Stand) → Stands l n → Sights h (sight_after l) (spot_after h n)
+pub after_sights : (h : Head) (l : Located) (n : Stand) → Stands l n → Sights h (Some (sight_after l)) (spot_after h n)
 after_sights h l n s = record {
   pos = l.past;
   par = l.par;
   deep = l.deep;
-  is = ap (λ (b : Bool). sight_at b l.past l.par l.deep) s.found;
+  is = refl;
   goes = rw s.ends (go_past n.chain n.position n.node n.rest (size n.node) refl s.goes);
   parent = refl;
 }
 
-pub before_sights : (h : Head) (l : Located) (n : Stand) → Stands l n → Sights h (sight_before l) (spot_before h n)
+pub before_sights : (h : Head) (l : Located) (n : Stand) → Stands l n → Sights h (Some (sight_before l)) (spot_before h n)
 before_sights h l n s = record { pos = l.at; par = l.par; deep = l.deep; is = refl; goes = s.goes; parent = refl }

@@ -1,7 +1,7 @@
 -- Where a node of a row stands, or its proxy, and what is read at the first node of a row.
-use Rattle.std.specs.Prelude.{◌≡◌, refl, Bool, true, false, cond, not, List, ℕ, zero, suc, ◌+◌, ◌*◌, ◌-◌, ◌/◌, ◌%◌, ◌≤◌, ◌<◌, length, get_or, ltb, eqb}
-use Rattle.std.proofs.Common.{sym, ap, ◌∙◌, arith, lt-ltb, le-ltb, ltb-true, ltb-false, eq-eqb, ne_eqb}
-use Rattle.std.proofs.lemmas.Bool.{false≢true, not-false}
+use Rattle.std.specs.Prelude.{◌≡◌, refl, Bool, true, false, cond, not, List, ℕ, zero, suc, ◌+◌, ◌*◌, ◌-◌, ◌/◌, ◌%◌, ◌≤◌, ◌<◌, length, get_or, ltb, eqb, Option, None, Some, is_some, IfSome}
+use Rattle.std.proofs.Common.{sym, ap, ◌∙◌, arith, lt-ltb, le-ltb, ltb-true, ltb-false, eq-eqb, ne_eqb, eqb-true}
+use Rattle.std.proofs.lemmas.Bool.{false≢true, not-false, eqb-false}
 use Rattle.std.proofs.Math.Nat.{sub-zero, suc-sub-suc}
 use Rattle.std.proofs.Math.Dec.{leb-suc-suc, leb-suc-zero}
 use Rattle.model.specs.Limits.{page_size}
@@ -12,31 +12,29 @@ use Rattle.theory_rows.specs.Laws.{cond_case}
 use Rattle.theory_row_bytes.specs.RowAt.{kind_of, size_of, rest_of}
 use Rattle.theory_layout.specs.Here.{Here, view}
 use Rattle.theory_layout.specs.Widths.{Widths, first_width, plain_width}
-use Rattle.read_find.specs.Rowed.{Rowed, Entered, enter, start_on, end_on}
+use Rattle.read_find.specs.Rowed.{Rowed, Entered, enter, counts, start_on, end_on}
+use Rattle.read_find.specs.Shown.{shown_at, Counts, shown_proxy, shown_plain}
 use Rattle.grow_locate.specs.declared.Located.{Located}
 use Rattle.grow_locate.specs.declared.Span.{Span}
 
 abbrev pub located_at : (at past par n : ℕ) → Located
-located_at at past par n = record { found = true; at = at; past = past; par = par; deep = n }
-
-abbrev pub nowhere : Located
-nowhere = record { found = false; at = 0; past = 0; par = 0; deep = 0 }
+located_at at past par n = record { at = at; past = past; par = par; deep = n }
 
 -- Node k of those that the row at pos shows, or its proxy if it is a record's root; the node that holds the row is at `par` in its record, and the row is n
 -- records down from the parent's.
-unfoldable pub seek_of : (pos par n : ℕ) → Row → (k : ℕ) → Located
-seek_of pos par n nil k = nowhere
-seek_of pos par n (agg h cs rest) zero = located_at pos (pos + (6 + size cs)) par n
+unfoldable pub seek_of : (pos par n : ℕ) → Row → (k : ℕ) → Option Located
+seek_of pos par n nil k = None
+seek_of pos par n (agg h cs rest) zero = Some (located_at pos (pos + (6 + size cs)) par n)
 seek_of pos par n (agg h cs rest) (suc k) = seek_of (pos + (6 + size cs)) par n rest k
-seek_of pos par n (lit h c rest) zero = located_at pos (pos + (6 + length c)) par n
+seek_of pos par n (lit h c rest) zero = Some (located_at pos (pos + (6 + length c)) par n)
 seek_of pos par n (lit h c rest) (suc k) = seek_of (pos + (6 + length c)) par n rest k
 seek_of pos par n (rec p s r rest) k =
     let within = seek_of (page_size * p + base r) 0 (n + 1) r k in
     let beyond = seek_of (pos + 8) par n rest (k - width r) in
-    cond (ltb k (width r)) (cond (lone r) (located_at pos (pos + 8) par n) within) beyond
+    cond (ltb k (width r)) (cond (lone r) (Some (located_at pos (pos + 8) par n)) within) beyond
 
 -- In a span of nodes.
-abbrev pub seek_span : Span → Row → (k : ℕ) → Located
+abbrev pub seek_span : Span → Row → (k : ℕ) → Option Located
 seek_span r row k = seek_of r.pos r.par r.deep row k
 
 -- Past its first node of n bytes, into the record whose proxy that is, and none.
@@ -69,7 +67,7 @@ moved k a b h = go (ltb k (a + b)) refl
     go true e = lt-ltb (k - a) b (omega (arith, ltb-true k (a + b) e))
     go false e = le-ltb (k - a) b (omega (arith, ltb-false k (a + b) e))
 
-pub seek_found : (pos par n : ℕ) (row : Row) (k : ℕ) → (seek_of pos par n row k).found ≡ ltb k (width row)
+pub seek_found : (pos par n : ℕ) (row : Row) (k : ℕ) → is_some (seek_of pos par n row k) ≡ ltb k (width row)
 unfolding seek_of
 seek_found pos par n nil k = sym (leb-suc-zero k)
 seek_found pos par n (agg h cs rest) zero = sym (lt-ltb 0 (suc (width rest)) (omega arith))
@@ -77,14 +75,14 @@ seek_found pos par n (agg h cs rest) (suc k) = seek_found _ par n rest k ∙ sym
 seek_found pos par n (lit h c rest) zero = sym (lt-ltb 0 (suc (width rest)) (omega arith))
 seek_found pos par n (lit h c rest) (suc k) = seek_found _ par n rest k ∙ sym (leb-suc-suc (suc k) (width rest))
 seek_found pos par n (rec p s r rest) k =
-    let P : Located → Type 0 = λ l. l.found ≡ ltb k (width r + width rest) in
+    let P : Option Located → Type 0 = λ l. is_some l ≡ ltb k (width r + width rest) in
     cond_case P (ltb k (width r))
     (λ e.
     let f : true ≡ ltb k (width r + width rest) = sym (lt-ltb k (width r + width rest) (omega (arith, ltb-true k (width r) e))) in
     cond_case P (lone r) (λ _. f) (λ _. seek_found _ 0 (n + 1) r k ∙ e ∙ f))
     (λ e. seek_found (pos + 8) par n rest (k - width r) ∙ moved k (width r) (width rest) (ltb-false k (width r) e))
 
-pub seek_beyond : (pos par n : ℕ) (row : Row) (k : ℕ) → width row ≤ k → seek_of pos par n row k ≡ nowhere
+pub seek_beyond : (pos par n : ℕ) (row : Row) (k : ℕ) → width row ≤ k → seek_of pos par n row k ≡ None
 unfolding seek_of
 seek_beyond pos par n nil k h = refl
 seek_beyond pos par n (agg l cs rest) zero h = absurd (omega arith)
@@ -95,15 +93,15 @@ seek_beyond pos par n (rec p s r rest) k h =
     rw (le-ltb k (width r) (omega arith)) (seek_beyond (pos + 8) par n rest (k - width r) (omega arith))
 
 -- The bytes of a node end behind their start.
-pub seek_order : (pos par n : ℕ) (row : Row) (k : ℕ) → (seek_of pos par n row k).at ≤ (seek_of pos par n row k).past
+pub seek_order : (pos par n : ℕ) (row : Row) (k : ℕ) → IfSome (seek_of pos par n row k) (λ l. l.at ≤ l.past)
 unfolding seek_of
-seek_order pos par n nil k = omega arith
+seek_order pos par n nil k = tt
 seek_order pos par n (agg h cs rest) zero = omega arith
 seek_order pos par n (agg h cs rest) (suc k) = seek_order _ par n rest k
 seek_order pos par n (lit h c rest) zero = omega arith
 seek_order pos par n (lit h c rest) (suc k) = seek_order _ par n rest k
 seek_order pos par n (rec p s r rest) k =
-    let P : Located → Type 0 = λ l. l.at ≤ l.past in
+    let P : Option Located → Type 0 = λ o. IfSome o (λ l. l.at ≤ l.past) in
     cond_case P (ltb k (width r)) (λ _. cond_case P (lone r) (λ _. omega arith) (λ _. seek_order _ 0 (n + 1) r k))
     (λ _. seek_order (pos + 8) par n rest (k - width r))
 
@@ -138,7 +136,7 @@ seek_further pos par n zero (lit l c rest) h w = absurd (omega arith)
 seek_further pos par n (suc k) (lit l c rest) h w = rw (suc-sub-suc, sub-zero)
 seek_further pos par n k (rec p s r rest) h w = sym (rw (le-ltb k (width r) w))
 
-pub seek_first : (pos par n k : ℕ) (row : Row) → k < first_width row → helper_first row ≡ false → located_at pos (pos + size_of row) par n ≡ seek_of pos par n row k
+pub seek_first : (pos par n k : ℕ) (row : Row) → k < first_width row → helper_first row ≡ false → Some (located_at pos (pos + size_of row) par n) ≡ seek_of pos par n row k
 unfolding seek_of
 seek_first pos par n k nil h f = absurd (omega arith)
 seek_first pos par n zero (agg l cs rest) h f = refl
@@ -198,6 +196,20 @@ module _ {img : List ℕ} {pos : ℕ} (w : SomeRow img pos) where
         go true z = ap not (eq-eqb (start % page_size) 0 (omega arith))
         go false z = ap not (ne_eqb (start % page_size) 0 (λ y. omega arith))
 
+  -- By a table that is right.
+  module _ (c : List ℕ) (table : Widths img c) where
+    pub first_counts : Counts img c pos
+    first_counts = counts img pos w.end w.depth w.some w.rowed c table
+
+    pub first_shown : shown_at img c pos ≡ first_width row
+    first_shown = go (eqb (kind_at img pos) 3) refl
+      where
+        go : (b : Bool) → eqb (kind_at img pos) 3 ≡ b → shown_at img c pos ≡ first_width row
+        go true e =
+            let k = eqb-true (kind_at img pos) 3 e in
+            shown_proxy img c pos (name_at img pos) k refl ∙ proxy_width k refl c table
+        go false e = let k = eqb-false (kind_at img pos) 3 e in shown_plain img c pos k ∙ (plain_first k).0
+
 -- ── in the image ──
 
 -- The page in which a byte is, whole in the image.
@@ -205,17 +217,16 @@ abbrev pub PageAround : (img : List ℕ) → (pos : ℕ) → Type 0
 PageAround img pos = page_size * (pos / page_size) + page_size ≤ length img
 
 -- What is found stands in such a page.
-pub seek_on : {img : List ℕ} {page : ℕ} (pos par n : ℕ) (row : Row) (k : ℕ) → Here img page pos row → (seek_of pos par n row k).found ≡ true
-    → PageAround img (seek_of pos par n row k).at
+pub seek_on : {img : List ℕ} {page : ℕ} (pos par n : ℕ) (row : Row) (k : ℕ) → Here img page pos row → IfSome (seek_of pos par n row k) (λ l. PageAround img l.at)
 unfolding seek_of
-seek_on pos par n nil k h f = absurd (false≢true f)
-seek_on pos par n (agg l cs rest) zero h f = omega (arith, h.on.inside, h.start, h.room)
-seek_on pos par n (agg l cs rest) (suc k) h f = seek_on _ par n rest k (view h (omega arith)).after f
-seek_on pos par n (lit l c rest) zero h f = omega (arith, h.on.inside, h.start, h.room)
-seek_on pos par n (lit l c rest) (suc k) h f = seek_on _ par n rest k (view h (omega arith)).after f
-seek_on {img = img} {page = page} pos par n (rec p s r rest) k h f =
-    let P : Located → Type 0 = λ l. l.found ≡ true → PageAround img l.at in
+seek_on pos par n nil k h = tt
+seek_on pos par n (agg l cs rest) zero h = omega (arith, h.on.inside, h.start, h.room)
+seek_on pos par n (agg l cs rest) (suc k) h = seek_on _ par n rest k (view h (omega arith)).after
+seek_on pos par n (lit l c rest) zero h = omega (arith, h.on.inside, h.start, h.room)
+seek_on pos par n (lit l c rest) (suc k) h = seek_on _ par n rest k (view h (omega arith)).after
+seek_on {img = img} {page = page} pos par n (rec p s r rest) k h =
+    let P : Option Located → Type 0 = λ o. IfSome o (λ l. PageAround img l.at) in
     let v = view h (omega arith) in
     cond_case P (ltb k (width r))
-    (λ _. cond_case P (lone r) (λ _ _. omega (arith, h.on.inside, h.start, h.room))
-    (λ _ f. seek_on {page = p} _ 0 (n + 1) r k v.under.here f)) (λ _ f. seek_on (pos + 8) par n rest (k - width r) v.after f) f
+    (λ _. cond_case P (lone r) (λ _. omega (arith, h.on.inside, h.start, h.room)) (λ _. seek_on {page = p} _ 0 (n + 1) r k v.under.here))
+    (λ _. seek_on (pos + 8) par n rest (k - width r) v.after)

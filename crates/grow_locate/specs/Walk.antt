@@ -1,5 +1,5 @@
 -- The walk of the code along a row that stands in an image: to a node, and to what follows it.
-use Rattle.std.specs.Prelude.{◌≡◌, refl, Bool, true, false, cond, List, ℕ, suc, ◌+◌, ◌-◌, ◌≤◌, ◌<◌, ltb}
+use Rattle.std.specs.Prelude.{◌≡◌, refl, Bool, true, false, cond, List, ℕ, suc, ◌+◌, ◌-◌, ◌≤◌, ◌<◌, ltb, Option, None, Some}
 use Rattle.std.proofs.Common.{sym, ap, subst, ◌∙◌, arith, lt-ltb, le-ltb, ltb-true, ltb-false}
 use Rattle.std.proofs.lemmas.Bool.{not-true, not-false}
 use Rattle.model.specs.Limits.{most_pages}
@@ -17,11 +17,11 @@ use Rattle.read_find.specs.Rowed.{Rowed, Entered, past_first}
 use Rattle.grow_locate.specs.declared.Located.{Located}
 use Rattle.grow_locate.specs.declared.Span.{Span}
 use Rattle.grow_locate.specs.declared.Sought.{Sought}
-use Rattle.grow_locate.specs.Seek.{located_at, nowhere, seek_of, seek_span, past_span, inside_span, empty_span, closer_of, moved, seek_beyond}
+use Rattle.grow_locate.specs.Seek.{located_at, seek_of, seek_span, past_span, inside_span, empty_span, closer_of, moved, seek_beyond}
 use Rattle.grow_locate.specs.Seek.{helper_first, seek_further, seek_first, seek_under, SomeRow, full, helper_first_lem, proxy_first}
 
 -- The node after the one sought is the first that the span shows.
-pub record Follows (img : List ℕ) (span : Span) (t : Located) : Type 0 where
+pub record Follows (img : List ℕ) (span : Span) (t : Option Located) : Type 0 where
   pub rowed : Rowed img span.pos span.end most_pages
   pub first : seek_span span rowed.row 0 ≡ t
 
@@ -32,7 +32,7 @@ Finds img span k s =
     → (s.node ≡ seek_span span w.row k) × Follows img s.after (seek_span span w.row (suc k)) × (s.after.deep ≤ span.deep + most_pages)
 
 -- In the row that is left the node sought is node `left`; the next one is there too, or else the first of what follows.
-pub record Seeking (img : List ℕ) (span after : Span) (depth left : ℕ) (t u : Located) : Type 0 where
+pub record Seeking (img : List ℕ) (span after : Span) (depth left : ℕ) (t u : Option Located) : Type 0 where
   pub rest : Rowed img span.pos span.end depth
   pub same : seek_span span rest.row left ≡ t
   pub next : Rowed img after.pos after.end most_pages
@@ -58,14 +58,14 @@ seeking {span = span} {k = k} w = record {
   same = refl;
   next = no_row w;
   then =
-      cond_case (λ (l : Located). l ≡ seek_span span w.row (suc k)) (ltb (suc k) (width w.row)) (λ _. refl)
+      cond_case (λ (l : Option Located). l ≡ seek_span span w.row (suc k)) (ltb (suc k) (width w.row)) (λ _. refl)
       (λ e. sym (seek_beyond span.pos span.par span.deep w.row (suc k) (ltb-false (suc k) (width w.row) e)));
 }
 
 abbrev deeper : {img : List ℕ} {pos end depth most : ℕ} → depth ≤ most → Rowed img pos end depth → Rowed img pos end most
 deeper h w = record { page = w.page; row = w.row; here = w.here; ends = w.ends; deep = omega (arith, w.deep); few = w.few }
 
-pub seek_deep : {img : List ℕ} {span after : Span} {depth deep left : ℕ} {t u : Located} → depth ≡ deep → Seeking img span after depth left t u
+pub seek_deep : {img : List ℕ} {span after : Span} {depth deep left : ℕ} {t u : Option Located} → depth ≡ deep → Seeking img span after depth left t u
     → Seeking img span after deep left t u
 seek_deep e s = rw (← e) s
 
@@ -76,14 +76,14 @@ one_shown (agg l cs rest) h f = refl
 one_shown (lit l c rest) h f = refl
 one_shown (rec p s r rest) h f = lone_width r (not-false (lone r) f)
 
-module _ {img : List ℕ} {span after : Span} {depth left : ℕ} {t u : Located} (s : Seeking img span after depth left t u) where
+module _ {img : List ℕ} {span after : Span} {depth left : ℕ} {t u : Option Located} (s : Seeking img span after depth left t u) where
   abbrev row_left : Row
   row_left = s.rest.row
 
-  abbrev after_it : Located
+  abbrev after_it : Option Located
   after_it = seek_span after s.next.row 0
 
-  pub seek_end : span.end ≤ span.pos → (nowhere ≡ t) × Follows img after u
+  pub seek_end : span.end ≤ span.pos → (None ≡ t) × Follows img after u
   seek_end h =
       let e : 0 ≡ size row_left = omega (arith, s.rest.ends) in
       let none = none_width row_left e in
@@ -130,7 +130,7 @@ module _ {img : List ℕ} {span after : Span} {depth left : ℕ} {t u : Located}
       abbrev closer_span : Span
       closer_span = closer_of next_span after
 
-      abbrev next_one : Located
+      abbrev next_one : Option Located
       next_one = seek_span span row_left (suc left)
 
       -- The first node shows it. The next one is shown there too, or else it is the first of what follows.
@@ -152,7 +152,7 @@ module _ {img : List ℕ} {span after : Span} {depth left : ℕ} {t u : Located}
               let more = some_shown (rest_of row_left) behind.here.fits (omega (arith, behind.ends)) in
               let z : next_one ≡ cond (ltb (suc left) (width row_left)) next_one after_it =
               sym (ap (λ (b : Bool). cond b next_one after_it) (lt-ltb (suc left) (width row_left) (omega (arith, width_first row_left, shows)))) in
-              cond_case (λ (l : Located). l ≡ cond (ltb (suc left) (width row_left)) next_one after_it) (ltb (suc left) w) (λ _. z)
+              cond_case (λ (l : Option Located). l ≡ cond (ltb (suc left) (width row_left)) next_one after_it) (ltb (suc left) w) (λ _. z)
               (λ f.
               let low : w ≤ suc left = ltb-false (suc left) w f in
               let e : 0 ≡ suc left - w = omega (arith, shows) in
@@ -164,7 +164,7 @@ module _ {img : List ℕ} {span after : Span} {depth left : ℕ} {t u : Located}
               ap (λ (n : ℕ). cond (ltb (suc left) n) next_one after_it) e
 
       -- It is what stands there,
-      pub seek_here : helper_first row_left ≡ false → (located_at span.pos next_span.pos span.par span.deep ≡ t) × Follows img closer_span u
+      pub seek_here : helper_first row_left ≡ false → (Some (located_at span.pos next_span.pos span.par span.deep) ≡ t) × Follows img closer_span u
       seek_here f =
           let z : ltb (suc left) (first_width row_left) ≡ false =
           le-ltb (suc left) (first_width row_left) (omega (arith, one_shown row_left (full some_left) f)) in (
@@ -188,6 +188,6 @@ module _ {img : List ℕ} {span after : Span} {depth left : ℕ} {t u : Located}
             same = under left (omega (arith, shows)) ∙ s.same;
             next = turn.0;
             then =
-                both (λ (a b : Located). a ≡ b) (ltb (suc left) (width r)) (λ e. under (suc left) (ltb-true (suc left) (width r) e)) (λ _. refl)
+                both (λ (a b : Option Located). a ≡ b) (ltb (suc left) (width r)) (λ e. under (suc left) (ltb-true (suc left) (width r) e)) (λ _. refl)
                 ∙ ap (λ (n : ℕ). cond (ltb (suc left) n) next_one (seek_span closer_span turn.0.row 0)) (sym wide) ∙ turn.1;
           }

@@ -1,19 +1,19 @@
 // Where a child of a node stands, and where a new one goes, on an image that passes the check.
 #![tactic(auto)]
 
-ghost use Rattle.std.specs.Prelude.{◌≡◌, true, suc, ◌+◌, ◌≤◌, ◌<◌, length};
+ghost use Rattle.std.specs.Prelude.{◌≡◌, suc, ◌+◌, ◌≤◌, ◌<◌, length};
 ghost use Rattle.model.specs.Limits.{most_pages};
 ghost use Rattle.model.specs.Reading.{size_at, name_at};
 ghost use Rattle.theory_layout.specs.Here.{PageIn};
-ghost use Rattle.theory_layout.specs.Widths.{first_width, Widths};
+ghost use Rattle.theory_layout.specs.Widths.{Widths};
 ghost use Rattle.read_find.specs.Rowed.{Rowed};
-ghost use Rattle.grow_locate.specs.Seek.{located_at, nowhere, seek_span, helper_first, SomeRow, past_span, inside_span, closer_of, children_span, PageAround};
+ghost use Rattle.grow_locate.specs.Seek.{located_at, seek_span, helper_first, SomeRow, past_span, inside_span, closer_of, children_span, PageAround};
 ghost use Rattle.grow_locate.specs.Walk.{Finds};
 ghost use Rattle.grow_locate.specs.Choose.{used_around, right_wins, sight_at, sight_first, sight_beside, sight_child};
 
-use base_layout::{name_at, size_at, used_at};
+use base_layout::{name_at, record_end, size_at, used_at};
 use model::Settings;
-use read_find::{row_end, row_start};
+use read_find::{nodes_shown, row_start};
 
 // The page of the record that takes the node, and the bytes of the record where it goes and where its parent stands; 0 if the record does not hold the parent.
 // It is `deep` records down from the one that does, each a helper that shows children of the parent.
@@ -25,17 +25,9 @@ pub struct Receiver {
     pub deep: usize,
 }
 
-// The receiver, if there is one.
-#[derive(Clone, Copy)]
-pub struct Sighted {
-    pub found: bool,
-    pub receiver: Receiver,
-}
-
-// Found: the byte of the image where a node stands and the byte past it, and the offset of its parent and the records down to it as `Receiver` has them.
+// The byte of the image where a node stands and the byte past it, and the offset of its parent and the records down to it as `Receiver` has them.
 #[derive(Clone, Copy)]
 pub struct Located {
-    pub found: bool,
     pub at: usize,
     pub past: usize,
     pub par: usize,
@@ -51,35 +43,11 @@ pub struct Span {
     pub deep: usize,
 }
 
-// What a search finds: the node, and nodes of which the first shown is the next one; none if there is no next one.
+// What a search finds: the node, if there is one, and nodes of which the first shown is the next one; none if there is no next one.
 #[derive(Clone, Copy)]
 struct Sought {
-    node: Located,
+    node: Option<Located>,
     after: Span,
-}
-
-fn nowhere() -> Located
-    ensures { result ≡ nowhere }
-{
-    Located {
-        found: false,
-        at: 0,
-        past: 0,
-        par: 0,
-        deep: 0,
-    }
-}
-
-// How many nodes the one at pos shows: a proxy those of its record, by the table.
-fn shown_by(image: &[u8], widths: &[u32], pos: usize) -> usize
-    requires { SomeRow image.now pos × Widths image.now widths.now }
-    ensures { (w : SomeRow image.now pos) → result ≡ first_width w.rowed.row }
-{
-    if image[pos] != 3 {
-        return 1;
-    }
-    let p = name_at(image, pos);
-    widths[p] as usize
 }
 
 // Whether the proxy of a record with a helper stands at pos: a record with none starts where its page does.
@@ -99,9 +67,8 @@ fn first_node(span: Span, past: usize) -> Located
     ensures { result ≡ located_at span.pos past span.par span.deep }
 {
     Located {
-        found: true,
         at: span.pos,
-        past: past,
+        past,
         par: span.par,
         deep: span.deep,
     }
@@ -128,7 +95,7 @@ fn enter_first(image: &[u8], span: Span) -> Span
     let p = name_at(image, span.pos);
     Span {
         pos: row_start(image, p),
-        end: row_end(image, p),
+        end: record_end(image, p),
         par: 0,
         deep: span.deep + 1,
     }
@@ -157,25 +124,22 @@ fn seek(image: &[u8], widths: &[u32], from: Span, k: usize) -> Sought
     };
     while span.pos < span.end {
         let next = past_first(image, span);
-        let n = shown_by(image, widths, span.pos);
+        let n = nodes_shown(image, widths, span.pos);
         if n <= to_pass {
-            to_pass = to_pass - n;
+            to_pass -= n;
             span = next;
         } else {
             after = closer(next, after);
             if !leads_on(image, span.pos) {
                 return Sought {
-                    node: first_node(span, next.pos),
-                    after: after,
+                    node: Some(first_node(span, next.pos)),
+                    after,
                 };
             }
             span = enter_first(image, span);
         }
     }
-    Sought {
-        node: nowhere(),
-        after: after,
-    }
+    Sought { node: None, after }
 }
 
 // The children of the aggregate at the byte `parent` of the image.
@@ -192,13 +156,12 @@ fn children(image: &[u8], parent: usize) -> Span
 }
 
 // Child k of the aggregate at the byte `parent` of the image, or its proxy.
-pub fn seek_child(image: &[u8], widths: &[u32], parent: usize, k: usize) -> Located
+pub fn seek_child(image: &[u8], widths: &[u32], parent: usize, k: usize) -> Option<Located>
     requires { Rowed image.now (parent + 6) (parent + size_at image.now parent) most_pages × Widths image.now widths.now }
     ensures { (w : Rowed image.now (parent + 6) (parent + size_at image.now parent) most_pages)
         → result ≡ seek_span (children_span image.now parent) w.row k }
 {
-    let s = seek(image, widths, children(image, parent), k);
-    s.node
+    seek(image, widths, children(image, parent), k).node
 }
 
 // The length used by the record in which the byte pos of the image is.
@@ -209,71 +172,62 @@ fn used_around(image: &[u8], pos: usize) -> usize
     used_at(image, Settings::PAGE * (pos / Settings::PAGE))
 }
 
-// There is a right sibling, and the record around it, or around its proxy, has more bytes unused than the one around the left sibling: it uses fewer.
+// The record around the right sibling, or around its proxy, has more bytes unused than the one around the left sibling: it uses fewer.
 fn right_wins(image: &[u8], left: Located, right: Located) -> bool
-    requires { right.found ≡ true → PageAround image.now left.at × PageAround image.now right.at }
+    requires { PageAround image.now left.at × PageAround image.now right.at }
     ensures { result ≡ right_wins image.now left right }
 {
-    if !right.found {
-        return false;
-    }
     used_around(image, right.at) < used_around(image, left.at)
 }
 
 // The spot at the byte pos of the image.
-fn sight(found: bool, pos: usize, par: usize, deep: usize) -> Sighted
-    ensures { result ≡ sight_at found pos par deep }
+fn sight(pos: usize, par: usize, deep: usize) -> Receiver
+    ensures { result ≡ sight_at pos par deep }
 {
-    Sighted {
-        found: found,
-        receiver: Receiver {
-            page: pos / Settings::PAGE,
-            at: pos % Settings::PAGE,
-            par: par,
-            deep: deep,
-        },
+    Receiver {
+        page: pos / Settings::PAGE,
+        at: pos % Settings::PAGE,
+        par,
+        deep,
     }
 }
 
 // The first child goes before its right sibling; with none, where the children would stand.
-fn spot_first(image: &[u8], widths: &[u32], span: Span) -> Sighted
+fn spot_first(image: &[u8], widths: &[u32], span: Span) -> Receiver
     requires { Rowed image.now span.pos span.end most_pages × Widths image.now widths.now × (span.deep ≡ 0) }
     ensures { (w : Rowed image.now span.pos span.end most_pages) → result ≡ sight_first span (seek_span span w.row 0) }
 {
-    let s = seek(image, widths, span, 0);
-    let sibling = s.node;
-    if sibling.found {
-        return sight(true, sibling.at, sibling.par, sibling.deep);
+    match seek(image, widths, span, 0).node {
+        Some(sibling) => sight(sibling.at, sibling.par, sibling.deep),
+        None => sight(span.pos, span.par, span.deep),
     }
-    sight(true, span.pos, span.par, span.deep)
 }
 
 // A child with left sibling i goes after it or before its right one, whose search begins with what follows the left one.
-fn spot_beside(image: &[u8], widths: &[u32], span: Span, i: usize) -> Sighted
+fn spot_beside(image: &[u8], widths: &[u32], span: Span, i: usize) -> Option<Receiver>
     requires { Rowed image.now span.pos span.end most_pages × Widths image.now widths.now × (span.deep ≡ 0) }
     ensures { (w : Rowed image.now span.pos span.end most_pages)
         → result ≡ sight_beside image.now (seek_span span w.row i) (seek_span span w.row (suc i)) }
 {
-    let s = seek(image, widths, span, i);
-    let left = s.node;
-    let after = s.after;
-    let t = seek(image, widths, after, 0);
-    let right = t.node;
-    if right_wins(image, left, right) {
-        return sight(true, right.at, right.par, right.deep);
+    let Sought { node, after } = seek(image, widths, span, i);
+    let left = node?;
+    if let Some(right) = seek(image, widths, after, 0).node {
+        if right_wins(image, left, right) {
+            return Some(sight(right.at, right.par, right.deep));
+        }
     }
-    sight(left.found, left.past, left.par, left.deep)
+    Some(sight(left.past, left.par, left.deep))
 }
 
-// Where child k of the aggregate at the byte `parent` of the image goes.
-pub fn find_spot(image: &[u8], widths: &[u32], parent: usize, k: usize) -> Sighted
+// Where child k of the aggregate at the byte `parent` of the image goes; nowhere if k is above its number of children.
+pub fn find_spot(image: &[u8], widths: &[u32], parent: usize, k: usize) -> Option<Receiver>
     requires { Rowed image.now (parent + 6) (parent + size_at image.now parent) most_pages × Widths image.now widths.now }
     ensures { (w : Rowed image.now (parent + 6) (parent + size_at image.now parent) most_pages)
         → result ≡ sight_child image.now (children_span image.now parent) w.row k }
 {
     let span = children(image, parent);
     if k == 0 {
-        return spot_first(image, widths, span);
+        return Some(spot_first(image, widths, span));
     }
     spot_beside(image, widths, span, k - 1)
 }

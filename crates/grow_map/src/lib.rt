@@ -4,45 +4,15 @@
 ghost use Rattle.std.specs.Prelude.{◌≡◌, ℕ, ◌+◌, ◌*◌, ◌/◌, ◌≤◌, ◌<◌, length, get_or};
 ghost use Rattle.model.specs.Row.{Config};
 ghost use Rattle.model.specs.Growth.{free_from};
-ghost use Rattle.theory_check.specs.Tests.{marked, unmarked};
 ghost use Rattle.grow_map.specs.Map.{used_by, most_map, Past, Shut};
 ghost use Rattle.grow_map.specs.Mapped.{map_bytes};
 ghost use Rattle.grow_map.specs.Search.{Up};
 
-use base_numbers::wide;
+use base_marks::is_marked;
 use model::Settings;
 
-// Whether page p is used.
-fn is_used(map: &[u8], p: usize) -> bool
-    requires { p / 8 < length map.now }
-    ensures { result ≡ used_by map.now p }
-{
-    let i = p / 8;
-    let k = p % 8;
-    (map[i] >> k) % 2 == 1
-}
-
-// Page p is used from now on.
-pub fn set_used(map: &mut [u8], p: usize)
-    requires { p / 8 < length map.old }
-    ensures { map.new ≡ marked map.old p }
-{
-    let i = p / 8;
-    let k = p % 8;
-    let m = map[i];
-    map[i] = m | (1 << k);
-}
-
-// Page p is free from now on.
-pub fn set_free(map: &mut [u8], p: usize)
-    requires { p / 8 < length map.old }
-    ensures { map.new ≡ unmarked map.old p }
-{
-    let i = p / 8;
-    let k = p % 8;
-    let m = map[i];
-    map[i] = m & (255 - (1 << k));
-}
+// Page p is used, or free, from now on.
+pub use base_marks::{clear_mark as set_free, set_mark as set_used};
 
 // The bytes of a map for an image of n bytes: nothing behind the byte of its last page is looked at.
 pub fn map_bytes(n: usize) -> usize
@@ -58,10 +28,8 @@ pub fn shut(map: &mut [u8], pages: usize)
 {
     set_used(map, 0);
     set_used(map, 1);
-    let mut p = pages;
-    while p / 8 < map.len() {
+    for p in pages..8 * map.len() {
         set_used(map, p);
-        p += 1;
     }
 }
 
@@ -70,15 +38,10 @@ fn full_bytes(map: &[u8], i: usize) -> usize
     requires { (i < length map.now) × (length map.now ≤ most_map) }
     ensures { (i + result ≤ length map.now) × ((k : ℕ) → k < result → get_or map.now (i + k) 0 ≡ 255) }
 {
-    if map[i] != 255 {
-        return 0;
+    if map[i..].starts_with(&[255; 8]) {
+        return 8;
     }
-    if map.len() < i + 8 {
-        return 1;
-    }
-    let low = wide(map[i]) + wide(map[i + 1]) + wide(map[i + 2]) + wide(map[i + 3]);
-    let high = wide(map[i + 4]) + wide(map[i + 5]) + wide(map[i + 6]) + wide(map[i + 7]);
-    if low + high == 8 * 255 { 8 } else { 1 }
+    usize::from(map[i] == 255)
 }
 
 // The first free page counting up from `from` to the map's end; past it if there is none.
@@ -91,7 +54,7 @@ fn free_up(map: &[u8], from: usize) -> usize
         let i = q / 8;
         let n = full_bytes(map, i);
         if n == 0 {
-            if !is_used(map, q) {
+            if !is_marked(map, q) {
                 return q;
             }
             q += 1;

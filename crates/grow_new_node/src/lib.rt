@@ -7,7 +7,7 @@ ghost use Rattle.model.specs.Row.{Head, Row, nil, size, bytes, lone, Config};
 ghost use Rattle.model.specs.Reading.{Reads};
 ghost use Rattle.model.specs.Calls.Insert.{new_of};
 ghost use Rattle.model.specs.Tree.{New};
-ghost use Rattle.model.specs.Growth.{Work, class, apart, as_row};
+ghost use Rattle.model.specs.Growth.{Work, apart, as_row};
 ghost use Rattle.base_numbers.specs.Over.{over};
 ghost use Rattle.base_layout.specs.Setup.{setup_of};
 ghost use Rattle.grow_pages.specs.Write.{set_page, page_bytes_of};
@@ -43,23 +43,16 @@ pub fn put_node(out: &mut [u8], kind: usize, origin: usize, label: usize, conten
     n
 }
 
-// The row or column of the matrix for a label.
-fn label_class(label: usize) -> usize
-    ensures { (result < 16) × ((st : Config) → result ≡ class st label) }
-{
-    if label < 15 { label } else { 15 }
-}
-
 // Whether the matrix sets a child apart from its parent, by their labels.
 pub fn is_apart(image: &[u8], setup: Setup, parent: usize, child: usize) -> bool
     requires { setup.matrix + 256 ≤ length image.now }
     ensures { (st : Config) (root : Row) → Reads image.now st root → setup_of st ≡ setup
         → (h c : Head) → h.label ≡ parent → c.label ≡ child → result ≡ apart st h c }
 {
-    let row = label_class(parent);
-    let column = label_class(child);
-    let at = setup.matrix + 16 * row + column;
-    image[at] == 0
+    // labels from 15 on share a row and a column
+    let row = parent.min(15);
+    let column = child.min(15);
+    image[setup.matrix + 16 * row + column] == 0
 }
 
 // Unless the run is dry, writes the node's own record to page q, settled and held by page `holder`, and to the table that it shows one node.
@@ -121,10 +114,7 @@ pub fn place_node(
     let setup = g.setup;
     if is_apart(image, setup, parent, label) {
         let full = place_apart(image, widths, map, g, node, out);
-        return Fresh {
-            size: 8,
-            full: full,
-        };
+        return Fresh { size: 8, full };
     }
     copy_in(node, out, 0);
     Fresh {

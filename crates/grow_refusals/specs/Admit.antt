@@ -1,5 +1,5 @@
 -- The tests of an insert on an image: what find and read say of the parent, and which number each test gives.
-use Rattle.std.specs.Prelude.{◌≡◌, refl, Bool, cond, not, ◌&&◌, ◌||◌, List, [], ◌∷◌, ℕ, ◌+◌, ◌*◌, ◌≤◌, ◌<◌, length, leb, ltb, eqb}
+use Rattle.std.specs.Prelude.{Option as Found, is_some, ◌≡◌, refl, Bool, cond, not, ◌&&◌, ◌||◌, List, [], ◌∷◌, ℕ, ◌+◌, ◌*◌, ◌≤◌, ◌<◌, length, leb, ltb, eqb}
 use Rattle.std.proofs.Common.{sym, ap, subst, ◌∙◌, true≢false, arith}
 use Rattle.std.proofs.Math.Bool.{true, false, not-eq-not}
 use Rattle.std.proofs.Math.Option.{Option, none, some}
@@ -13,26 +13,19 @@ use Rattle.model.specs.Common.{entries, named_if, named_by, or_empty, path_of, i
 use Rattle.model.specs.Calls.Insert.{is_literal, children_below, new_of, insert_number}
 use Rattle.model.specs.Calls.Find.{find_in, find_of}
 use Rattle.model.specs.declared.Place.{Place}
-use Rattle.model.specs.declared.FindAnswer.{FindAnswer}
+use Rattle.model.specs.Answers.{FindAnswer}
 use Rattle.theory_places.specs.Named.{named_in_lem, named_place}
 use Rattle.theory_calls.specs.Open.{opens}
 use Rattle.theory_calls.specs.Tests.{accepted}
 use Rattle.theory_calls.specs.Spot.{spot_accepted}
-use Rattle.grow_locate.specs.declared.Sighted.{Sighted}
+use Rattle.grow_locate.specs.declared.Receiver.{Receiver}
 use Rattle.grow_locate.specs.Seek.{children_span}
 use Rattle.grow_locate.specs.Choose.{sight_child, sight_found}
-use Rattle.grow_locate.specs.Aim.{Aimed, receiver_of}
+use Rattle.grow_locate.specs.Aim.{Aimed}
 use Rattle.theory_row_bytes.specs.RowAt.{kind_of}
 use Rattle.theory_layout.specs.Here.{view}
 use Rattle.theory_layout.specs.Nodes.{NodeRead, ReadAt, node_read}
 use Rattle.read_find.specs.Rowed.{Rowed, children_of}
-use Rattle.grow_refusals.specs.declared.Admitted.{Admitted}
-
-abbrev pub refused_by : (number : ℕ) → Admitted
-refused_by n = record { number = n; parent = 0; receiver = record { page = 0; at = 0; par = 0; deep = 0 } }
-
-pub not_zero : {A : Type 0} (r : Admitted) (n : ℕ) → 1 ≤ n → r ≡ refused_by n → r.number ≡ 0 → A
-not_zero r n z e y = absurd (omega (arith, ap (λ (r : Admitted). r.number) e))
 
 -- `kind_bad` of a new node, by its content's length.
 abbrev pub bad_kind : (kind len : ℕ) → Bool
@@ -73,14 +66,14 @@ module _ {img : List ℕ} {kind : ℕ} {head : Head} {content : List ℕ} {child
     searched = children_of r.here (is_agg_lem z) r.deep r.few (size_at img parent) refl
 
     -- The search's number of the child.
-    module _ (k : ℕ) (x : Sighted) (q : x ≡ sight_child img (children_span img parent) searched.row k) where
-      sees : (b : Bool) → x.found ≡ b → leb k children ≡ b
-      sees b f = ap (leb k) r.children_is ∙ sym (ap (λ (x : Sighted). x.found) q ∙ sight_found img (children_span img parent) searched.row k) ∙ f
+    module _ (k : ℕ) (x : Found Receiver) (q : x ≡ sight_child img (children_span img parent) searched.row k) where
+      sees : (b : Bool) → is_some x ≡ b → leb k children ≡ b
+      sees b f = ap (leb k) r.children_is ∙ sym (ap (λ (x : Found Receiver). is_some x) q ∙ sight_found img (children_span img parent) searched.row k) ∙ f
 
-      pub is_past : x.found ≡ false → 9 ≡ parent_number kind children k
+      pub is_past : is_some x ≡ false → 9 ≡ parent_number kind children k
       is_past f = sym (rw (not_literal, lt-ltb children k (leb-false k children (sees false f))))
 
-      pub is_within : x.found ≡ true → 0 ≡ parent_number kind children k
+      pub is_within : is_some x ≡ true → 0 ≡ parent_number kind children k
       is_within f = sym (rw (not_literal, le-ltb children k (leb-true k children (sees true f))))
 
 -- ── the parent, by find ──
@@ -164,14 +157,6 @@ module _ (img path : List ℕ) (child kind origin : ℕ) (content : List ℕ) wh
   abbrev pub Number : ℕ → Type 0
   Number n = (st : Config) (root : Row) → Reads img st root → (label : ℕ) → n ≡ insert_number (shown root) path child (new_of kind origin label content) false
 
-  abbrev pub Answers : Admitted → Type 0
-  Answers r =
-      Number r.number
-      × ((r.number ≡ 0 → r.parent ≡ found_at img path) × (r.number ≡ 0 → (w : Aimed img r.parent child) → r.receiver ≡ receiver_of w.t))
-
-  pub refuses : (r : Admitted) (n : ℕ) → 1 ≤ n → r ≡ refused_by n → Number n → Answers r
-  refuses r n z e a = subst Answers (sym e) (a, (λ y. absurd (omega arith), λ y. absurd (omega arith)))
-
   -- ── by the arguments alone ──
 
   pub too_long : longest_parent < length path → Number 4
@@ -206,6 +191,17 @@ module _ (img path : List ℕ) (child kind origin : ℕ) (content : List ℕ) wh
       no_node_lem z = λ st root reads label.
           let e = (not-eq-not {b = true}).0 (λ e. z (ap (λ (f : FindAnswer). f.number) is ∙ find_number img st root reads path w.short false e)) in
           sym (rw e) ∙ formed st root label
+
+      -- What find refuses names no node.
+      pub not_found : (n : ℕ) → n ≡ f.number → (n ≡ 0 → ⊥) → Number n
+      not_found n e z = λ st root reads label.
+          let number = find_number img st root reads path w.short in
+          let seven : (b : Bool) → is_none (named_by (shown root) path) ≡ b → n ≡ cond b 7 0 = λ b h. e ∙ ap (λ (f : FindAnswer). f.number) is ∙ number b h in
+          go (is_none (named_by (shown root) path)) (seven _ refl) ∙ no_node_lem (λ y. z (e ∙ y)) st root reads label
+        where
+          go : (b : Bool) → n ≡ cond b 7 0 → n ≡ 7
+          go true h = h
+          go false h = absurd (z h)
 
       module _ (there : f.number ≡ 0) where
         parent_found : (st : Config) (root : Row) → Reads img st root → FoundNode img root path

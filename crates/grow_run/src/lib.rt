@@ -50,9 +50,9 @@ pub fn once(
 {
     let above = label_at(image, parent);
     let g = Growing {
-        setup: setup,
+        setup,
         near: t.page,
-        dry: dry,
+        dry,
     };
     let mut new = [0u8; Settings::NODE];
     let f = place_node(image, widths, map, g, above, label, node, &mut new);

@@ -93,7 +93,7 @@ pub fn separator(
     let row = Children {
         pos: first_node(buf),
         end: buf.len(),
-        p: p,
+        p,
     };
     separate(buf, row, image, widths, map, g, out, 0)
 }

@@ -39,10 +39,7 @@ pub fn first_node(content: &[u8]) -> usize
     requires { 1 ≤ length content.now }
     ensures { (row : Row) → RecordIs content.now row → result ≡ base row }
 {
-    if content[0] == 4 {
-        return 6;
-    }
-    0
+    if content[0] == 4 { 6 } else { 0 }
 }
 
 // The last child that starts at or before p, or the first, in the row from start to end.
@@ -67,31 +64,21 @@ pub fn enters(buf: &[u8], x: usize, tolerance: usize) -> bool
     ensures { (end : ℕ) (w : Kids buf.now x end) (st : Config) → st.tolerance ≡ tolerance → result ≡ goes_into st w.row }
 {
     let size = size_at(buf, x);
-    if !may_stand(wide(buf[x]), 1) {
-        return false;
-    }
-    if size <= 6 {
-        return false;
-    }
-    tolerance <= size
+    may_stand(wide(buf[x]), 1) && tolerance <= size && 6 < size
 }
 
 // Whether a group is left alone: no node, or one proxy, the node that may not be a record's root.
 pub fn stays(part: &[u8]) -> bool
     ensures { (g : Row) → part.now ≡ bytes g → result ≡ (is_nil g || lone_rec g) }
 {
-    let n = part.len();
-    if n == 0 {
+    if part.is_empty() {
         return true;
     }
-    if n != 8 {
+    if part.len() != 8 {
         return false;
     }
     let kind = wide(part[0]);
-    if 4 < kind {
-        return false;
-    }
-    !may_stand(0, kind)
+    kind <= 4 && !may_stand(0, kind)
 }
 
 // The lean: the start of d minus p.
@@ -107,8 +94,5 @@ pub fn lean_now(splits: u32, first: i32, last: i32) -> i32
     requires { InLean first × InLean last }
     ensures { result ≡ lean_now splits first last }
 {
-    if splits != 0 {
-        return first;
-    }
-    last
+    if splits == 0 { last } else { first }
 }

@@ -25,6 +25,11 @@ abbrev pub entry_anew : (more : Bool) → (entry : ℕ) → ℕ
 entry_anew true n = entry_of (n + 1)
 entry_anew false n = n - 1
 
+-- A step's results are those of one function of the entry.
+pub record Makes (results : ℕ → ℕ → Type 0) : Type 0 where
+  pub of : ℕ → ℕ
+  pub is : (x y : ℕ) → results x y → y ≡ of x
+
 -- The table with the entries of so many records changed, the last first.
 unfoldable pub changed : (f : ℕ → ℕ) → (n : ℕ) → Chain → (table : List ℕ) → List ℕ
 changed f zero c u = u

@@ -1,11 +1,13 @@
 -- The walk over the top nodes of a row that counts what they show by a table.
-use Rattle.std.specs.Prelude.{◌≡◌, refl, List, ℕ, ◌+◌, ◌<◌, ◌≤◌, length, get_or}
-use Rattle.std.proofs.Common.{ap, arith}
+use Rattle.std.specs.Prelude.{◌≡◌, refl, Bool, true, false, cond, eqb, List, ℕ, ◌+◌, ◌<◌, ◌≤◌, length, get_or}
+use Rattle.std.proofs.Common.{ap, arith, eqb-true}
+use Rattle.std.proofs.lemmas.Bool.{eqb-false}
 use Rattle.model.specs.Limits.{most_pages}
 use Rattle.model.specs.Row.{Row, nil, agg, lit, rec, size}
 use Rattle.model.specs.Reading.{size_at, name_at, kind_at}
 use Rattle.theory_row_bytes.specs.RowAt.{RowAt, FirstNode, first_node, row_whole}
 use Rattle.theory_rows.specs.Laws.{length_bytes}
+use Rattle.read_find.specs.Shown.{shown_at, Counts}
 use Rattle.grow_pages.specs.Links.{Below, Linked}
 use Rattle.grow_widths.specs.Tally.{tallied}
 
@@ -54,6 +56,19 @@ module _ (l u : List ℕ) (pos n total : ℕ) where
       let v = first_node l pos s.row (omega (arith, s.ends)) s.small s.stands in
       let (p, q) = goes s.row v s.ends s.small s.below s.held s.sum in
       record { more = omega (arith, v.size_is, v.more); within = omega (arith, v.size_is, v.total, s.ends); proxy = p; past = q }
+
+  -- By what the table has for the node at pos.
+  pub tally_counts : Tallying l u pos n total → pos < length l → Counts l u pos
+  tally_counts s h =
+      let v = tally_step s h in
+      record { inside = h; named = λ k. let (a, b) = v.proxy k in (omega (arith, v.within), b.0) }
+
+  pub tally_on : Tallying l u pos n total → pos < length l → Tallying l u (pos + size_at l pos) (n + shown_at l u pos) total
+  tally_on s h = go (eqb (kind_at l pos) 3) refl
+    where
+      go : (b : Bool) → eqb (kind_at l pos) 3 ≡ b → Tallying l u (pos + size_at l pos) (n + cond b (get_or u (name_at l pos) 0) 1) total
+      go true e = ((tally_step s h).proxy (eqb-true (kind_at l pos) 3 e)).1.1
+      go false e = (tally_step s h).past (eqb-false (kind_at l pos) 3 e)
 
   pub tally_end : Tallying l u pos n total → length l ≤ pos → n ≡ total
   tally_end s h = omega (arith, none s.row (omega (arith, s.ends)), s.sum)

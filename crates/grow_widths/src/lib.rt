@@ -1,20 +1,14 @@
 // The table of how many nodes the record on each page shows, as an insert or a removal leaves it.
 #![tactic(auto)]
 
-ghost use Rattle.std.specs.Prelude.{◌≡◌, ◌≤◌};
-ghost use Rattle.grow_widths.specs.Tally.{tallied, most_entry, entry_of, number_of};
+ghost use Rattle.std.specs.Prelude.{◌≡◌};
+ghost use Rattle.grow_widths.specs.Tally.{tallied, number_of};
 ghost use Rattle.grow_widths.specs.Tallying.{Counting};
-ghost use Rattle.grow_widths.specs.Raised.{entry_anew, changed, raised, lowered, Raising};
+ghost use Rattle.grow_widths.specs.Raised.{changed, raised, lowered, Raising, Makes};
 
-use base_layout::{back_at, name_at, size_at};
+use base_layout::{back_at, size_at};
 use model::Settings;
-
-// An entry as a number of the machine.
-fn wide(x: u32) -> usize
-    ensures { (result ≡ x) × (result ≤ most_entry) }
-{
-    x as usize
-}
+use read_find::nodes_shown;
 
 // How many nodes the row that part is shows, by the table.
 fn sum(part: &[u8], widths: &[u32]) -> usize
@@ -24,71 +18,42 @@ fn sum(part: &[u8], widths: &[u32]) -> usize
     let mut n = 0;
     let mut pos = 0;
     while pos < part.len() {
-        let next = pos + size_at(part, pos);
-        if part[pos] == 3 {
-            let p = name_at(part, pos);
-            n = n + wide(widths[p]);
-        } else {
-            n = n + 1;
-        }
-        pos = next;
+        n += nodes_shown(part, widths, pos);
+        pos += size_at(part, pos);
     }
     n
 }
 
-// A number as an entry: at most what an entry takes.
-fn entry(n: usize) -> u32
-    ensures { result ≡ entry_of n }
-{
-    if 4294967295 < n {
-        return 4294967295;
-    }
-    n as u32
-}
-
-// The table's entry for a record of the row that part is.
+// The table's entry for a record of the row that part is: at most what an entry takes.
 pub fn number(part: &[u8], widths: &[u32]) -> u32
     requires { Counting part.now widths.now }
     ensures { (w : Counting part.now widths.now) → result ≡ number_of widths.now w.linked.row }
 {
-    entry(sum(part, widths))
+    u32::try_from(sum(part, widths)).unwrap_or(u32::MAX)
 }
 
-// An entry for one node more, or for one less.
-fn entry_anew(x: u32, more: bool) -> u32
-    ensures { result ≡ entry_anew more x }
-{
-    if more {
-        return entry(wide(x) + 1);
-    }
-    if x < 1 {
-        return 0;
-    }
-    x - 1
-}
-
-// The record on the page and the `deep` - 1 records above it show one node more, or one less.
-fn change(image: &[u8], widths: &mut [u32], page: usize, deep: usize, more: bool)
-    requires { Raising image.now widths.old page deep }
-    ensures { (w : Raising image.now widths.old page deep)
-        → widths.new ≡ changed (entry_anew more) deep w.chain widths.old }
+// The record on the page and the `deep` - 1 records above it show what `step` makes of what they showed.
+fn change<F: Fn(u32) -> u32>(image: &[u8], widths: &mut [u32], page: usize, deep: usize, step: F)
+    requires way { Raising image.now widths.old page deep }
+    requires takes { F.IsAlwaysCallable step }
+    requires makes { Makes (F.post step) }
+    ensures { (w : Raising image.now widths.old page deep) (m : Makes (F.post step))
+        → widths.new ≡ changed m.of deep w.chain widths.old }
 {
     let mut q = page;
-    let mut left = deep;
-    while 0 < left {
-        widths[q] = entry_anew(widths[q], more);
+    for _ in 0..deep {
+        widths[q] = step(widths[q]);
         q = back_at(image, Settings::PAGE * q);
-        left -= 1;
     }
 }
 
-// They show one node more.
+// They show one node more; an entry that is full stays.
 pub fn one_more(image: &[u8], widths: &mut [u32], page: usize, deep: usize)
     requires { Raising image.now widths.old page deep }
     ensures { (w : Raising image.now widths.old page deep)
         → widths.new ≡ raised deep w.chain widths.old }
 {
-    change(image, widths, page, deep, true);
+    change(image, widths, page, deep, |x| x.saturating_add(1));
 }
 
 // They show one node less.
@@ -97,5 +62,5 @@ pub fn one_less(image: &[u8], widths: &mut [u32], page: usize, deep: usize)
     ensures { (w : Raising image.now widths.old page deep)
         → widths.new ≡ lowered deep w.chain widths.old }
 {
-    change(image, widths, page, deep, false);
+    change(image, widths, page, deep, |x| x.saturating_sub(1));
 }

@@ -5,18 +5,16 @@ ghost use Rattle.std.specs.Prelude.{◌≡◌, ◌≤◌, length, IfOk};
 
 use std::io::{self, Read, Write};
 
-// Room for an image, and one page more than may be listed. The `ensures` gives only the length, which lending the array needs.
-fn room_for_input() -> [u8; 65536]
-    ensures { 65536 ≡ length result }
-{
-    [0u8; 65536]
-}
+// Room for an image, with one page more than may be listed, and for the longest listing.
+const INPUT: usize = 65536;
 
-// Room for the longest listing. The `ensures` gives only the length, which lending the array needs.
-fn room() -> [u8; 155648]
-    ensures { 155648 ≡ length result }
+const LISTING: usize = 155648;
+
+// The `ensures` gives only the length, which lending the array needs.
+fn zeros<const N: usize>() -> [u8; N]
+    ensures { N ≡ length result }
 {
-    [0u8; 155648]
+    [0u8; N]
 }
 
 // Reads until the buffer is full or the input ends, and answers how much it read.
@@ -36,9 +34,9 @@ fn read_full<R: Read>(input: &mut R, buffer: &mut [u8]) -> io::Result<usize>
 
 // Reads on, and answers whether more may follow.
 fn more<R: Read>(input: &mut R) -> io::Result<bool> {
-    let mut rest = room_for_input();
+    let mut rest = zeros::<INPUT>();
     let n = read_full(input, &mut rest)?;
-    Ok(n == 65536)
+    Ok(n == INPUT)
 }
 
 // Reads the rest of a long input, so that whoever writes it to a pipe is not stopped. A proved loop has to end: it takes as many turns as no input uses up.
@@ -53,12 +51,12 @@ fn drain<R: Read>(input: &mut R) -> io::Result<()> {
 
 // The buffer has one page more than may be listed.
 fn main(rt: HostRuntime) -> io::Result<()> {
-    let mut input = room_for_input();
+    let mut input = zeros::<INPUT>();
     let n = read_full(&mut rt.stdin(), &mut input)?;
-    let mut out = room();
+    let mut out = zeros::<LISTING>();
     let k = listing_text::print(&input[..n], &mut out);
     rt.stdout().write_all(&out[..k])?;
-    if n == 65536 {
+    if n == INPUT {
         drain(&mut rt.stdin())?;
     }
     Ok(())

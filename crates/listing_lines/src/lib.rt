@@ -4,132 +4,126 @@
 ghost use Rattle.std.specs.Prelude.{◌≡◌, [], ◌∷◌, ◌<◌};
 ghost use Rattle.listing_lines.specs.Text.{digit, decimal_of, hex_of, content_of, line_of, head_line, refused_line};
 ghost use Rattle.listing_lines.specs.Digits.{fields_of};
-ghost use Rattle.listing_lines.specs.Wrote.{Room, Wrote};
+ghost use Rattle.listing_lines.specs.Writes.{Fits, Writes};
 
-use base_numbers::{copy_in, wide};
+use base_numbers::copy_in;
 
-// ── numbers, bytes, words ──
+// A lent buffer, and where the text that is written to it ends so far. Each method writes its text from there on.
+#[derive(Drop)]
+pub struct Writer<'a> {
+    pub out: &'a mut [u8],
+    pub at: usize,
+}
 
 // The digit of a number below 16.
-fn glyph(d: usize) -> u8
+fn glyph(d: u8) -> u8
     requires { d < 16 }
     ensures { result ≡ digit d }
 {
-    if d < 10 {
-        return (48 + d) as u8;
+    match d {
+        0..=9 => b'0' + d,
+        _ => b'a' - 10 + d,
     }
-    (87 + d) as u8
 }
 
-// Each function below writes its text from `at` and gives where the text ends.
-fn put(b: u8, out: &mut [u8], at: usize) -> usize
-    requires { Room (b ∷ []) at out.old }
-    ensures { Wrote (b ∷ []) at out.old out.new result }
-{
-    out[at] = b;
-    at + 1
-}
-
-pub fn words(text: &[u8], out: &mut [u8], at: usize) -> usize
-    requires { Room text.now at out.old }
-    ensures { Wrote text.now at out.old out.new result }
-{
-    copy_in(text, out, at);
-    at + text.len()
-}
-
-pub fn decimal(n: usize, out: &mut [u8], at: usize) -> usize
-    requires { Room (decimal_of n) at out.old }
-    ensures { Wrote (decimal_of n) at out.old out.new result }
-{
-    if n < 10 {
-        return put(glyph(n), out, at);
+impl Writer<'_> {
+    fn put(&mut self, b: u8)
+        requires { Fits (b ∷ []) self.old }
+        ensures { Writes (b ∷ []) self.old self.new }
+    {
+        self.out[self.at] = b;
+        self.at += 1;
     }
-    let last = decimal(n / 10, out, at);
-    put(glyph(n % 10), out, last)
-}
 
-pub fn hexadecimal(bytes: &[u8], out: &mut [u8], at: usize) -> usize
-    requires { Room (hex_of bytes.now) at out.old }
-    ensures { Wrote (hex_of bytes.now) at out.old out.new result }
-{
-    let mut i = 0;
-    let mut n = at;
-    while i < bytes.len() {
-        let b = wide(bytes[i]);
-        let half = put(glyph(b / 16), out, n);
-        n = put(glyph(b % 16), out, half);
-        i += 1;
+    pub fn words(&mut self, text: &[u8])
+        requires { Fits text.now self.old }
+        ensures { Writes text.now self.old self.new }
+    {
+        copy_in(text, self.out, self.at);
+        self.at += text.len();
     }
-    n
-}
 
-// Content, or `-` when it is empty.
-fn content(bytes: &[u8], out: &mut [u8], at: usize) -> usize
-    requires { Room (content_of bytes.now) at out.old }
-    ensures { Wrote (content_of bytes.now) at out.old out.new result }
-{
-    if bytes.len() == 0 {
-        return put(b'-', out, at);
+    pub fn decimal(&mut self, n: usize)
+        requires { Fits (decimal_of n) self.old }
+        ensures { Writes (decimal_of n) self.old self.new }
+    {
+        if 10 <= n {
+            self.decimal(n / 10);
+        }
+        self.put(glyph((n % 10) as u8));
     }
-    hexadecimal(bytes, out, at)
-}
 
-// ── lines ──
+    pub fn hexadecimal(&mut self, bytes: &[u8])
+        requires { Fits (hex_of bytes.now) self.old }
+        ensures { Writes (hex_of bytes.now) self.old self.new }
+    {
+        for &b in bytes {
+            self.put(glyph(b / 16));
+            self.put(glyph(b % 16));
+        }
+    }
 
-// The fields of a node's line but the last.
-fn fields(level: usize, letter: u8, label: usize, bytes: &[u8], out: &mut [u8], at: usize) -> usize
-    requires { Room (fields_of level letter label bytes.now) at out.old }
-    ensures { Wrote (fields_of level letter label bytes.now) at out.old out.new result }
-{
-    let a = decimal(level, out, at);
-    let b = put(b' ', out, a);
-    let c = put(letter, out, b);
-    let d = put(b' ', out, c);
-    let e = decimal(label, out, d);
-    let f = put(b' ', out, e);
-    content(bytes, out, f)
-}
+    // Content, or `-` when it is empty.
+    fn content(&mut self, bytes: &[u8])
+        requires { Fits (content_of bytes.now) self.old }
+        ensures { Writes (content_of bytes.now) self.old self.new }
+    {
+        if bytes.is_empty() {
+            return self.put(b'-');
+        }
+        self.hexadecimal(bytes)
+    }
 
-// One line of a node.
-pub fn line(
-    level: usize,
-    letter: u8,
-    label: usize,
-    bytes: &[u8],
-    origin: usize,
-    out: &mut [u8],
-    at: usize,
-) -> usize
-    requires { Room (line_of level letter label bytes.now origin) at out.old }
-    ensures { Wrote (line_of level letter label bytes.now origin) at out.old out.new result }
-{
-    let a = fields(level, letter, label, bytes, out, at);
-    let b = put(b' ', out, a);
-    let c = decimal(origin, out, b);
-    put(b'\n', out, c)
-}
+    // The fields of a node's line but the last.
+    #[tactic(auto, using(crate::specs::Digits::fields_long))]
+    fn fields(&mut self, level: usize, letter: u8, label: usize, bytes: &[u8])
+        requires { Fits (fields_of level letter label bytes.now) self.old }
+        ensures { Writes (fields_of level letter label bytes.now) self.old self.new }
+    {
+        self.decimal(level);
+        self.put(b' ');
+        self.put(letter);
+        self.put(b' ');
+        self.decimal(label);
+        self.put(b' ');
+        self.content(bytes);
+    }
 
-// The head line.
-pub fn head(pages: usize, free: usize, records: usize, out: &mut [u8], at: usize) -> usize
-    requires { Room (head_line pages free records) at out.old }
-    ensures { Wrote (head_line pages free records) at out.old out.new result }
-{
-    let a = words(b"pages ", out, at);
-    let b = decimal(pages, out, a);
-    let c = words(b" free ", out, b);
-    let d = decimal(free, out, c);
-    let e = words(b" records ", out, d);
-    let f = decimal(records, out, e);
-    put(b'\n', out, f)
-}
+    // One line of a node.
+    #[tactic(auto, using(crate::specs::Digits::line_long))]
+    pub fn line(&mut self, level: usize, letter: u8, label: usize, bytes: &[u8], origin: usize)
+        requires { Fits (line_of level letter label bytes.now origin) self.old }
+        ensures { Writes (line_of level letter label bytes.now origin) self.old self.new }
+    {
+        self.fields(level, letter, label, bytes);
+        self.put(b' ');
+        self.decimal(origin);
+        self.put(b'\n');
+    }
 
-// The line of a refused image.
-pub fn refused(number: usize, out: &mut [u8], at: usize) -> usize
-    requires { Room (refused_line number) at out.old }
-    ensures { Wrote (refused_line number) at out.old out.new result }
-{
-    let a = words(b"refused ", out, at);
-    let b = decimal(number, out, a);
-    put(b'\n', out, b)
+    // The head line.
+    #[tactic(auto, using(crate::specs::Digits::head_long))]
+    pub fn head(&mut self, pages: usize, free: usize, records: usize)
+        requires { Fits (head_line pages free records) self.old }
+        ensures { Writes (head_line pages free records) self.old self.new }
+    {
+        self.words(b"pages ");
+        self.decimal(pages);
+        self.words(b" free ");
+        self.decimal(free);
+        self.words(b" records ");
+        self.decimal(records);
+        self.put(b'\n');
+    }
+
+    // The line of a refused image.
+    #[tactic(auto, using(crate::specs::Digits::refused_long))]
+    pub fn refused(&mut self, number: usize)
+        requires { Fits (refused_line number) self.old }
+        ensures { Writes (refused_line number) self.old self.new }
+    {
+        self.words(b"refused ");
+        self.decimal(number);
+        self.put(b'\n');
+    }
 }

@@ -101,6 +101,12 @@ pub record LinedNode (img : List ℕ) (i next end level depth : ℕ) : Type 0 wh
   pub some : i < end
   pub long : next ≡ i + size_at img i
 
+-- A node of some such row.
+pub record ListedNode (img : List ℕ) (i next level : ℕ) : Type 0 where
+  pub stop : ℕ
+  pub depth : ℕ
+  pub node : LinedNode img i next stop level depth
+
 -- What a node at i that ends at next prints by itself, and the row that it holds.
 abbrev pub own_of : (img : List ℕ) → (i next level : ℕ) → List ℕ
 own_of img i next level =

@@ -87,8 +87,8 @@ pub refused_printed : (input : List ℕ) (n : ℕ) → length input ≤ 61440 �
 unfolding printed listing_on
 refused_printed input n h e z = rw (le-ltb 61440 (length input) h, refuses input n (sym e) z)
 
-pub refused_room : (input out : List ℕ) (n : ℕ) → n ≡ check_of input → (n ≡ 0 → ⊥) → listing_room ≤ length out → Room (refused_line n) 0 out
-refused_room input out n e z h =
+pub refused_room : (input out : List ℕ) (at n : ℕ) → n ≡ check_of input → (n ≡ 0 → ⊥) → at + listing_room ≤ length out → Room (refused_line n) at out
+refused_room input out at n e z h =
     let small : (b : Bool) → n ≡ cond {A = ℕ} b 3 1 → n < 100 = λ b w. go b w in
     let s = small (length_ok (length input)) (e ∙ not_passing input (λ y. z (e ∙ y))) in
     record { fits = omega (arith, refused_long n, two_digits n s) }
@@ -99,8 +99,8 @@ refused_room input out n e z h =
 
 -- ── the walk of the whole ──
 
-module _ {img : List ℕ} {n : ℕ} (p : Plan img n) {a b : ℕ} (first : a ≡ start_on img 1) (last : b ≡ end_on img 1) {out mid : List ℕ} {k : ℕ}
-    (w : Wrote (head_of img n) 0 out mid k) (long : listing_room ≤ length out) where
+module _ {img : List ℕ} {n : ℕ} (p : Plan img n) {a b : ℕ} (first : a ≡ start_on img 1) (last : b ≡ end_on img 1) {out mid : List ℕ} {at k : ℕ}
+    (w : Wrote (head_of img n) at out mid k) (long : at + listing_room ≤ length out) where
   pub whole_fitting : Fitting img a b 1 most_bytes k mid
   whole_fitting =
       let l = p.lined in
@@ -117,6 +117,6 @@ module _ {img : List ℕ} {n : ℕ} (p : Plan img n) {a b : ℕ} (first : a ≡ 
         room = record { fits = omega (arith, p.most, w.ends, w.same) };
       }
 
-  pub whole_wrote : {after : List ℕ} {m : ℕ} → Texted whole_fitting after m → Wrote (listing_on img) 0 out after m
+  pub whole_wrote : {after : List ℕ} {m : ℕ} → Texted whole_fitting after m → Wrote (listing_on img) at out after m
   unfolding whole_fitting
   whole_wrote t = same_text p.text (then w t.wrote)

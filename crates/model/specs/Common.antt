@@ -7,7 +7,7 @@ use Rattle.model.specs.Tree.{Tree, shown, Node, named, place_of}
 use Rattle.model.specs.Reading.{reading, length_ok}
 use Rattle.model.specs.Answers.{wrong_length, not_passed, short_buffer, no_place, write_refused}
 use Rattle.model.specs.declared.Place.{Place}
-use Rattle.model.specs.declared.WriteAnswer.{WriteAnswer}
+use Rattle.model.specs.Answers.{WriteAnswer}
 
 -- ── paths as bytes ──
 

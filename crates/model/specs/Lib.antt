@@ -11,5 +11,6 @@ pub mod Answers
 pub mod Common
 pub mod Effect
 pub mod Calls
+pub mod Reasons
 pub mod Claims
 pub mod OldImages

@@ -1,11 +1,14 @@
 // The types of the calls' arguments and answers. What the calls do is in specs/.
 #![tactic(auto)]
 
-ghost use Rattle.std.specs.Prelude.{◌≡◌};
-ghost use Rattle.model.specs.Answers.{kind_number, origin_number, usual_settings, usual_matrix, the_limits};
+ghost use Rattle.std.specs.Prelude.{◌≡◌, ◌/◌, ◌%◌};
+ghost use Rattle.model.specs.Limits.{page_size};
+ghost use Rattle.model.specs.Answers.{kind_number, origin_number, refusal_number, usual_settings, usual_matrix, the_limits};
+ghost use Rattle.model.specs.declared.Failure.TheVariants.{Broken};
+ghost use Rattle.model.specs.Reasons.{reason_number, stage_number};
 
 // The numbers of the settings; the split matrix goes beside them as a slice, since one of any length may be handed over.
-#[derive(Clone, Copy)]
+#[derive(Clone, Copy, Debug, PartialEq, Eq)]
 pub struct Settings {
     pub pages: usize,
     pub target: usize,
@@ -81,7 +84,7 @@ impl Settings {
         ensures { result ≡ usual_settings pages }
     {
         Settings {
-            pages: pages,
+            pages,
             target: 128,
             tolerance: 409,
             form: Settings::FORM,
@@ -90,7 +93,7 @@ impl Settings {
 }
 
 // The limits, each under its name.
-#[derive(Clone, Copy)]
+#[derive(Clone, Copy, Debug, PartialEq, Eq)]
 pub struct Limits {
     pub page: usize,
     pub capacity: usize,
@@ -110,23 +113,35 @@ pub struct Limits {
 }
 
 // Where a node starts: a page, and a byte offset in it.
-#[derive(Clone, Copy)]
+#[derive(Clone, Copy, Debug, PartialEq, Eq)]
 pub struct Place {
     pub page: usize,
     pub offset: usize,
 }
 
-#[derive(Clone, Copy)]
+impl Place {
+    // The place of a byte of the image.
+    pub fn of_byte(at: usize) -> Place
+        ensures { result ≡ record { page = at / page_size; offset = at % page_size } }
+    {
+        Place {
+            page: at / Settings::PAGE,
+            offset: at % Settings::PAGE,
+        }
+    }
+}
+
+#[derive(Clone, Copy, Debug, PartialEq, Eq)]
 pub enum Kind {
     Aggregate,
     Literal,
 }
 
-impl Kind {
-    pub fn number(self) -> u32
-        ensures { result ≡ kind_number self }
-    {
-        match self {
+impl From<Kind> for u32 {
+    ghost from_gives = { λ kind n. n ≡ kind_number kind };
+
+    fn from(kind: Kind) -> u32 {
+        match kind {
             Kind::Aggregate => 1,
             Kind::Literal => 2,
         }
@@ -134,7 +149,7 @@ impl Kind {
 }
 
 // Where a node came from: seen on the wire, read from a store, typed in, or derived.
-#[derive(Clone, Copy)]
+#[derive(Clone, Copy, Debug, PartialEq, Eq)]
 pub enum Origin {
     Wire,
     Stored,
@@ -142,11 +157,11 @@ pub enum Origin {
     Derived,
 }
 
-impl Origin {
-    pub fn number(self) -> u32
-        ensures { result ≡ origin_number self }
-    {
-        match self {
+impl From<Origin> for u32 {
+    ghost from_gives = { λ origin n. n ≡ origin_number origin };
+
+    fn from(origin: Origin) -> u32 {
+        match origin {
             Origin::Wire => 0,
             Origin::Stored => 1,
             Origin::TypedIn => 2,
@@ -155,72 +170,158 @@ impl Origin {
     }
 }
 
+// Why a call is refused: the lines of document 01's table, in the order of their numbers.
+#[derive(Clone, Copy, Debug, PartialEq, Eq)]
+pub enum Refusal {
+    WrongLength,
+    WrongSettings,
+    NotPassed,
+    LongPath,
+    WrongKind,
+    LongContent,
+    NoNode,
+    LiteralParent,
+    PastChildren,
+    NoPlaceThere,
+    ShortBuffer,
+    NoFreePage,
+    WrongOrigin,
+    EmptyPath,
+}
+
+impl From<Refusal> for u32 {
+    ghost from_gives = { λ refusal n. n ≡ refusal_number refusal };
+
+    fn from(refusal: Refusal) -> u32 {
+        match refusal {
+            Refusal::WrongLength => 1,
+            Refusal::WrongSettings => 2,
+            Refusal::NotPassed => 3,
+            Refusal::LongPath => 4,
+            Refusal::WrongKind => 5,
+            Refusal::LongContent => 6,
+            Refusal::NoNode => 7,
+            Refusal::LiteralParent => 8,
+            Refusal::PastChildren => 9,
+            Refusal::NoPlaceThere => 10,
+            Refusal::ShortBuffer => 11,
+            Refusal::NoFreePage => 12,
+            Refusal::WrongOrigin => 13,
+            Refusal::EmptyPath => 14,
+        }
+    }
+}
+
+// Why an image does not pass the check.
+#[derive(Clone, Copy, Debug, PartialEq, Eq)]
+pub enum Reason {
+    NeverFormatted,
+    BadSettings,
+    BadTrailer,
+    FreeNotZero,
+    PastLength,
+    BadNode,
+    TooDeep,
+    BadProxy,
+    NotReached,
+}
+
+impl From<Reason> for u32 {
+    ghost from_gives = { λ reason n. n ≡ reason_number reason };
+
+    fn from(reason: Reason) -> u32 {
+        match reason {
+            Reason::NeverFormatted => 1,
+            Reason::BadSettings => 2,
+            Reason::BadTrailer => 3,
+            Reason::FreeNotZero => 4,
+            Reason::PastLength => 5,
+            Reason::BadNode => 6,
+            Reason::TooDeep => 7,
+            Reason::BadProxy => 8,
+            Reason::NotReached => 9,
+        }
+    }
+}
+
 // The following node in document order, or the end.
-#[derive(Clone, Copy)]
+#[derive(Clone, Copy, Debug, PartialEq, Eq)]
 pub struct NextNode {
     pub place: Place,
     pub kind: Kind,
     pub origin: Origin,
 }
 
-#[derive(Clone, Copy)]
+// Document 01 names this form, an enum with an end, in place of an Option.
+#[derive(Clone, Copy, Debug, PartialEq, Eq)]
 pub enum Next {
     Node(NextNode),
     End,
 }
 
-// Answers: `number` is 0, or the refusal's number with zeros in the other fields.
-#[derive(Clone, Copy)]
-pub struct NextAnswer {
-    pub number: u32,
-    pub next: Next,
-}
-
-#[derive(Clone, Copy)]
-pub struct InsertAnswer {
-    pub number: u32,
+// Of insert: where the new node stands, how many records were split, and the lean of the first split.
+#[derive(Clone, Copy, Debug, PartialEq, Eq)]
+pub struct Inserted {
     pub place: Place,
     pub splits: u32,
     pub lean: i32,
 }
 
-#[derive(Clone, Copy)]
-pub struct FindAnswer {
-    pub number: u32,
-    pub place: Place,
-}
-
-// Of climb and records: the bytes written to the front of the lent buffer.
-#[derive(Clone, Copy)]
-pub struct WriteAnswer {
-    pub number: u32,
+// Of walk: how many entries were written, and the place of the first node that was not, if there is one.
+#[derive(Clone, Copy, Debug, PartialEq, Eq)]
+pub struct Walked {
     pub written: usize,
+    pub next: Option<Place>,
 }
 
-// Of walk: how many entries were written, 1 if more nodes follow, else 0, and the place of the first that was not written.
-#[derive(Clone, Copy)]
-pub struct WalkAnswer {
-    pub number: u32,
-    pub written: usize,
-    pub more: u32,
-    pub next: Place,
+// The stages of the check: page 0, the other pages by themselves, the walk from page 1.
+#[derive(Clone, Copy, Debug, PartialEq, Eq)]
+pub enum Stage {
+    Settings,
+    Pages,
+    Walk,
 }
 
-// Of diagnose: the check's number, and where that is 3 the stage, the page at fault and the reason.
-#[derive(Clone, Copy)]
-pub struct Diagnosis {
-    pub number: u32,
-    pub stage: u32,
+impl From<Stage> for u32 {
+    ghost from_gives = { λ stage n. n ≡ stage_number stage };
+
+    fn from(stage: Stage) -> u32 {
+        match stage {
+            Stage::Settings => 1,
+            Stage::Pages => 2,
+            Stage::Walk => 3,
+        }
+    }
+}
+
+// The stage that finds an image broken, the page at fault and the reason.
+#[derive(Clone, Copy, Debug, PartialEq, Eq)]
+pub struct Fault {
+    pub stage: Stage,
     pub page: usize,
-    pub reason: u32,
+    pub reason: Reason,
+}
+
+// What diagnose finds where an image does not pass the check.
+#[derive(Clone, Copy, Debug, PartialEq, Eq)]
+pub enum Failure {
+    WrongLength,
+    Broken(Fault),
+}
+
+impl From<Fault> for Failure {
+    ghost from_gives = { λ fault failure. failure ≡ Broken fault };
+
+    fn from(fault: Fault) -> Failure {
+        Failure::Broken(fault)
+    }
 }
 
 // Of read: the content is the part of the image that starts at `start` and has `len` bytes.
-#[derive(Clone, Copy)]
-pub struct ReadNode {
-    pub number: u32,
-    pub kind: u32,
-    pub origin: u32,
+#[derive(Clone, Copy, Debug, PartialEq, Eq)]
+pub struct Details {
+    pub kind: Kind,
+    pub origin: Origin,
     pub label: u32,
     pub children: u32,
     pub start: usize,

@@ -2,10 +2,10 @@
 use Rattle.std.specs.Prelude.{List, [], ◌∷◌, ℕ}
 use Rattle.model.specs.declared.Settings.{Settings}
 use Rattle.model.specs.declared.Place.{Place}
-use Rattle.model.specs.declared.ReadNode.{ReadNode}
-use Rattle.model.specs.declared.InsertAnswer.{InsertAnswer}
-use Rattle.model.specs.declared.WalkAnswer.{WalkAnswer}
-use Rattle.model.specs.declared.Diagnosis.{Diagnosis}
+use Rattle.model.specs.Answers.{ReadNode}
+use Rattle.model.specs.Answers.{InsertAnswer}
+use Rattle.model.specs.Answers.{WalkAnswer}
+use Rattle.model.specs.Calls.Diagnose.{Diagnosis}
 
 abbrev pub settings : (pages target tolerance form : ℕ) → Settings
 settings p t o f = record { pages = p; target = t; tolerance = o; form = f }

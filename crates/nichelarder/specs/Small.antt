@@ -26,12 +26,12 @@ use Rattle.model.specs.Calls.Walk.{walk_answer, walk_from, walk_in, walk_of}
 use Rattle.model.specs.declared.Place.{Place}
 use Rattle.model.specs.declared.Next.{Next}
 use Rattle.model.specs.declared.Next.TheVariants as next_is
-use Rattle.model.specs.declared.FindAnswer.{FindAnswer}
-use Rattle.model.specs.declared.WriteAnswer.{WriteAnswer}
+use Rattle.model.specs.Answers.{FindAnswer}
+use Rattle.model.specs.Answers.{WriteAnswer}
 use Rattle.model.specs.Growth.{Out}
 use Rattle.model.specs.Claims.{InLean}
-use Rattle.model.specs.declared.InsertAnswer.{InsertAnswer}
-use Rattle.model.specs.declared.WalkAnswer.{WalkAnswer}
+use Rattle.model.specs.Answers.{InsertAnswer}
+use Rattle.model.specs.Answers.{WalkAnswer}
 use Rattle.theory_rows.specs.Fits.{IsByte}
 use Rattle.theory_decoding.specs.Valid.{bytes_hold}
 use Rattle.theory_rows.specs.Population.{tree_population, population_shown}

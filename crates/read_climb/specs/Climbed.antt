@@ -1,5 +1,5 @@
 -- The answer of Climb, from the path of the place's node.
-use Rattle.std.specs.Prelude.{◌≡◌, refl, List, ℕ, ◌*◌, ◌-◌, ◌/◌, ◌≤◌, ◌<◌, length, take, drop}
+use Rattle.std.specs.Prelude.{◌≡◌, refl, None, List, ℕ, ◌*◌, ◌-◌, ◌/◌, ◌≤◌, ◌<◌, length, take, drop}
 use Rattle.std.proofs.Common.{sym, ap, ◌∙◌, arith, lt-ltb, le-ltb, length-drop, take_all}
 use Rattle.std.proofs.Math.Option.{Option, none, some}
 use Rattle.model.specs.Limits.{page_size, longest_path}
@@ -11,7 +11,7 @@ use Rattle.model.specs.Common.{path_bytes, write}
 use Rattle.model.specs.Calls.Check.{check_of}
 use Rattle.model.specs.Calls.Climb.{climb_in, climb_of}
 use Rattle.model.specs.declared.Place.{Place}
-use Rattle.model.specs.declared.WriteAnswer.{WriteAnswer}
+use Rattle.model.specs.Answers.{WriteAnswer}
 use Rattle.theory_decoding.specs.Reading.{reads_valid}
 use Rattle.theory_places.specs.Named.{named_in_lem, unnamed_place}
 use Rattle.theory_places.specs.From.{from_found}
@@ -43,15 +43,11 @@ answers : (img : List ℕ) (x : Place) (buffer : List ℕ) (a : WriteAnswer) (ne
 answers img x buffer a new e = (ap (λ (o : WriteAnswer × List ℕ). o.0) (sym e), ap (λ (o : WriteAnswer × List ℕ). o.1) (sym e))
 
 -- No node stands at the place.
-pub climb_none : (img : List ℕ) (x : Place) (buffer : List ℕ) (pos : ℕ) → check_of img ≡ 0 → Located img x.page x.offset pos → pos ≡ 0
+pub climb_none : (img : List ℕ) (x : Place) (buffer : List ℕ) → check_of img ≡ 0 → Located img x.page x.offset None
     → Answers img x buffer (write_refused 10) buffer
-climb_none img x buffer pos ok l z =
+climb_none img x buffer ok l =
     let s = passing img ok in
-    answers img x buffer (write_refused 10) buffer (climb_stray img s.0.0 s.0.1 s.1 x buffer (l.stray z s.0.0 s.0.1 s.1))
-
--- One stands there.
-pub some_node : (img : List ℕ) (page offset pos : ℕ) → Located img page offset pos → (pos ≡ 0 → ⊥) → NodeOf img page offset pos
-some_node img page offset pos l k = l.found (omega arith)
+    answers img x buffer (write_refused 10) buffer (climb_stray img s.0.0 s.0.1 s.1 x buffer (l s.0.0 s.0.1 s.1))
 
 pub room : (img : List ℕ) (pos at : ℕ) (path : List ℕ) → NodeAt img pos
     → ((w : NodeAt img pos) → Rose w.root (place_at_byte pos) at path) × (length path ≡ longest_path) → at ≤ longest_path

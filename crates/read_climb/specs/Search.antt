@@ -1,6 +1,7 @@
 -- The search along a row of an image for the node that holds an item, and down to the item.
-use Rattle.std.specs.Prelude.{◌≡◌, refl, ℕ, suc, ◌+◌, ◌*◌, ◌-◌, ◌≤◌, ◌<◌, get_or, take}
-use Rattle.std.proofs.Common.{sym, subst, ◌∙◌, drop_at, length-take-le}
+use Rattle.std.specs.Prelude.{◌≡◌, refl, Bool, true, false, eqb, ℕ, suc, ◌+◌, ◌*◌, ◌-◌, ◌≤◌, ◌<◌, get_or, take}
+use Rattle.std.proofs.Common.{sym, subst, ◌∙◌, eqb-true, drop_at, length-take-le}
+use Rattle.std.proofs.lemmas.Bool.{eqb-false}
 use Rattle.std.proofs.Math.Path.{ap}
 use mathlib.Core.List.{List, [], ◌∷◌, ◌++◌}
 use native.Mathlib.Omega.{arith}
@@ -18,6 +19,7 @@ use Rattle.theory_layout.specs.Widths.{Widths, first_width, plain_width}
 use Rattle.theory_layout.specs.Items.{Item}
 use Rattle.theory_layout.specs.Order as order
 use Rattle.read_find.specs.Rowed.{width_steps}
+use Rattle.read_find.specs.Shown.{shown_at, Counts, shown_proxy, shown_plain}
 use Rattle.read_climb.specs.Route.{Has, agg_here, agg_in, agg_past, lit_here, lit_past, rec_here, rec_past, spot, before, number, way, has_low}
 use Rattle.read_climb.specs.Route.{spot_low, has_past, has_first}
 
@@ -66,6 +68,28 @@ record_told img i p w named k = go w.row w.here w.some w.few
           few = omega (arith, width_steps r);
           told = λ c t. ap (λ (m : ℕ). get_or c m 0) same ∙ t.told q w.page r h.on.low v.under;
         }
+
+module _ (img : List ℕ) (i : ℕ) (w : SomeRowAt img i) (c : List ℕ) (table : Widths img c) where
+  -- The table counts what the first node shows.
+  pub counts : Counts img c i
+  counts =
+      let h = w.here in
+      let p = h.on in
+      record {
+        inside = omega (arith, w.some, h.room);
+        named = λ k.
+            let t = record_told img i (name_at img i) w refl k in
+            (omega (arith, w.some, h.room), omega (arith, t.on.inside, table.long));
+      }
+
+  pub shows : shown_at img c i ≡ first_width w.row
+  shows = go (eqb (kind_at img i) 3) refl
+    where
+      go : (b : Bool) → eqb (kind_at img i) 3 ≡ b → shown_at img c i ≡ first_width w.row
+      go true e =
+          let k = eqb-true (kind_at img i) 3 e in
+          shown_proxy img c i (name_at img i) k refl ∙ (record_told img i (name_at img i) w refl k).told c table
+      go false e = let k = eqb-false (kind_at img i) 3 e in shown_plain img c i k ∙ plain img i w k
 
 -- ── along the row ──
 

@@ -3,31 +3,20 @@
 
 ghost use Rattle.std.specs.Prelude.{◌≡◌, ◌+◌, ◌<◌, length};
 ghost use Rattle.model.specs.Limits.{longest_path};
+ghost use Rattle.model.specs.Answers.{write_result};
 ghost use Rattle.model.specs.Calls.Check.{check_of};
 ghost use Rattle.model.specs.Calls.Climb.{climb_of};
-ghost use Rattle.theory_layout.specs.Widths.{Widths, first_width};
+ghost use Rattle.theory_layout.specs.Widths.{Widths};
 ghost use Rattle.read_next.specs.Scan.{NodeAt};
 ghost use Rattle.read_climb.specs.Route.{spot, before};
 ghost use Rattle.read_climb.specs.Rise.{Rose, place_at_byte};
-ghost use Rattle.read_climb.specs.Search.{SomeRowAt, Search, Tracing, number_of, way_of, Wrote};
+ghost use Rattle.read_climb.specs.Search.{Search, Tracing, number_of, way_of, Wrote};
 
-use base_layout::{back_at, name_at, size_at};
+use base_layout::{back_at, size_at};
 use base_numbers::{copy_in, put32};
-use model::{Place, Settings, WriteAnswer};
-use read_find::row_start;
+use model::{Place, Refusal, Settings};
+use read_find::{nodes_shown, row_start};
 use read_next::{find_proxy, node_at};
-
-// How many nodes the one at byte i shows: a proxy as many as its record, which `widths` has.
-fn nodes_in(image: &[u8], widths: &[u32], i: usize) -> usize
-    requires { SomeRowAt image.now i × Widths image.now widths.now }
-    ensures { (w : SomeRowAt image.now i) → result ≡ first_width w.row }
-{
-    if image[i] != 3 {
-        return 1;
-    }
-    let p = name_at(image, i);
-    widths[p] as usize
-}
 
 // A node of a row, and how many nodes the row shows before it.
 #[derive(Clone, Copy)]
@@ -44,8 +33,8 @@ fn child_at(image: &[u8], widths: &[u32], pos: usize, target: usize) -> Child
     let mut i = pos;
     let mut n = 0;
     while i + size_at(image, i) <= target {
-        n = n + nodes_in(image, widths, i);
-        i = i + size_at(image, i);
+        n += nodes_shown(image, widths, i);
+        i += size_at(image, i);
     }
     Child { at: i, before: n }
 }
@@ -116,35 +105,25 @@ fn climb_path(image: &[u8], widths: &[u32], pos: usize, path: &mut [u8; Settings
         let holder = back_at(image, Settings::PAGE * page);
         target = find_proxy(image, holder, page);
         page = holder;
-        left = left - 1;
+        left -= 1;
     }
 }
 
-// Climb: writes the path of the node at a place to the front of the buffer; 10 where no node stands, 11 where the buffer is short.
-pub fn climb_of(image: &[u8], widths: &[u32], x: Place, buffer: &mut [u8]) -> WriteAnswer
+// Climb: writes the path of the node at a place to the front of the buffer; how many bytes.
+pub fn climb_of(image: &[u8], widths: &[u32], x: Place, buffer: &mut [u8]) -> Result<usize, Refusal>
     requires { (check_of image.now ≡ 0) × Widths image.now widths.now }
-    ensures { (result ≡ (climb_of image.now x buffer.old).0) × (buffer.new
+    ensures { (write_result result ≡ (climb_of image.now x buffer.old).0) × (buffer.new
         ≡ (climb_of image.now x buffer.old).1) }
 {
-    let pos = node_at(image, x.page, x.offset);
-    if pos == 0 {
-        return WriteAnswer {
-            number: 10,
-            written: 0,
-        };
-    }
+    let Some(pos) = node_at(image, x) else {
+        return Err(Refusal::NoPlaceThere);
+    };
     let mut path = [0u8; Settings::PATH];
     let at = climb_path(image, widths, pos, &mut path);
     let n = Settings::PATH - at;
     if buffer.len() < n {
-        return WriteAnswer {
-            number: 11,
-            written: 0,
-        };
+        return Err(Refusal::ShortBuffer);
     }
-    copy_in(&path[at..92], buffer, 0);
-    WriteAnswer {
-        number: 0,
-        written: n,
-    }
+    copy_in(&path[at..], buffer, 0);
+    Ok(n)
 }

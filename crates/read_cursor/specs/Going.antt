@@ -1,5 +1,5 @@
 -- A walk over a record in an image: the aggregates that it is in, and what it comes to.
-use Rattle.std.specs.Prelude.{◌≡◌, Bool, cond, not, ◌&&◌, ℕ, ◌+◌, ◌*◌, ◌-◌, ◌≤◌, ◌<◌, set, eqb, ltb, leb}
+use Rattle.std.specs.Prelude.{◌≡◌, Bool, cond, not, ◌&&◌, ℕ, ◌+◌, ◌-◌, ◌≤◌, ◌<◌, set, eqb, ltb, leb}
 use Rattle.std.proofs.Math.Path.{refl, sym, ap, subst}
 use Rattle.std.proofs.Common.{◌∙◌, true≢false, arith, get_or-set_same, get_or-set_other, eqb-true, ltb-true, ltb-false, lt-ltb, leb-true}
 use Rattle.std.proofs.Math.Bool.{true, false}
@@ -20,6 +20,7 @@ use Rattle.read_find.specs.Rowed.{Rowed, past_first, children_of}
 use Rattle.read_cursor.specs.Way.{Way, met, way, begin, begin_case, begin_on, told, told_case, told_sought, told_stopped, told_written, told_full, Keeps, Fair, kept_fair, visit_keeps, visits, patch}
 use Rattle.read_cursor.specs.Meets.{entry_at, meets, meets_none, first, visits_leaf, visits_past, visits_open}
 use Rattle.read_cursor.specs.declared.Cursor.{Cursor}
+use Rattle.read_cursor.specs.declared.Level.{Level}
 
 abbrev pub cursor : (i end level n at next : ℕ) → Cursor
 cursor i e l n k x = record { i = i; end = e; level = l; n = n; at = k; next = x }
@@ -39,6 +40,14 @@ pub record Frame (img : List ℕ) (depth : ℕ) : Type 0 where
   pub n : ℕ
   pub here : ℕ
 
+-- As the code has it.
+abbrev pub level_of : (end n here : ℕ) → Level
+level_of e n h = record { end = e; n = n; here = h }
+
+-- No aggregate.
+abbrev pub no_level : Level
+no_level = level_of 0 0 0
+
 -- What a walk comes to: the row that is left, then what is behind the aggregates that it is in.
 unfoldable pub resume : {img : List ℕ} {depth : ℕ} (t : ℕ) → Way → (level i : ℕ) → Row → (n : ℕ) → List (Frame img depth) → Way × ℕ
 resume t w l i row n [] = (visits t w (meets l i row), n + width row)
@@ -53,24 +62,22 @@ resume_same t w v l m i k row rest n o (f ∷ fs) e d =
     λ j. resume t (patch f.here (d j) (e j)) f.level f.pos f.rest.row f.n fs
 
 -- An aggregate that a walk is in, as `stack` has it; the row inside has the level and ends at `end`. There are so many numbers in the buffer.
-pub record Framed {img : List ℕ} {depth : ℕ} (stack : List ℕ) (room level end : ℕ) (f : Frame img depth) : Type 0 where
+pub record Framed {img : List ℕ} {depth : ℕ} (stack : List Level) (room level end : ℕ) (f : Frame img depth) : Type 0 where
   pub up : f.level + 1 ≡ level
   pub starts : f.pos ≡ end
   pub tall : f.level + height f.rest.row ≤ most_levels + 1
   pub few : f.n + steps f.rest.row ≤ most_bytes
-  pub end_is : get_or stack (3 * f.level) 0 ≡ f.end
-  pub n_is : get_or stack (3 * f.level + 1) 0 ≡ f.n
-  pub here_is : get_or stack (3 * f.level + 2) 0 ≡ f.here
+  pub is : get_or stack f.level no_level ≡ level_of f.end f.n f.here
   pub written : 1 ≤ f.here → f.here + 8 ≤ room
 
 -- All of them, from the innermost on, up to the row of the record.
-unfoldable pub Stacked : {img : List ℕ} {depth : ℕ} (stack : List ℕ) (room base stop level end : ℕ) → List (Frame img depth) → Type 0
+unfoldable pub Stacked : {img : List ℕ} {depth : ℕ} (stack : List Level) (room base stop level end : ℕ) → List (Frame img depth) → Type 0
 Stacked stack room base stop level end [] = (level ≡ base) × (end ≡ stop)
 Stacked stack room base stop level end (f ∷ fs) = Framed stack room level end f × Stacked stack room base stop f.level f.end fs
 
 -- What stands in `stack` below a level is all that counts.
-pub stacked_kept : {img : List ℕ} {depth : ℕ} (stack after : List ℕ) (room base stop level end : ℕ) (fs : List (Frame img depth))
-    → ((j : ℕ) → j < 3 * level → get_or after j 0 ≡ get_or stack j 0) → Stacked stack room base stop level end fs → Stacked after room base stop level end fs
+pub stacked_kept : {img : List ℕ} {depth : ℕ} (stack after : List Level) (room base stop level end : ℕ) (fs : List (Frame img depth))
+    → ((j : ℕ) → j < level → get_or after j no_level ≡ get_or stack j no_level) → Stacked stack room base stop level end fs → Stacked after room base stop level end fs
 unfolding Stacked
 stacked_kept stack after room base stop level end [] k s = s
 stacked_kept stack after room base stop level end (f ∷ fs) k s =
@@ -80,20 +87,18 @@ stacked_kept stack after room base stop level end (f ∷ fs) k s =
         starts = a.starts;
         tall = a.tall;
         few = a.few;
-        end_is = k _ (omega (arith, a.up)) ∙ a.end_is;
-        n_is = k _ (omega (arith, a.up)) ∙ a.n_is;
-        here_is = k _ (omega (arith, a.up)) ∙ a.here_is;
+        is = k _ (omega (arith, a.up)) ∙ a.is;
         written = a.written;
       },
       stacked_kept stack after room base stop f.level f.end fs (λ j h. k j (omega (arith, a.up))) s.1,
     )
 
-pub stacked_room : {img : List ℕ} {depth : ℕ} (stack : List ℕ) (room other base stop level end : ℕ) (fs : List (Frame img depth)) → room ≡ other
+pub stacked_room : {img : List ℕ} {depth : ℕ} (stack : List Level) (room other base stop level end : ℕ) (fs : List (Frame img depth)) → room ≡ other
     → Stacked stack room base stop level end fs → Stacked stack other base stop level end fs
 stacked_room stack room other base stop level end fs e s = subst (λ (n : ℕ). Stacked stack n base stop level end fs) e s
 
 -- A row ends no later than the record's, and its level is not above the record's.
-pub stacked_within : {img : List ℕ} {depth : ℕ} (stack : List ℕ) (room base stop level end : ℕ) (fs : List (Frame img depth))
+pub stacked_within : {img : List ℕ} {depth : ℕ} (stack : List Level) (room base stop level end : ℕ) (fs : List (Frame img depth))
     → Stacked stack room base stop level end fs → (end ≤ stop) × (base ≤ level)
 unfolding Stacked
 stacked_within stack room base stop level end [] s = (omega arith, omega arith)
@@ -115,35 +120,35 @@ pub record Goal : Type 0 where
   pub depth : ℕ
   pub base : ℕ
   pub stop : ℕ
-  pub stack : List ℕ
+  pub stack : List Level
   pub room : ℕ
   pub names : (page : ℕ) → ℕ
   pub result : Way × ℕ
 
-pub record Going (img : List ℕ) (t : ℕ) (g : Goal) (c : Cursor) (stack out : List ℕ) : Type 0 where
+pub record Going (img : List ℕ) (t : ℕ) (g : Goal) (c : Cursor) (stack : List Level) (out : List ℕ) : Type 0 where
   pub rest : Rowed img c.i c.end g.depth
   pub tall : c.level + height rest.row ≤ most_levels + 1
   pub fair : Fair (reached c out)
   pub few : c.n + steps rest.row ≤ most_bytes
-  pub sized : length stack ≡ 75
+  pub sized : length stack ≡ 25
   pub long : length out ≡ g.room
   pub frames : List (Frame img g.depth)
   pub stacked : Stacked stack (length out) g.base g.stop c.level c.end frames
   pub left : (q : ℕ) → count q rest.row + named_in q frames ≤ g.names q
   pub whole : resume t (reached c out) c.level c.i rest.row c.n frames ≡ g.result
-  pub kept : (j : ℕ) → j < 3 * g.base → get_or stack j 0 ≡ get_or g.stack j 0
+  pub kept : (j : ℕ) → j < g.base → get_or stack j no_level ≡ get_or g.stack j no_level
 
 -- The same of what is said by equations.
-pub going_as : {img : List ℕ} {t : ℕ} {g : Goal} {c d : Cursor} {stack held out : List ℕ} → d ≡ c → held ≡ stack → Going img t g c stack out → Going img t g d held out
+pub going_as : {img : List ℕ} {t : ℕ} {g : Goal} {c d : Cursor} {stack held : List Level} {out : List ℕ} → d ≡ c → held ≡ stack → Going img t g c stack out → Going img t g d held out
 going_as {img} {t} {g} {c} {d} {stack} {held} {out} e q w =
-    subst (λ (s : List ℕ). Going img t g d s out) (sym q) (subst (λ (x : Cursor). Going img t g x stack out) (sym e) w)
+    subst (λ (s : List Level). Going img t g d s out) (sym q) (subst (λ (x : Cursor). Going img t g x stack out) (sym e) w)
 
-pub record AtNode (img : List ℕ) (t : ℕ) (g : Goal) (c : Cursor) (stack out : List ℕ) : Type 0 where
+pub record AtNode (img : List ℕ) (t : ℕ) (g : Goal) (c : Cursor) (stack : List Level) (out : List ℕ) : Type 0 where
   pub going : Going img t g c stack out
   pub some : c.i < c.end
   pub plain : kind_at img c.i ≡ 3 → ⊥
 
-pub record AtEnd (img : List ℕ) (t : ℕ) (g : Goal) (c : Cursor) (stack out : List ℕ) : Type 0 where
+pub record AtEnd (img : List ℕ) (t : ℕ) (g : Goal) (c : Cursor) (stack : List Level) (out : List ℕ) : Type 0 where
   pub going : Going img t g c stack out
   pub none : c.i ≡ c.end
   pub inner : g.base < c.level
@@ -193,8 +198,8 @@ written_dealt {img} {t} {c} {out} m at after r e k q = record {
 }
 
 -- What the stack has once an aggregate is entered: what is behind it.
-abbrev pub saved : (stack : List ℕ) → Cursor → (here : ℕ) → List ℕ
-saved stack c here = set (set (set stack (3 * c.level) c.end) (3 * c.level + 1) (c.n + 1)) (3 * c.level + 2) here
+abbrev pub saved : (stack : List Level) → Cursor → (here : ℕ) → List Level
+saved stack c here = set stack c.level (level_of c.end (c.n + 1) here)
 
 -- An aggregate with children is entered unless the walk has stopped.
 abbrev pub enters : (kind size next : ℕ) → Bool
@@ -252,7 +257,7 @@ holds_none (agg l cs rest) h k = go (ltb 6 (6 + size cs)) refl
 holds_none (lit l c rest) h k = refl
 holds_none (rec p s r rest) h k = refl
 
-module _ {img : List ℕ} {t : ℕ} {g : Goal} {c : Cursor} {stack out : List ℕ} (a : AtNode img t g c stack out) where
+module _ {img : List ℕ} {t : ℕ} {g : Goal} {c : Cursor} {stack : List Level} {out : List ℕ} (a : AtNode img t g c stack out) where
   abbrev row : Row
   row = a.going.rest.row
 
@@ -408,19 +413,8 @@ module _ {img : List ℕ} {t : ℕ} {g : Goal} {c : Cursor} {stack out : List �
             (told_case here c.i (entry 0) c.next out Roomy (λ y z. (z, λ l. absurd (omega arith))) (λ x y z. absurd (y z)) (λ x y r z. (y, λ l. r))
             (λ x y r z. absurd (omega arith)))
 
-    saved_long : length (saved stack c here) ≡ 75
-    saved_long =
-        let one = set stack (3 * c.level) c.end in
-        let two = set one (3 * c.level + 1) (c.n + 1) in
-        length-set two (3 * c.level + 2) here ∙ length-set one (3 * c.level + 1) (c.n + 1) ∙ length-set stack (3 * c.level) c.end ∙ a.going.sized
-
-    saved_below : (j : ℕ) → j < 3 * c.level → get_or (saved stack c here) j 0 ≡ get_or stack j 0
-    saved_below j h =
-        let one = set stack (3 * c.level) c.end in
-        let two = set one (3 * c.level + 1) (c.n + 1) in
-        get_or-set_other two (3 * c.level + 2) j here 0 (λ z. omega arith)
-        ∙ get_or-set_other one (3 * c.level + 1) j (c.n + 1) 0 (λ z. omega arith)
-        ∙ get_or-set_other stack (3 * c.level) j c.end 0 (λ z. omega arith)
+    saved_below : (j : ℕ) → j < c.level → get_or (saved stack c here) j no_level ≡ get_or stack j no_level
+    saved_below j h = get_or-set_other stack c.level j (level_of c.end (c.n + 1) here) no_level (λ z. omega arith)
 
     -- What is behind the node, once it is entered.
     abbrev frame : Frame img g.depth
@@ -429,25 +423,14 @@ module _ {img : List ℕ} {t : ℕ} {g : Goal} {c : Cursor} {stack out : List �
     framed : (1 ≤ here → here + 8 ≤ length out) → Framed (saved stack c here) (length after) (c.level + 1) (c.i + m) frame
     framed room =
         let l = a.going.sized in
-        let one = set stack (3 * c.level) c.end in
-        let two = set one (3 * c.level + 1) (c.n + 1) in
         let low = (node_here m long).high in
-        let a₁ = length-set stack (3 * c.level) c.end in
-        let a₂ = length-set one (3 * c.level + 1) (c.n + 1) in
         let less = parts_less row some in
         record {
           up = refl;
           starts = refl;
           tall = omega (arith, (heights row some).1, a.going.tall);
           few = omega (arith, a.going.few);
-          end_is =
-              get_or-set_other two (3 * c.level + 2) (3 * c.level) here 0 (λ z. omega arith)
-              ∙ get_or-set_other one (3 * c.level + 1) (3 * c.level) (c.n + 1) 0 (λ z. omega arith)
-              ∙ get_or-set_same stack (3 * c.level) c.end 0 (omega arith);
-          n_is =
-              get_or-set_other two (3 * c.level + 2) (3 * c.level + 1) here 0 (λ z. omega arith)
-              ∙ get_or-set_same one (3 * c.level + 1) (c.n + 1) 0 (omega arith);
-          here_is = get_or-set_same two (3 * c.level + 2) here 0 (omega arith);
+          is = get_or-set_same stack c.level (level_of c.end (c.n + 1) here) no_level (omega arith);
           written = λ h. omega (arith, room h, keeps.long);
         }
 
@@ -473,7 +456,7 @@ module _ {img : List ℕ} {t : ℕ} {g : Goal} {c : Cursor} {stack out : List �
           tall = omega (arith, (heights row some).0 u.kind, w.tall);
           fair = kept_fair keeps;
           few = omega (arith, w.few);
-          sized = saved_long;
+          sized = length-set stack c.level (level_of c.end (c.n + 1) here) ∙ w.sized;
           long = keeps.long ∙ w.long;
           frames = frame ∷ w.frames;
           stacked = (
@@ -494,7 +477,7 @@ module _ {img : List ℕ} {t : ℕ} {g : Goal} {c : Cursor} {stack out : List �
 pub row_none : (row : Row) → size row ≡ 0 → width row ≡ 0
 row_none row e = sym (none_width row (sym e))
 
-module _ {img : List ℕ} {t : ℕ} {g : Goal} {c : Cursor} {stack out : List ℕ} where
+module _ {img : List ℕ} {t : ℕ} {g : Goal} {c : Cursor} {stack : List Level} {out : List ℕ} where
   -- The aggregate that ends.
   record Closing (w : Going img t g c stack out) : Type 0 where
     frame : Frame img g.depth
@@ -514,35 +497,37 @@ module _ {img : List ℕ} {t : ℕ} {g : Goal} {c : Cursor} {stack out : List �
       go [] s l q = absurd (omega (arith, s.0))
       go (f ∷ fs) s l q = record { frame = f; frames = fs; framed = s.0; stacked = s.1; left = λ p. omega (arith, l p); whole = q }
 
-module _ {img : List ℕ} {t : ℕ} {g : Goal} {c : Cursor} {stack out : List ℕ} (a : AtEnd img t g c stack out) where
+module _ {img : List ℕ} {t : ℕ} {g : Goal} {c : Cursor} {stack : List Level} {out : List ℕ} (a : AtEnd img t g c stack out) where
   abbrev last : Closing a.going
   last = closing a.going a.inner
 
-  -- Where the stack has what is behind it.
-  abbrev slot : ℕ
-  slot = 3 * (c.level - 1)
+  -- What the stack has of what is behind it.
+  abbrev saved_there : Level
+  saved_there = get_or stack (c.level - 1) no_level
 
-  slot_is : slot ≡ 3 * last.frame.level
-  slot_is = omega (arith, last.framed.up)
+  is_there : saved_there ≡ level_of last.frame.end last.frame.n last.frame.here
+  is_there =
+      let e : c.level - 1 ≡ last.frame.level = omega (arith, last.framed.up) in
+      ap (λ (k : ℕ). get_or stack k no_level) e ∙ last.framed.is
 
-  closed_here : get_or stack (slot + 2) 0 ≡ last.frame.here
-  closed_here = ap (λ (k : ℕ). get_or stack (k + 2) 0) slot_is ∙ last.framed.here_is
+  closed_here : saved_there.here ≡ last.frame.here
+  closed_here = ap (λ (l : Level). l.here) is_there
 
-  pub closed_room : (get_or stack (slot + 2) 0 ≡ 0 → ⊥) → get_or stack (slot + 2) 0 + 8 ≤ length out
+  pub closed_room : (saved_there.here ≡ 0 → ⊥) → saved_there.here + 8 ≤ length out
   closed_room z = omega (arith, closed_here, last.framed.written (omega (arith, closed_here)))
 
   -- The number of children is written, if there is an entry.
-  counted_way : (after : List ℕ) → after ≡ cond (eqb (get_or stack (slot + 2) 0) 0) out (set out (get_or stack (slot + 2) 0 + 5) c.n)
-      → reached c after ≡ patch (get_or stack (slot + 2) 0) c.n (reached c out)
-  counted_way after e = ap (reached c) e ∙ go (eqb (get_or stack (slot + 2) 0) 0)
+  counted_way : (after : List ℕ) → after ≡ cond (eqb (saved_there.here) 0) out (set out (saved_there.here + 5) c.n)
+      → reached c after ≡ patch (saved_there.here) c.n (reached c out)
+  counted_way after e = ap (reached c) e ∙ go (eqb (saved_there.here) 0)
     where
-      go : (b : Bool) → reached c (cond b out (set out (get_or stack (slot + 2) 0 + 5) c.n))
-          ≡ cond b (reached c out) (reached c (set out (get_or stack (slot + 2) 0 + 5) c.n))
+      go : (b : Bool) → reached c (cond b out (set out (saved_there.here + 5) c.n))
+          ≡ cond b (reached c out) (reached c (set out (saved_there.here + 5) c.n))
       go true = refl
       go false = refl
 
-  pub closed : (after : List ℕ) → after ≡ cond (eqb (get_or stack (slot + 2) 0) 0) out (set out (get_or stack (slot + 2) 0 + 5) c.n)
-      → Going img t g (cursor c.i (get_or stack slot 0) (c.level - 1) (get_or stack (slot + 1) 0) c.at c.next) stack after
+  pub closed : (after : List ℕ) → after ≡ cond (eqb (saved_there.here) 0) out (set out (saved_there.here + 5) c.n)
+      → Going img t g (cursor c.i (saved_there.end) (c.level - 1) (saved_there.n) c.at c.next) stack after
   unfolding resume visits
   closed after q =
       let e = counted_way after q in
@@ -551,9 +536,9 @@ module _ {img : List ℕ} {t : ℕ} {g : Goal} {c : Cursor} {stack out : List �
       let w = a.going in
       let z : size w.rest.row ≡ 0 = omega (arith, w.rest.ends, a.none) in
       let i-is : c.i ≡ f.pos = a.none ∙ sym u.framed.starts in
-      let end_is : get_or stack slot 0 ≡ f.end = ap (λ (k : ℕ). get_or stack k 0) slot_is ∙ u.framed.end_is in
+      let end_is : saved_there.end ≡ f.end = ap (λ (l : Level). l.end) is_there in
       let level_is : c.level - 1 ≡ f.level = omega (arith, u.framed.up) in
-      let n_is : get_or stack (slot + 1) 0 ≡ f.n = ap (λ (k : ℕ). get_or stack (k + 1) 0) slot_is ∙ u.framed.n_is in
+      let n_is : saved_there.n ≡ f.n = ap (λ (l : Level). l.n) is_there in
       let long : length after ≡ length out = ap (λ (v : Way). length v.out) e ∙ patch_long in
       let there : Going img t g (cursor f.pos f.end f.level f.n c.at c.next) stack after = record {
         rest = f.rest;
@@ -573,12 +558,12 @@ module _ {img : List ℕ} {t : ℕ} {g : Goal} {c : Cursor} {stack out : List �
       } in
       subst (λ (d : Cursor). Going img t g d stack after) (λ j. cursor (sym i-is j) (sym end_is j) (sym level_is j) (sym n_is j) c.at c.next) there
     where
-      patch_long : length (patch (get_or stack (slot + 2) 0) c.n (reached c out)).out ≡ length out
-      patch_long = go (eqb (get_or stack (slot + 2) 0) 0)
+      patch_long : length (patch (saved_there.here) c.n (reached c out)).out ≡ length out
+      patch_long = go (eqb (saved_there.here) 0)
         where
-          go : (b : Bool) → length (cond b (reached c out) (way c.at c.next (set out (get_or stack (slot + 2) 0 + 5) c.n))).out ≡ length out
+          go : (b : Bool) → length (cond b (reached c out) (way c.at c.next (set out (saved_there.here + 5) c.n))).out ≡ length out
           go true = refl
-          go false = length-set out (get_or stack (slot + 2) 0 + 5) c.n
+          go false = length-set out (saved_there.here + 5) c.n
 
       counted : size a.going.rest.row ≡ 0 → c.n ≡ c.n + width a.going.rest.row
       counted z = omega (arith, row_none a.going.rest.row z)

@@ -1,3 +1,4 @@
 pub mod Way
 pub mod Meets
+pub mod Entries
 pub mod Going

@@ -1,5 +1,5 @@
 -- What a walk over the root's record leaves is what Walk answers.
-use Rattle.std.specs.Prelude.{◌≡◌, refl, Bool, true, false, cond, List, [], ◌∷◌, ◌++◌, map, ℕ, zero, suc, ◌+◌, ◌*◌, ◌-◌, ◌/◌, ◌≤◌, take, drop, eqb}
+use Rattle.std.specs.Prelude.{◌≡◌, None, refl, Bool, true, false, cond, List, [], ◌∷◌, ◌++◌, map, ℕ, zero, suc, ◌+◌, ◌*◌, ◌-◌, ◌/◌, ◌≤◌, take, drop, eqb}
 use Rattle.std.proofs.Common.{sym, subst, ◌∙◌, append_assoc, arith, ne_eqb, length-append, length-drop, take_at, drop-drop}
 use Rattle.std.proofs.Math.Path.{ap}
 use Rattle.std.proofs.Math.ListN.{length}
@@ -13,7 +13,7 @@ use Rattle.model.specs.Answers.{no_place, walk_refused}
 use Rattle.model.specs.Calls.Check.{check_of}
 use Rattle.model.specs.Calls.Walk.{joined, entries_of, walk_answer, walk_from, walk_in, walk_of}
 use Rattle.model.specs.declared.Place.{Place}
-use Rattle.model.specs.declared.WalkAnswer.{WalkAnswer}
+use Rattle.model.specs.Answers.{WalkAnswer}
 use Rattle.theory_rows.specs.Image.{once}
 use Rattle.theory_decoding.specs.Reading.{reads_valid}
 use Rattle.theory_decoding.specs.Steps.{few_steps}
@@ -196,11 +196,11 @@ root_met img st root r t w v e =
 -- ── the call ──
 
 module _ (img : List ℕ) (x : Place) (out : List ℕ) where
-  pub walk_stray : (t : ℕ) → check_of img ≡ 0 → Located img x.page x.offset t → t ≡ 0 → (walk_refused 10, out) ≡ walk_of img x out
+  pub walk_stray : check_of img ≡ 0 → Located img x.page x.offset None → (walk_refused 10, out) ≡ walk_of img x out
   unfolding walk_of walk_in
-  walk_stray t z l e =
+  walk_stray z l =
       let s = store_of img z in
-      let none = from_none (place_of s.root) x (nodes (shown s.root)) (l.stray e s.settings s.root s.reads) in
+      let none = from_none (place_of s.root) x (nodes (shown s.root)) (l s.settings s.root s.reads) in
       rw (opens img s.settings s.root s.reads, none)
 
   -- Of the record on page 1, as any reading of it.

@@ -14,8 +14,9 @@ use Rattle.theory_layout.specs.Widths.{Widths}
 use Rattle.read_find.specs.Rowed.{Rowed, start_on, end_on, Entered, enter, width_steps}
 use Rattle.read_cursor.specs.Way.{Way, way, Fair, kept_fair, visits, visits-++, visits_keeps, visits_stopped}
 use Rattle.read_cursor.specs.Meets.{meets, meets_none}
-use Rattle.read_cursor.specs.Going.{cursor, reached, Frame, resume, resume_same, Stacked, stacked_kept, stacked_room, stacked_within, named_in, Goal, Going, AtNode, AtEnd, row_none}
+use Rattle.read_cursor.specs.Going.{cursor, no_level, reached, Frame, resume, resume_same, Stacked, stacked_kept, stacked_room, stacked_within, named_in, Goal, Going, AtNode, AtEnd, row_none}
 use Rattle.read_cursor.specs.declared.Cursor.{Cursor}
+use Rattle.read_cursor.specs.declared.Level.{Level}
 
 -- The record on a page, whose nodes have the level, with records nested at most `depth` deep below it.
 pub record Recorded (img : List ℕ) (page level depth : ℕ) : Type 0 where
@@ -25,7 +26,7 @@ pub record Recorded (img : List ℕ) (page level depth : ℕ) : Type 0 where
 
 -- ── its start ──
 
-module _ {img : List ℕ} {page level depth : ℕ} (w : Recorded img page level depth) (t at next n : ℕ) (stack out : List ℕ) where
+module _ {img : List ℕ} {page level depth : ℕ} (w : Recorded img page level depth) (t at next n : ℕ) (stack : List Level) (out : List ℕ) where
   -- n nodes are counted before it.
   abbrev pub goal : Goal
   goal = record {
@@ -38,7 +39,7 @@ module _ {img : List ℕ} {page level depth : ℕ} (w : Recorded img page level 
     result = (visits t (way at next out) (meets level (start_on img page) w.rowed.row), n + width w.rowed.row);
   }
 
-  pub going_start : Fair (way at next out) → length stack ≡ 75 → n + steps w.rowed.row ≤ most_bytes
+  pub going_start : Fair (way at next out) → length stack ≡ 25 → n + steps w.rowed.row ≤ most_bytes
       → Going img t goal (cursor (start_on img page) (end_on img page) level n at next) stack out
   unfolding Stacked named_in resume
   going_start fair sized few = record {
@@ -57,7 +58,7 @@ module _ {img : List ℕ} {page level depth : ℕ} (w : Recorded img page level 
 
 -- ── where a walk is ──
 
-module _ {img : List ℕ} {t : ℕ} {g : Goal} {c : Cursor} {stack out : List ℕ} (w : Going img t g c stack out) where
+module _ {img : List ℕ} {t : ℕ} {g : Goal} {c : Cursor} {stack : List Level} {out : List ℕ} (w : Going img t g c stack out) where
   pub within : (c.i ≤ c.end) × (c.end < most_bytes) × (g.base ≤ c.level)
   within =
       let x = w.rest.here in
@@ -107,7 +108,7 @@ module _ {img : List ℕ} {t : ℕ} {g : Goal} {c : Cursor} {stack out : List �
 abbrev pub naming : Goal → (names : ℕ → ℕ) → Goal
 naming g m = record { depth = g.depth; base = g.base; stop = g.stop; stack = g.stack; room = g.room; names = m; result = g.result }
 
-module _ {img : List ℕ} {t : ℕ} {g : Goal} {c : Cursor} {stack out : List ℕ} (w : Going img t g c stack out) (some : c.i < c.end)
+module _ {img : List ℕ} {t : ℕ} {g : Goal} {c : Cursor} {stack : List Level} {out : List ℕ} (w : Going img t g c stack out) (some : c.i < c.end)
     (kind : kind_at img c.i ≡ 3) (p : ℕ) (named : p ≡ name_at img c.i) where
   abbrev pub entered : Entered img c.i c.end g.depth p w.rest.row
   entered = enter img c.i c.end g.depth p some kind named w.rest
@@ -148,9 +149,9 @@ module _ {img : List ℕ} {t : ℕ} {g : Goal} {c : Cursor} {stack out : List �
   names_both q = omega (arith, w.left q, ap (count q) entered.is)
 
   -- Once it is walked, and the count is n.
-  module _ (n : ℕ) (wide : n ≡ c.n + width entered.inside.row) (at next : ℕ) (after left : List ℕ)
+  module _ (n : ℕ) (wide : n ≡ c.n + width entered.inside.row) (at next : ℕ) (after : List Level) (left : List ℕ)
       (walked : way at next left ≡ visits t (reached c out) (meets c.level (start_on img p) entered.inside.row))
-      (below : (j : ℕ) → j < 3 * c.level → get_or after j 0 ≡ get_or stack j 0) (sized : length after ≡ 75) where
+      (below : (j : ℕ) → j < c.level → get_or after j no_level ≡ get_or stack j no_level) (sized : length after ≡ 25) where
     met_both : visits t (reached c out) (meets c.level c.i w.rest.row) ≡ visits t (way at next left) (meets c.level (c.i + 8) entered.after.row)
     unfolding meets
     met_both =
@@ -184,8 +185,8 @@ module _ {img : List ℕ} {t : ℕ} {g : Goal} {c : Cursor} {stack out : List �
         }
 
   -- Once a walk over its record has come to its result,
-  pub proxy_walked : {n at next : ℕ} {after left : List ℕ} → ◌≡◌ {A = Way × ℕ} (way at next left, n) inner.result
-      → ((j : ℕ) → j < 3 * c.level → get_or after j 0 ≡ get_or stack j 0) → length after ≡ 75
+  pub proxy_walked : {n at next : ℕ} {after : List Level} {left : List ℕ} → ◌≡◌ {A = Way × ℕ} (way at next left, n) inner.result
+      → ((j : ℕ) → j < c.level → get_or after j no_level ≡ get_or stack j no_level) → length after ≡ 25
       → Going img t outer (cursor (c.i + 8) c.end c.level n at next) after left
   proxy_walked {n} {at} {next} {after} {left} e below sized =
       proxy_passed n (ap (λ (p : Way × ℕ). p.1) e) at next after left (ap (λ (p : Way × ℕ). p.0) e) below sized outer.names (λ q. omega arith)

@@ -15,11 +15,13 @@ use Rattle.theory_layout.specs.Here.{PageIn}
 use Rattle.base_ranges.specs.Tables.{Zeros}
 use Rattle.read_find.specs.Rowed.{start_on, end_on}
 use Rattle.read_cursor.specs.Way.{Way}
-use Rattle.read_cursor.specs.Going.{cursor, reached, Goal, Going}
+use Rattle.read_cursor.specs.Going.{cursor, no_level, reached, Goal, Going}
 use Rattle.read_cursor.specs.declared.Cursor.{Cursor}
+use Rattle.read_cursor.specs.declared.Level.{Level}
 use Rattle.read_entries.specs.Nested.{Recorded, goal, going_start, naming, within, at_stop, at_last, entered, nested, named_level, inner as inner_goal, outer as outer_goal, going_in, names_both, proxy_walked}
 use Rattle.read_nest.specs.declared.Nest.{Nest}
-use Rattle.read_nest.specs.Nest.{nest, inner, kept, held_in, way_out, behind_of, outer, Leaving}
+use Rattle.read_nest.specs.declared.Held.{Held}
+use Rattle.read_nest.specs.Nest.{nest, held_of, no_held, inner, kept, held_in, way_out, behind_of, outer, Leaving}
 
 -- ── the records that a walk is in ──
 
@@ -32,7 +34,7 @@ pub record Rooted (img : List ℕ) : Type 0 where
 pub record Holder (img : List ℕ) (t : ℕ) : Type 0 where
   pub g : Goal
   pub c : Cursor
-  pub stack : List ℕ
+  pub stack : List Level
   pub out : List ℕ
   pub going : Going img t g c stack out
   pub some : c.i < c.end
@@ -68,20 +70,19 @@ pub record Top (img : List ℕ) (final : Way × ℕ) (room : ℕ) (g : Goal) : T
   pub final_is : g.result ≡ final
 
 -- A record whose holder is inside `depth` nested records, as the tables have it.
-pub record Link {img : List ℕ} {t : ℕ} (back held : List ℕ) (since : ℕ) (g : Goal) (h : Holder img t) (depth : ℕ) : Type 0 where
+pub record Link {img : List ℕ} {t : ℕ} (back : List ℕ) (held : List Held) (since : ℕ) (g : Goal) (h : Holder img t) (depth : ℕ) : Type 0 where
   pub goal_is : g ≡ naming (inside h) g.names
   pub back_is : get_or back h.page 0 ≡ h.c.i + 8
   pub low : h.since ≤ depth
-  pub own : depth + 1 ≡ since
-      → (get_or held (3 * h.c.level) 0 ≡ h.c.end) × (get_or held (3 * h.c.level + 1) 0 ≡ h.g.base) × (get_or held (3 * h.c.level + 2) 0 ≡ h.since)
+  pub own : depth + 1 ≡ since → get_or held h.c.level no_held ≡ held_of h.c.end h.g.base h.since
   pub same : (depth + 1 ≡ since → ⊥) → (h.c.level ≡ h.g.base) × (since ≡ h.since)
 
-unfoldable pub Chain : {img : List ℕ} {t : ℕ} (final : Way × ℕ) (room : ℕ) (back held : List ℕ) (since : ℕ) → Goal → List (Holder img t) → Type 0
+unfoldable pub Chain : {img : List ℕ} {t : ℕ} (final : Way × ℕ) (room : ℕ) (back : List ℕ) (held : List Held) (since : ℕ) → Goal → List (Holder img t) → Type 0
 Chain {img} final room back held since g [] = Top img final room g
 Chain final room back held since g (h ∷ hs) = Link back held since g h (length hs) × Chain final room back held h.since h.g hs
 
 -- How often its names are counted does not matter.
-chain_naming : {img : List ℕ} {t : ℕ} (final : Way × ℕ) (room : ℕ) (back held : List ℕ) (since : ℕ) (g : Goal) (m : ℕ → ℕ) (hs : List (Holder img t))
+chain_naming : {img : List ℕ} {t : ℕ} (final : Way × ℕ) (room : ℕ) (back : List ℕ) (held : List Held) (since : ℕ) (g : Goal) (m : ℕ → ℕ) (hs : List (Holder img t))
     → Chain final room back held since g hs → Chain final room back held since (naming g m) hs
 unfolding Chain
 chain_naming final room back held since g m [] x =
@@ -91,9 +92,9 @@ chain_naming final room back held since g m (h ∷ hs) x =
     (record { goal_is = ap (λ (v : Goal). naming v m) a.goal_is; back_is = a.back_is; low = a.low; own = a.own; same = a.same }, x.1)
 
 -- The numbers of the tables are those of the records that the walk is in, and of their levels.
-chain_as : {img : List ℕ} {t : ℕ} (final : Way × ℕ) (room : ℕ) (back back₁ held held₁ : List ℕ)
+chain_as : {img : List ℕ} {t : ℕ} (final : Way × ℕ) (room : ℕ) (back back₁ : List ℕ) (held held₁ : List Held)
     → ((q : ℕ) → (get_or back q 0 ≡ 0 → ⊥) → get_or back₁ q 0 ≡ get_or back q 0) → (since : ℕ) (g : Goal) (hs : List (Holder img t))
-    → ((j : ℕ) → j < 3 * g.base + 3 → get_or held₁ j 0 ≡ get_or held j 0) → Chain final room back held since g hs → Chain final room back₁ held₁ since g hs
+    → ((j : ℕ) → j ≤ g.base → get_or held₁ j no_held ≡ get_or held j no_held) → Chain final room back held since g hs → Chain final room back₁ held₁ since g hs
 unfolding Chain
 chain_as final room back back₁ held held₁ k since g [] l x = x
 chain_as final room back back₁ held held₁ k since g (h ∷ hs) l x =
@@ -104,7 +105,7 @@ chain_as final room back back₁ held held₁ k since g (h ∷ hs) l x =
         goal_is = a.goal_is;
         back_is = k h.page (λ z. omega (arith, a.back_is)) ∙ a.back_is;
         low = a.low;
-        own = λ e. let o = a.own e in (l _ (omega arith) ∙ o.0, l _ (omega arith) ∙ o.1, l _ (omega arith) ∙ o.2);
+        own = λ e. l _ (omega arith) ∙ a.own e;
         same = a.same;
       },
       chain_as final room back back₁ held held₁ k h.since h.g hs (λ j i. l j (omega arith)) x.1,
@@ -125,7 +126,7 @@ recorded_ends {img} {page} w =
     six true = omega arith
     six false = omega arith
 
-chain_page : {img : List ℕ} {t : ℕ} (final : Way × ℕ) (room : ℕ) (back held : List ℕ) (since : ℕ) (g : Goal) (hs : List (Holder img t))
+chain_page : {img : List ℕ} {t : ℕ} (final : Way × ℕ) (room : ℕ) (back : List ℕ) (held : List Held) (since : ℕ) (g : Goal) (hs : List (Holder img t))
     → Chain final room back held since g hs → Paged img (page_in hs) g.stop
 unfolding Chain
 chain_page final room back held since g [] x = record { on = x.on; ends = x.ends; stop_is = x.stop_is }
@@ -137,7 +138,7 @@ chain_page final room back held since g (h ∷ hs) x =
 
 -- What is left of the record at hand, then of each holder behind its proxy, comes to the final result. No page is named twice in what is left, nor one that
 -- was entered: those have a number in `back`.
-pub record Walking (img : List ℕ) (t : ℕ) (final : Way × ℕ) (room : ℕ) (back held : List ℕ) (w : Nest) (c : Cursor) (stack out : List ℕ) : Type 0 where
+pub record Walking (img : List ℕ) (t : ℕ) (final : Way × ℕ) (room : ℕ) (back : List ℕ) (held : List Held) (w : Nest) (c : Cursor) (stack : List Level) (out : List ℕ) : Type 0 where
   pub g : Goal
   pub going : Going img t g c stack out
   pub base_is : g.base ≡ w.base
@@ -148,7 +149,7 @@ pub record Walking (img : List ℕ) (t : ℕ) (final : Way × ℕ) (room : ℕ) 
   pub deep : w.depth + g.depth ≤ most_pages
   pub once : (q : ℕ) → cond (eqb (get_or back q 0) 0) 0 1 + g.names q + spared q holders ≤ 1
   pub back_long : length img ≤ page_size * length back
-  pub held_long : length held ≡ 75
+  pub held_long : length held ≡ 25
 
 -- How many pages were not entered yet.
 unfoldable pub fresh : (back : List ℕ) → ℕ
@@ -174,7 +175,7 @@ pub closed_less : (x base g₀ g i₀ l₀ i l end j k : ℕ) → g₀ ≡ base 
     → x + (2 * (4194304 - j) + (k - base)) < x + (2 * (4194304 - i₀) + (l₀ - base))
 closed_less x base g₀ g i₀ l₀ i l end j k e₀ e a b c d h p q f = omega arith
 
-pub walking_as : {img : List ℕ} {t : ℕ} {final : Way × ℕ} {room : ℕ} {back back₁ held held₁ : List ℕ} {v w : Nest} {c d : Cursor} {stack out : List ℕ}
+pub walking_as : {img : List ℕ} {t : ℕ} {final : Way × ℕ} {room : ℕ} {back back₁ : List ℕ} {held held₁ : List Held} {v w : Nest} {c d : Cursor} {stack : List Level} {out : List ℕ}
     → back₁ ≡ back → held₁ ≡ held → v ≡ w → d ≡ c → Walking img t final room back held w c stack out → Walking img t final room back₁ held₁ v d stack out
 walking_as {img} {t} {final} {room} {stack = stack} {out} p q e f x =
     coe 1 0 (j. Walking img t final room (p j) (q j) (e j) (f j) stack out) x
@@ -182,16 +183,16 @@ walking_as {img} {t} {final} {room} {stack = stack} {out} p q e f x =
 -- The start: no page was entered.
 module _ {img : List ℕ} (r : Rooted img) (t : ℕ) (out : List ℕ) where
   abbrev pub start : Goal
-  start = goal r.recorded t 0 0 0 (replicate 75 0) out
+  start = goal r.recorded t 0 0 0 (replicate 25 no_level) out
 
   pub walking_start : (back : List ℕ) → Zeros back → length img ≤ page_size * length back
-      → Walking img t start.result (length out) back (replicate 75 0) (nest 1 0 0)
-      (cursor (start_on img 1) (end_on img 1) 1 0 0 0) (replicate 75 0) out
+      → Walking img t start.result (length out) back (replicate 25 no_held) (nest 1 0 0)
+      (cursor (start_on img 1) (end_on img 1) 1 0 0 0) (replicate 25 no_level) out
   unfolding Chain spared
   walking_start back none long = record {
     g = start;
     going =
-        going_start r.recorded t 0 0 0 (replicate 75 0) out (record { low = omega arith; begun = λ z. absurd (z refl) }) (length-replicate {A = ℕ} 75 0)
+        going_start r.recorded t 0 0 0 (replicate 25 no_level) out (record { low = omega arith; begun = λ z. absurd (z refl) }) (length-replicate 25 no_level)
         (omega (arith, r.recorded.rowed.few));
     base_is = refl;
     holders = [];
@@ -201,13 +202,13 @@ module _ {img : List ℕ} (r : Rooted img) (t : ℕ) (out : List ℕ) where
     deep = omega arith;
     once = λ q. rw (none q) (omega (arith, r.once q));
     back_long = long;
-    held_long = length-replicate {A = ℕ} 75 0;
+    held_long = length-replicate 25 no_held;
   }
 
-module _ {img : List ℕ} {t : ℕ} {final : Way × ℕ} {room : ℕ} {back held : List ℕ} {w : Nest} {c : Cursor} {stack out : List ℕ}
+module _ {img : List ℕ} {t : ℕ} {final : Way × ℕ} {room : ℕ} {back : List ℕ} {held : List Held} {w : Nest} {c : Cursor} {stack : List Level} {out : List ℕ}
     (x : Walking img t final room back held w c stack out) where
   -- On in the same record.
-  pub walking_on : {d : Cursor} {after left : List ℕ} → Going img t x.g d after left → Walking img t final room back held w d after left
+  pub walking_on : {d : Cursor} {after : List Level} {left : List ℕ} → Going img t x.g d after left → Walking img t final room back held w d after left
   walking_on y = record {
     g = x.g;
     going = y;
@@ -267,22 +268,17 @@ module _ {img : List ℕ} {t : ℕ} {final : Way × ℕ} {room : ℕ} {back held
               ap {B = ℕ} (λ (n : ℕ). cond (eqb n 0) 0 1) (get_or-set_other back p q (c.i + 8) 0 (eqb-false q p e)),
             )
 
-    kept_below : (j : ℕ) → j < 3 * c.level → get_or (kept c w held) j 0 ≡ get_or held j 0
-    kept_below j h =
-        let one = set held (3 * c.level) c.end in
-        let two = set one (3 * c.level + 1) w.base in
-        get_or-set_other two (3 * c.level + 2) j w.since 0 (λ z. omega arith)
-        ∙ get_or-set_other one (3 * c.level + 1) j w.base 0 (λ z. omega arith)
-        ∙ get_or-set_other held (3 * c.level) j c.end 0 (λ z. omega arith)
+    kept_below : (j : ℕ) → j < c.level → get_or (kept c w held) j no_held ≡ get_or held j no_held
+    kept_below j h = get_or-set_other held c.level j (held_of c.end w.base w.since) no_held (λ z. omega arith)
 
     -- A proxy in the record's own row, or in an aggregate.
-    record Held (b : Bool) : Type 0 where
+    record Holding (b : Bool) : Type 0 where
       link : Link (set back p (c.i + 8)) (cond b held (kept c w held)) (cond b w.since (w.depth + 1)) (inside holder) holder (length x.holders)
-      below : (j : ℕ) → j < 3 * x.g.base + 3 → get_or (cond b held (kept c w held)) j 0 ≡ get_or held j 0
-      long : length (cond b held (kept c w held)) ≡ 75
+      below : (j : ℕ) → j ≤ x.g.base → get_or (cond b held (kept c w held)) j no_held ≡ get_or held j no_held
+      long : length (cond b held (kept c w held)) ≡ 25
       low : cond b w.since (w.depth + 1) ≤ w.depth + 1
 
-    held_in_lem : (b : Bool) → eqb c.level w.base ≡ b → Held b
+    held_in_lem : (b : Bool) → eqb c.level w.base ≡ b → Holding b
     held_in_lem true e =
         let level = eqb-true c.level w.base e in
         let back_is = get_or-set_same back p (c.i + 8) 0 (omega (arith, x.back_long, (entered x.going some kind p named).on.inside)) in
@@ -302,31 +298,19 @@ module _ {img : List ℕ} {t : ℕ} {final : Way × ℕ} {room : ℕ} {back held
         let level = eqb-false c.level w.base e in
         let up = (within x.going).2 in
         let high = named_level x.going some kind p named in
-        let one = set held (3 * c.level) c.end in
-        let two = set one (3 * c.level + 1) w.base in
-        let long₁ = length-set held (3 * c.level) c.end in
-        let long₂ = length-set one (3 * c.level + 1) w.base in
         let back_is = get_or-set_same back p (c.i + 8) 0 (omega (arith, x.back_long, (entered x.going some kind p named).on.inside)) in
-        let end_is : get_or (kept c w held) (3 * c.level) 0 ≡ c.end =
-        get_or-set_other two (3 * c.level + 2) (3 * c.level) w.since 0 (λ z. omega arith)
-        ∙ get_or-set_other one (3 * c.level + 1) (3 * c.level) w.base 0 (λ z. omega arith)
-        ∙ get_or-set_same held (3 * c.level) c.end 0 (omega (arith, x.held_long)) in
-        let base_is : get_or (kept c w held) (3 * c.level + 1) 0 ≡ x.g.base =
-        get_or-set_other two (3 * c.level + 2) (3 * c.level + 1) w.since 0 (λ z. omega arith)
-        ∙ get_or-set_same one (3 * c.level + 1) w.base 0 (omega (arith, x.held_long))
-        ∙ sym x.base_is in
-        let since_is : get_or (kept c w held) (3 * c.level + 2) 0 ≡ w.since =
-        get_or-set_same two (3 * c.level + 2) w.since 0 (omega (arith, x.held_long)) in
+        let there : get_or (kept c w held) c.level no_held ≡ held_of c.end w.base w.since =
+        get_or-set_same held c.level (held_of c.end w.base w.since) no_held (omega (arith, x.held_long)) in
         record {
           link = record {
             goal_is = refl;
             back_is = back_is;
             low = omega (arith, x.low, x.depth_is);
-            own = λ z. (end_is, base_is, since_is);
+            own = λ z. there ∙ (λ j. held_of c.end (sym x.base_is j) w.since);
             same = λ z. absurd (z (omega (arith, x.depth_is)));
           };
           below = λ j h. kept_below j (omega (arith, x.base_is));
-          long = length-set two (3 * c.level + 2) w.since ∙ long₂ ∙ long₁ ∙ x.held_long;
+          long = length-set held c.level (held_of c.end w.base w.since) ∙ x.held_long;
           low = omega arith;
         }
 
@@ -392,7 +376,7 @@ module _ {img : List ℕ} {t : ℕ} {final : Way × ℕ} {room : ℕ} {back held
       gone =
           proxy_walked h.going h.some h.kind h.page h.is_named
           (at_last x.going none level_is ∙ ap (λ (v : Goal). v.result) link.goal_is)
-          (λ j k. x.going.kept j (omega (arith, level_is, own_level)) ∙ ap (λ (v : Goal). get_or v.stack j 0) link.goal_is)
+          (λ j k. x.going.kept j (omega (arith, level_is, own_level)) ∙ ap (λ (v : Goal). get_or v.stack j no_level) link.goal_is)
           x.going.sized
 
       -- In the holder's own row: it ends where the record does.
@@ -415,19 +399,20 @@ module _ {img : List ℕ} {t : ℕ} {final : Way × ℕ} {room : ℕ} {back held
         around = λ z. subst (PageIn img) (sym (holder_page z).0) (chain_page final room back held h.since h.g hs up).on;
       }
 
-      end_is : (b : Bool) → eqb w.depth w.since ≡ b → cond b (get_or held (3 * c.level) 0) (end_on img (way_out c back / page_size)) ≡ h.c.end
-      end_is true e =
-          ap (λ (l : ℕ). get_or held (3 * l) 0) own_level ∙ (link.own (omega (arith, eqb-true w.depth w.since e))).0
+      -- What is kept of the aggregate in which the holder stands.
+      held_is : w.depth ≡ w.since → get_or held c.level no_held ≡ held_of h.c.end h.g.base h.since
+      held_is e = ap (λ (l : ℕ). get_or held l no_held) own_level ∙ link.own (omega (arith, e))
+
+      end_is : (b : Bool) → eqb w.depth w.since ≡ b → cond b (get_or held c.level no_held).end (end_on img (way_out c back / page_size)) ≡ h.c.end
+      end_is true e = ap (λ (k : Held). k.end) (held_is (eqb-true w.depth w.since e))
       end_is false e = let p = holder_page (eqb-false w.depth w.since e) in ap (end_on img) p.0 ∙ p.1
 
-      base_is : (b : Bool) → eqb w.depth w.since ≡ b → cond b (get_or held (3 * c.level + 1) 0) w.base ≡ h.g.base
-      base_is true e =
-          ap (λ (l : ℕ). get_or held (3 * l + 1) 0) own_level ∙ (link.own (omega (arith, eqb-true w.depth w.since e))).1
+      base_is : (b : Bool) → eqb w.depth w.since ≡ b → cond b (get_or held c.level no_held).base w.base ≡ h.g.base
+      base_is true e = ap (λ (k : Held). k.base) (held_is (eqb-true w.depth w.since e))
       base_is false e = sym last ∙ own_level ∙ (own_row (eqb-false w.depth w.since e)).0
 
-      since_is : (b : Bool) → eqb w.depth w.since ≡ b → cond b (get_or held (3 * c.level + 2) 0) w.since ≡ h.since
-      since_is true e =
-          ap (λ (l : ℕ). get_or held (3 * l + 2) 0) own_level ∙ (link.own (omega (arith, eqb-true w.depth w.since e))).2
+      since_is : (b : Bool) → eqb w.depth w.since ≡ b → cond b (get_or held c.level no_held).since w.since ≡ h.since
+      since_is true e = ap (λ (k : Held). k.since) (held_is (eqb-true w.depth w.since e))
       since_is false e = (own_row (eqb-false w.depth w.since e)).1
 
       nest_is : nest h.g.base (length hs) h.since ≡ outer c w held

@@ -1,25 +1,28 @@
 // Walk on an image that passes the check: entries of nine numbers, node by node in document order.
 #![tactic(auto)]
 
-ghost use Rattle.std.specs.Prelude.{◌≡◌, true, List, ℕ, ◌+◌, ◌*◌, ◌≤◌, ◌<◌, length};
+ghost use Rattle.std.specs.Prelude.{◌≡◌, true, cond, eqb, List, ℕ, ◌+◌, ◌*◌, ◌≤◌, ◌<◌, length};
 ghost use Rattle.model.specs.Limits.{most_pages, page_size};
 ghost use Rattle.model.specs.Reading.{length_ok};
+ghost use Rattle.model.specs.Answers.{walked_to, walk_result};
 ghost use Rattle.model.specs.Calls.Check.{check_of};
 ghost use Rattle.model.specs.Calls.Walk.{walk_of};
 ghost use Rattle.theory_layout.specs.Widths.{Widths};
-ghost use Rattle.base_ranges.specs.Tables.{few_pages, Zeros};
+ghost use Rattle.base_ranges.specs.Tables.{Zeros};
 ghost use Rattle.read_find.specs.Rowed.{start_on};
 ghost use Rattle.read_cursor.specs.Way.{way, visits};
 ghost use Rattle.read_cursor.specs.Meets.{meets};
+ghost use Rattle.read_cursor.specs.declared.Level.{Level};
 ghost use Rattle.read_cursor.specs.Going.{reached, Goal, Going, writes as writes_of};
+ghost use Rattle.read_entries.specs.Told.{placed};
 ghost use Rattle.read_entries.specs.Literals.{literal_next};
 ghost use Rattle.read_entries.specs.Records.{Rooted};
 
 use base_layout::name_at;
 use base_ranges::{FEW, Tables, tables_for};
-use model::{Place, Settings, WalkAnswer};
-use read_cursor::{Cursor, STACK, close, node, write_aggregate, write_literal};
-use read_nest::{Nest, around, behind, behind_record, first, follows, into_record};
+use model::{Place, Refusal, Settings, Walked};
+use read_cursor::{Cursor, Level, STACK, close, node, write_aggregate, write_literal};
+use read_nest::{Held, Nest, around, behind, behind_record, first, into_record};
 use read_next::node_at;
 
 // Whether there is room for an entry, and it is to be written.
@@ -27,13 +30,7 @@ fn writes(c: Cursor, room: usize) -> bool
     requires { c.at ≤ room + 1 }
     ensures { result ≡ writes_of c room }
 {
-    if c.at == 0 {
-        return false;
-    }
-    if c.next != 0 {
-        return false;
-    }
-    9 <= room - (c.at - 1)
+    c.at != 0 && c.next == 0 && 9 <= room - (c.at - 1)
 }
 
 // Whether a literal is next, and there is room for its entry.
@@ -41,20 +38,13 @@ fn at_literal(image: &[u8], c: Cursor, room: usize) -> bool
     requires { ((c.i ≡ c.end → ⊥) → c.i < length image.now) × (1 ≤ c.at) × (c.at ≤ room + 1) }
     ensures { result ≡ literal_next image.now c room }
 {
-    let i = c.i;
-    if i == c.end {
-        return false;
-    }
-    if image[i] != 2 {
-        return false;
-    }
-    9 <= room - (c.at - 1)
+    c.i != c.end && image[c.i] == 2 && 9 <= room - (c.at - 1)
 }
 
 // Past literals as long as there is room for their entries. Only three numbers of the cursor change here.
 fn literals(image: &[u8], from: Cursor, out: &mut [u32]) -> Cursor
-    requires { ((target : ℕ) × (g : Goal) × (stack : List ℕ) × Going image.now target g from stack out.old) × (1 ≤ from.at) × (from.next ≡ 0) }
-    ensures goes { (target : ℕ) (g : Goal) (stack : List ℕ) → Going image.now target g from stack out.old
+    requires { ((target : ℕ) × (g : Goal) × (stack : List Level) × Going image.now target g from stack out.old) × (1 ≤ from.at) × (from.next ≡ 0) }
+    ensures goes { (target : ℕ) (g : Goal) (stack : List Level) → Going image.now target g from stack out.old
         → Going image.now target g result stack out.new }
     ensures moves { (from.i ≤ result.i) × (result.level ≡ from.level)
         × (literal_next image.now from (length out.old) ≡ true → from.i < result.i) }
@@ -72,7 +62,7 @@ fn run(
     image: &[u8],
     from: Cursor,
     level: usize,
-    stack: &mut [usize; STACK],
+    stack: &mut [Level; STACK],
     out: &mut [u32],
 ) -> Cursor
     requires { (target : ℕ) × (g : Goal) × Going image.now target g from stack.old out.old × (g.base ≡ level) }
@@ -118,9 +108,9 @@ fn walk_records(
     ensures { (w : Rooted image.now) → reached result out.new
         ≡ visits target (way 0 0 out.old) (meets 1 (start_on image.now 1) w.recorded.rowed.row) }
 {
-    let mut stack = [0usize; STACK];
-    let mut held = [0usize; STACK];
-    let mut c = first(image, 1, 1, 0, 0, 0);
+    let mut stack = [Level::NONE; STACK];
+    let mut held = [Held::NONE; STACK];
+    let mut c = first(image, 1, Cursor::START);
     let mut w = Nest {
         base: 1,
         depth: 0,
@@ -147,27 +137,24 @@ fn walk_records(
                 c = behind(d, widths[p] as usize);
             } else {
                 w = into_record(d, w, p, back, &mut held);
-                c = first(image, p, d.level, d.n, d.at, d.next);
+                c = first(image, p, d);
             }
         }
     }
 }
 
-fn walk_few(image: &[u8], widths: &[u32], target: usize, out: &mut [u32]) -> Cursor
-    requires { Rooted image.now × Widths image.now widths.now × (length image.now ≤ page_size * few_pages) }
+// The walk with ways out for N pages.
+fn walk_sized<const N: usize>(
+    image: &[u8],
+    widths: &[u32],
+    target: usize,
+    out: &mut [u32],
+) -> Cursor
+    requires { Rooted image.now × Widths image.now widths.now × (length image.now ≤ page_size * N) × (N ≤ most_pages) }
     ensures { (w : Rooted image.now) → reached result out.new
         ≡ visits target (way 0 0 out.old) (meets 1 (start_on image.now 1) w.recorded.rowed.row) }
 {
-    let mut back = [0u32; FEW];
-    walk_records(image, widths, target, &mut back, out)
-}
-
-fn walk_many(image: &[u8], widths: &[u32], target: usize, out: &mut [u32]) -> Cursor
-    requires { Rooted image.now × Widths image.now widths.now × (length image.now ≤ page_size * most_pages) }
-    ensures { (w : Rooted image.now) → reached result out.new
-        ≡ visits target (way 0 0 out.old) (meets 1 (start_on image.now 1) w.recorded.rowed.row) }
-{
-    let mut back = [0u32; Settings::PAGES];
+    let mut back = [0u32; N];
     walk_records(image, widths, target, &mut back, out)
 }
 
@@ -178,37 +165,35 @@ fn walk(image: &[u8], widths: &[u32], target: usize, out: &mut [u32]) -> Cursor
         ≡ visits target (way 0 0 out.old) (meets 1 (start_on image.now 1) w.recorded.rowed.row) }
 {
     match tables_for(image.len()) {
-        Tables::Few => walk_few(image, widths, target, out),
-        Tables::Many => walk_many(image, widths, target, out),
+        Tables::Few => walk_sized::<FEW>(image, widths, target, out),
+        Tables::Many => walk_sized::<{ Settings::PAGES }>(image, widths, target, out),
     }
 }
 
 // ── the call ──
 
-// Walk: 0, or 10 where the place is no node's.
-pub fn walk_of(image: &[u8], widths: &[u32], x: Place, out: &mut [u32]) -> WalkAnswer
+// The place of the first node that was not written, if there is one.
+fn follows(next: usize) -> Option<Place>
+    ensures { (k : ℕ) → walked_to k result ≡ record { number = 0; written = k; more = cond (eqb next 0) 0 1; next = placed next } }
+{
+    if next == 0 {
+        return None;
+    }
+    Some(Place::of_byte(next))
+}
+
+// Walk: how many entries are written, and where it stops.
+pub fn walk_of(image: &[u8], widths: &[u32], x: Place, out: &mut [u32]) -> Result<Walked, Refusal>
     requires { (check_of image.now ≡ 0) × Widths image.now widths.now }
-    ensures answer { result ≡ (walk_of image.now x out.old).0 }
+    ensures answer { walk_result result ≡ (walk_of image.now x out.old).0 }
     ensures out { out.new ≡ (walk_of image.now x out.old).1 }
 {
-    let target = node_at(image, x.page, x.offset);
-    if target == 0 {
-        return WalkAnswer {
-            number: 10,
-            written: 0,
-            more: 0,
-            next: Place { page: 0, offset: 0 },
-        };
-    }
+    let Some(target) = node_at(image, x) else {
+        return Err(Refusal::NoPlaceThere);
+    };
     let r = walk(image, widths, target, out);
-    let next = r.next;
-    WalkAnswer {
-        number: 0,
+    Ok(Walked {
         written: (r.at - 1) / 9,
-        more: follows(next),
-        next: Place {
-            page: next / Settings::PAGE,
-            offset: next % Settings::PAGE,
-        },
-    }
+        next: follows(r.next),
+    })
 }

@@ -1,4 +1,6 @@
 -- What a node leads into, by its kind.
+use Rattle.std.specs.Prelude.{Result, Ok, Err, OnOk}
+use Rattle.std.proofs.lemmas.Result.{IfOk-weaker}
 use Rattle.std.specs.Prelude.{◌≡◌, refl, Bool, true, ◌&&◌, List, [], ◌∷◌, ℕ, zero, suc, ◌+◌, ◌-◌, ◌*◌, ◌/◌, ◌≤◌, ◌<◌, length, take, drop}
 use Rattle.std.proofs.Math.Path.{sym}
 use Rattle.std.proofs.Common.{ap, subst, ◌∙◌, length-drop, take-take, drop-drop, length-take-le}
@@ -13,13 +15,17 @@ use Rattle.model.specs.Limits.{page_size, most_levels}
 use Rattle.model.specs.Row.{may_stand, standing}
 use Rattle.model.specs.Reading.{used_at, name_at}
 use Rattle.model.specs.WalkTests.{whole_size, passing_kind, names_of, root_fits, tail_zero}
+use Rattle.model.specs.Reasons.{reason_number}
+use Rattle.model.specs.declared.Reason.{Reason}
 use Rattle.model.specs.Calls.Diagnose.{been, contains, Inside, row, stops, bad_node, past_length, too_deep, bad_proxy, inside}
 use Rattle.theory_check.specs.Levels.{record_end}
 use Rattle.theory_check.specs.Tests.{is_marked, marked}
 use Rattle.theory_check.specs.Steps.{named, passing, size_long}
 use Rattle.theory_faults.specs.Reached.{Matches, matches_more}
+use Rattle.read_fault_nodes.specs.declared.Holder.TheVariants.{Record, Helper}
 use Rattle.read_fault_nodes.specs.declared.Inner.{Inner}
-use Rattle.read_fault_nodes.specs.Rows.{part, Within, Holds, row_at, stops_at, Rooted, Opened, Into, proxy, helper, Leads, LeadsTo, record_on}
+use Rattle.read_fault_nodes.specs.declared.Stop.{Stop}
+use Rattle.read_fault_nodes.specs.Rows.{part, Within, Holds, row_at, stop_at, inner_of, Rooted, Opened, Into, proxy, helper, Leads, LeadsTo, record_on}
 use Rattle.read_fault_nodes.specs.Rows.{proxy_to, inside_of, next_of, Sized, first_of}
 
 -- ── parts ──
@@ -61,28 +67,28 @@ within_long w = omega (arith, w.fits, w.on)
 
 -- ── stops and rows ──
 
-no_row : {x : Inner} {p c : ℕ} → 1 ≤ c → x ≡ stops_at p c → x.reason ≡ 0 → ⊥
-no_row some e z = omega (arith, ap (λ (y : Inner). y.reason) e)
+-- What is so whatever came of it.
+on_ok : {E P : Type 0} (r : Result Inner E) → P → OnOk r P
+on_ok (Ok x) k = k
+on_ok (Err e) k = tt
 
-module _ {img : List ℕ} {x : Inner} {P : Type 0} where
-  pub to_stop : {w : List ℕ → Inside} (p c : ℕ) → 1 ≤ c → x ≡ stops_at p c → ((reached : List ℕ) → w reached ≡ stops p c) → LeadsTo img w P x
-  to_stop p c some e f = record { says = λ z. absurd (no_row some e z); same = λ ps. rw (e, ne_eqb c 0 (λ z. omega arith)) (f ps) }
+module _ {img : List ℕ} where
+  pub to_stop : {w : List ℕ → Inside} {P : Inner → Type 0} {s : Stop} (p : ℕ) (c : Reason) → s ≡ stop_at p c
+      → ((reached : List ℕ) → w reached ≡ stops p (reason_number c)) → LeadsTo img w P (Err s)
+  to_stop p c e f = record { says = tt; same = λ ps. rw e (f ps) }
 
-  pub leads_stop : {w : List ℕ → Inside} {m n : List ℕ} (p c : ℕ) → 1 ≤ c → x ≡ stops_at p c
-      → ((reached : List ℕ) → Matches m reached → w reached ≡ stops p c) → Leads img w P m n x
-  leads_stop p c some e f = record {
-    says = λ z. absurd (no_row some e z);
-    led = λ ps k. record { reached = ps; matches = λ z. absurd (no_row some e z); same = rw (e, ne_eqb c 0 (λ z. omega arith)) (f ps k) };
-  }
+  pub leads_stop : {w : List ℕ → Inside} {P : Inner → Type 0} {m n : List ℕ} {s : Stop} (p : ℕ) (c : Reason) → s ≡ stop_at p c
+      → ((reached : List ℕ) → Matches m reached → w reached ≡ stops p (reason_number c)) → Leads img w P m n (Err s)
+  leads_stop p c e f = record { says = tt; led = λ ps k. record { reached = ps; matches = tt; same = rw e (f ps k) } }
 
-  pub leads_row : {w : List ℕ → Inside} {m : List ℕ} (a e h l n : ℕ) → x ≡ row_at a e h l n → P
-      → ((reached : List ℕ) → w reached ≡ row (part img a e) (a / page_size) h l (been n reached)) → Leads img w P m m x
-  leads_row a e h l n q k f = record { says = λ _. k; led = λ ps b. record { reached = ps; matches = λ _. b; same = rw q (f ps) } }
+  pub leads_row : {w : List ℕ → Inside} {P : Inner → Type 0} {m : List ℕ} {x : Inner} → P x
+      → ((reached : List ℕ) → w reached ≡ inner_of img (Ok x) reached) → Leads img w P m m (Ok x)
+  leads_row k f = record { says = k; led = λ ps b. record { reached = ps; matches = b; same = f ps } }
 
-  pub leads_same : {w v : List ℕ → Inside} {Q : Type 0} {m n : List ℕ} → ((reached : List ℕ) → v reached ≡ w reached) → (P → Q) → Leads img w P m n x
-      → Leads img v Q m n x
-  leads_same e g l = record {
-    says = λ z. g (l.says z);
+  pub leads_same : {r : Result Inner Stop} {w v : List ℕ → Inside} {P Q : Inner → Type 0} {m n : List ℕ} → ((reached : List ℕ) → v reached ≡ w reached)
+      → ((x : Inner) → P x → Q x) → Leads img w P m n r → Leads img v Q m n r
+  leads_same {r} e g l = record {
+    says = IfOk-weaker r _ _ g l.says;
     led = λ ps k. let d = l.led ps k in record { reached = d.reached; matches = d.matches; same = e ps ∙ d.same };
   }
 
@@ -117,14 +123,14 @@ module _ (img : List ℕ) (rootOk : Bool) (p level left : ℕ) where
         let on : p ≡ page_size * p / page_size = omega arith in
         rw (e, t, ← same_record, long, ← size, eq-eqb n u d) (ap (λ (k : ℕ). row (part img (page_size * p) (page_size * p + u)) k 0 level (been left ps)) on)
 
-    pub record_leads : {x : Inner} → x ≡ row_at (page_size * p) (page_size * p + u) 0 level left → n ≡ u
-        → LeadsTo img (record_on img rootOk p level left) (Rooted img p level left x) x
-    record_leads q d = record {
-      says = λ _. record {
-        is = q ∙ ap (λ (k : ℕ). row_at (page_size * p) (page_size * p + k) 0 level left) used;
+    pub record_leads : n ≡ u
+        → LeadsTo img (record_on img rootOk p level left) (Rooted img p level left) (Ok (row_at (page_size * p) (page_size * p + u) Record level left))
+    record_leads d = record {
+      says = record {
+        is = ap (λ (k : ℕ). row_at (page_size * p) (page_size * p + k) Record level left) used;
         whole = ap (λ (k : ℕ). whole_size (part img (page_size * p) (page_size * p + k))) (sym used) ∙ sym size ∙ d ∙ used;
       };
-      same = λ ps. rw q (record_is d ps);
+      same = record_is d;
     }
 
 pub record_within : {img : List ℕ} {p level : ℕ} → Holds img p → level ≤ most_levels + 1 → Within img (page_size * p) (record_end img p) 0 level
@@ -151,18 +157,18 @@ module _ (img : List ℕ) (p page level left : ℕ) where
     proxy_again e t ps k =
         rw (sym (k.same p (named img p page e).low) ∙ t, and-false (names_of img p page && leb 2 left))
 
-    pub proxy_leads : {n : List ℕ} {x : Inner} {root : Bool} → names_of img p page ≡ true → 2 ≤ left → is_marked m p ≡ false → n ≡ marked m p
-        → root ≡ root_fits img p → LeadsTo img (record_on img root p level (left - 1)) (Rooted img p level (left - 1) x) x
-        → Leads img (proxy_to img p page level left) (Opened img p level left m n x) m n x
+    pub proxy_leads : {n : List ℕ} {r : Result Inner Stop} {root : Bool} → names_of img p page ≡ true → 2 ≤ left → is_marked m p ≡ false → n ≡ marked m p
+        → root ≡ root_fits img p → LeadsTo img (record_on img root p level (left - 1)) (Rooted img p level (left - 1)) r
+        → Leads img (proxy_to img p page level left) (Opened img p level left m n) m n r
     unfolding proxy_to record_on
-    proxy_leads {n} {x} {root} e h t d q l = record {
-      says = λ z. record { holds = holds img p page e; fresh = t; marks = d; room = h; root = l.says z };
+    proxy_leads {n} {r} {root} e h t d q l = record {
+      says = IfOk-weaker r _ _ (λ x z. record { holds = holds img p page e; fresh = t; marks = d; room = h; root = z }) l.says;
       led = λ ps k.
           let few = (named img p page e).low in
           let new : contains ps p ≡ false = sym (k.same p few) ∙ t in
           record {
             reached = p ∷ ps;
-            matches = λ _. rw d (matches_more k p few);
+            matches = on_ok r (rw d (matches_more k p few));
             same = rw (e, le-leb 2 left h, new, ← q) (l.same (p ∷ ps));
           };
     }
@@ -212,7 +218,7 @@ module _ (img : List ℕ) (i next holder level left kind : ℕ) (is : kind ≡ p
         proxy p (λ h. not_root (part img i next) (ap (passing_kind (part img i next)) (sym h) ∙ sym is ∙ z))
         (omega (arith, length_part img i next (within_long w))) o
 
-    pub into_helper : {m : List ℕ} {x : Inner} → kind ≡ 4 → x ≡ row_at (i + 6) next 4 level left → Into img i next holder level left m m x
+    pub into_helper : {m : List ℕ} {x : Inner} → kind ≡ 4 → x ≡ row_at (i + 6) next Helper level left → Into img i next holder level left m m x
     into_helper z q = helper (only_root (part img i next) holder w.held (sym is ∙ z)) refl q
 
     below : {h l : ℕ} (ps : List ℕ)

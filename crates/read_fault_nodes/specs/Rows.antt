@@ -1,17 +1,22 @@
 -- What the walk's functions hand on, and the walk of the definition that it stands for.
 use Rattle.std.specs.Prelude.{◌≡◌, Bool, true, false, cond, not, ◌&&◌, List, ◌∷◌, ℕ, ◌+◌, ◌-◌, ◌*◌, ◌/◌, ◌≤◌, ◌<◌, length, get_or, take, drop, leb, eqb}
+use Rattle.std.specs.Prelude.{Result, Ok, Err, IfOk, OnOk}
 use Rattle.model.specs.Limits.{most_pages, page_size, capacity, most_levels}
 use Rattle.model.specs.Reading.{kind_at, used_at}
 use Rattle.model.specs.BeforeWalk.{page_count}
 use Rattle.model.specs.WalkTests.{whole_size, names_of, root_fits}
+use Rattle.model.specs.Reasons.{reason_number}
+use Rattle.model.specs.declared.Reason.{Reason}
 use Rattle.model.specs.Calls.Diagnose.{been, Walk, on, stopped, contains, Inside, row, stops, bad_node, bad_proxy, record_row, inside, into}
 use Rattle.theory_check.specs.Tests.{is_marked, marked}
 use Rattle.theory_check.specs.Marks.{IsMarks}
 use Rattle.theory_check.specs.Levels.{record_end}
 use Rattle.theory_faults.specs.Fuel.{walk}
 use Rattle.theory_faults.specs.Reached.{Matches}
+use Rattle.read_fault_nodes.specs.declared.Holder.{Holder}
+use Rattle.read_fault_nodes.specs.declared.Holder.TheVariants.{Record, Aggregate, Literal, Helper}
 use Rattle.read_fault_nodes.specs.declared.Inner.{Inner}
-use Rattle.read_fault_nodes.specs.declared.Walked.{Walked}
+use Rattle.read_fault_nodes.specs.declared.Stop.{Stop}
 
 abbrev pub part : (img : List ℕ) → (start stop : ℕ) → List ℕ
 part img a e = take (e - a) (drop a img)
@@ -31,21 +36,27 @@ pub record Holds (img : List ℕ) (p : ℕ) : Type 0 where
 
 -- ── what a node leads into ──
 
-abbrev pub row_at : (start stop holder level left : ℕ) → Inner
-row_at a e h l n = record { start = a; stop = e; kind = h; level = l; left = n; page = 0; reason = 0 }
+-- As a kind, 0 for a record's page.
+abbrev pub holder_number : Holder → ℕ
+holder_number Record = 0
+holder_number Aggregate = 1
+holder_number Literal = 2
+holder_number Helper = 4
 
-abbrev pub stops_at : (page reason : ℕ) → Inner
-stops_at p c = record { start = 0; stop = 0; kind = 0; level = 0; left = 0; page = p; reason = c }
+abbrev pub row_at : (start stop : ℕ) → Holder → (level left : ℕ) → Inner
+row_at a e h l n = record { start = a; stop = e; holder = h; level = l; left = n }
+
+abbrev pub stop_at : (page : ℕ) → Reason → Stop
+stop_at p c = record { page = p; reason = c }
 
 -- Where those pages were reached.
-abbrev pub inner_of : (img : List ℕ) → Inner → (reached : List ℕ) → Inside
-inner_of img x ps =
-    cond (eqb x.reason 0) (row (part img x.start x.stop) (x.start / page_size) x.kind x.level (been x.left ps))
-    (stops x.page x.reason)
+abbrev pub inner_of : (img : List ℕ) → Result Inner Stop → (reached : List ℕ) → Inside
+inner_of img (Ok x) ps = row (part img x.start x.stop) (x.start / page_size) (holder_number x.holder) x.level (been x.left ps)
+inner_of img (Err s) ps = stops s.page (reason_number s.reason)
 
 -- The row of the record of page p, which is one node.
 pub record Rooted (img : List ℕ) (p level left : ℕ) (x : Inner) : Type 0 where
-  pub is : x ≡ row_at (page_size * p) (record_end img p) 0 level left
+  pub is : x ≡ row_at (page_size * p) (record_end img p) Record level left
   pub whole : whole_size (part img (page_size * p) (record_end img p)) ≡ used_at img (page_size * p)
 
 -- The same of a page that is reached for the first time.
@@ -59,25 +70,25 @@ pub record Opened (img : List ℕ) (p level left : ℕ) (before after : List ℕ
 -- The row of the node from i to next, by its kind. In a record's own row stands no proxy, and elsewhere no helper.
 pub data Into (img : List ℕ) (i next holder level left : ℕ) (before after : List ℕ) (x : Inner) : Type 0 where
   proxy : (p : ℕ) → (holder ≡ 0 → ⊥) → next ≡ i + 8 → Opened img p level left before after x → Into img i next holder level left before after x
-  helper : holder ≡ 0 → after ≡ before → x ≡ row_at (i + 6) next 4 level left → Into img i next holder level left before after x
-  literal : after ≡ before → x ≡ row_at next next 2 level left → Into img i next holder level left before after x
-  aggregate : after ≡ before → level ≤ most_levels → x ≡ row_at (i + 6) next 1 (level + 1) left → Into img i next holder level left before after x
+  helper : holder ≡ 0 → after ≡ before → x ≡ row_at (i + 6) next Helper level left → Into img i next holder level left before after x
+  literal : after ≡ before → x ≡ row_at next next Literal level left → Into img i next holder level left before after x
+  aggregate : after ≡ before → level ≤ most_levels → x ≡ row_at (i + 6) next Aggregate (level + 1) left → Into img i next holder level left before after x
 
 -- The marks are then those of the pages reached then.
-pub record Led (img : List ℕ) (w : Inside) (x : Inner) (marks : List ℕ) : Type 0 where
+pub record Led (img : List ℕ) (w : Inside) (r : Result Inner Stop) (marks : List ℕ) : Type 0 where
   pub reached : List ℕ
-  pub matches : x.reason ≡ 0 → Matches marks reached
-  pub same : w ≡ inner_of img x reached
+  pub matches : OnOk r (Matches marks reached)
+  pub same : w ≡ inner_of img r reached
 
 -- Whatever pages were reached before, if the marks were theirs; and what is said of a row.
-pub record Leads (img : List ℕ) (w : (reached : List ℕ) → Inside) (Says : Type 0) (before after : List ℕ) (x : Inner) : Type 0 where
-  pub says : x.reason ≡ 0 → Says
-  pub led : (reached : List ℕ) → Matches before reached → Led img (w reached) x after
+pub record Leads (img : List ℕ) (w : (reached : List ℕ) → Inside) (Says : Inner → Type 0) (before after : List ℕ) (r : Result Inner Stop) : Type 0 where
+  pub says : IfOk r Says
+  pub led : (reached : List ℕ) → Matches before reached → Led img (w reached) r after
 
 -- The same where no page is entered: the marks stay.
-pub record LeadsTo (img : List ℕ) (w : (reached : List ℕ) → Inside) (Says : Type 0) (x : Inner) : Type 0 where
-  pub says : x.reason ≡ 0 → Says
-  pub same : (reached : List ℕ) → w reached ≡ inner_of img x reached
+pub record LeadsTo (img : List ℕ) (w : (reached : List ℕ) → Inside) (Says : Inner → Type 0) (r : Result Inner Stop) : Type 0 where
+  pub says : IfOk r Says
+  pub same : (reached : List ℕ) → w reached ≡ inner_of img r reached
 
 unfoldable pub record_on : (img : List ℕ) → (rootOk : Bool) → (p level left : ℕ) → (reached : List ℕ) → Inside
 record_on img rootOk p level left ps = record_row img rootOk p level (been left ps)
@@ -105,18 +116,14 @@ first_of img i stop holder level left ps =
 
 -- ── the walk ──
 
-abbrev pub walked_to : (left : ℕ) → Walked
-walked_to n = record { left = n; page = 0; reason = 0 }
+-- What is left to be reached, or where the walk has stopped.
+abbrev pub walked_of : Result ℕ Stop → (reached : List ℕ) → Walk
+walked_of (Ok left) ps = on (been left ps)
+walked_of (Err s) ps = stopped s.page (reason_number s.reason)
 
-abbrev pub stopped_at : (page reason : ℕ) → Walked
-stopped_at p c = record { left = 0; page = p; reason = c }
-
-abbrev pub walked_of : Walked → (reached : List ℕ) → Walk
-walked_of r ps = cond (eqb r.reason 0) (on (been r.left ps)) (stopped r.page r.reason)
-
-pub record Ended (w : Walk) (r : Walked) (marks : List ℕ) : Type 0 where
+pub record Ended (w : Walk) (r : Result ℕ Stop) (marks : List ℕ) : Type 0 where
   pub reached : List ℕ
-  pub matches : r.reason ≡ 0 → Matches marks reached
+  pub matches : OnOk r (Matches marks reached)
   pub same : w ≡ walked_of r reached
 
 abbrev pub walk_of : (img : List ℕ) → (start stop holder level left : ℕ) → (reached : List ℕ) → Walk
@@ -126,16 +133,16 @@ walk_of img start stop holder level left ps = walk img (part img start stop) (st
 abbrev pub record_walk : (img : List ℕ) → (left : ℕ) → (reached : List ℕ) → Walk
 record_walk img left ps = into (record_on img (eqb (kind_at img page_size) 1) 1 1 left ps) (walk img)
 
-abbrev pub Ends : (w : (reached : List ℕ) → Walk) → (before after : List ℕ) → Walked → Type 0
+abbrev pub Ends : (w : (reached : List ℕ) → Walk) → (before after : List ℕ) → Result ℕ Stop → Type 0
 Ends w m n r = (reached : List ℕ) → Matches m reached → Ended (w reached) r n
 
 -- Pages that were marked stay so, and keep their ways back.
 pub record Keeps (marks back after now : List ℕ) : Type 0 where
   pub page : (q : ℕ) → q < most_pages → is_marked marks q ≡ true → (is_marked after q ≡ true) × (get_or now q 0 ≡ get_or back q 0)
 
--- So they do in a walk that goes on; no more pages are left than there were, and the tables are tables as long as before.
-pub record Stays (left : ℕ) (marks back after now : List ℕ) (r : Walked) : Type 0 where
-  pub less : r.reason ≡ 0 → r.left ≤ left
-  pub kept : r.reason ≡ 0 → Keeps marks back after now
-  pub are : r.reason ≡ 0 → IsMarks after
-  pub long : r.reason ≡ 0 → length now ≡ length back
+-- So they do in a walk that goes on and leaves n pages; no more are left than there were, and the tables are tables as long as before.
+pub record Stays (left : ℕ) (marks back after now : List ℕ) (n : ℕ) : Type 0 where
+  pub less : n ≤ left
+  pub kept : Keeps marks back after now
+  pub are : IsMarks after
+  pub long : length now ≡ length back

@@ -1,7 +1,7 @@
 -- The walk over a row, into the records of its proxies and back out of them, turn by turn.
-use Rattle.std.specs.Prelude.{◌≡◌, Bool, true, false, cond, set, eqb}
+use Rattle.std.specs.Prelude.{◌≡◌, Bool, true, false, cond, set, eqb, Result, Ok, Err}
 use Rattle.std.proofs.Math.Path.{refl, sym, ap, subst}
-use Rattle.std.proofs.Common.{◌∙◌, true≢false, add-one, get_or-set_other, eqb-true, eq-eqb, ne_eqb}
+use Rattle.std.proofs.Common.{◌∙◌, true≢false, add-one, get_or-set_other, eqb-true, eq-eqb}
 use mathlib.Core.List.{List, [], ◌∷◌}
 use Prim.Native.Nat.{ℕ, suc, ◌+◌, ◌-◌, ◌*◌, ◌/◌, ◌≤◌, ◌<◌}
 use native.Mathlib.Omega.{arith}
@@ -10,6 +10,7 @@ use Rattle.std.proofs.Math.Seq.{get_or-set_same}
 use Rattle.std.proofs.lemmas.Bool.{eqb-false}
 use Rattle.model.specs.Limits.{most_pages, page_size, most_levels}
 use Rattle.model.specs.WalkTests.{whole_size}
+use Rattle.model.specs.Reasons.{reason_number}
 use Rattle.model.specs.Calls.Diagnose.{Been, been, Walk, on, stopped, onward, into}
 use Rattle.theory_check.specs.Levels.{record_end}
 use Rattle.theory_check.specs.Steps.{size_long}
@@ -17,10 +18,12 @@ use Rattle.theory_check.specs.Tests.{is_marked, marked}
 use Rattle.theory_check.specs.Marks.{IsMarks, marks_kept, is_marked_lem}
 use Rattle.theory_faults.specs.Fuel.{walk, walk_none, walk_bad, walk_more}
 use Rattle.theory_faults.specs.Reached.{Matches}
+use Rattle.read_fault_nodes.specs.declared.Holder.{Holder}
+use Rattle.read_fault_nodes.specs.declared.Holder.TheVariants.{Record, Aggregate, Literal, Helper}
 use Rattle.read_fault_nodes.specs.declared.Inner.{Inner}
-use Rattle.read_fault_nodes.specs.declared.Walked.{Walked}
-use Rattle.read_fault_nodes.specs.Rows.{part, Within, Holds, row_at, Into, proxy, helper, literal, aggregate, Leads, inside_of, next_of, Sized}
-use Rattle.read_fault_nodes.specs.Rows.{first_of, walked_to, stopped_at, Ended, walk_of, Ends, Keeps, Stays}
+use Rattle.read_fault_nodes.specs.declared.Stop.{Stop}
+use Rattle.read_fault_nodes.specs.Rows.{part, Within, Holds, holder_number, row_at, Into, proxy, helper, literal, aggregate, Leads, inside_of, next_of, Sized}
+use Rattle.read_fault_nodes.specs.Rows.{first_of, Ended, walk_of, Ends, Keeps, Stays}
 use Rattle.read_fault_nodes.specs.Nodes.{drop_part, take_part, length_part, no_part, same_page, within_rest, within_front, within_long, record_within}
 
 -- ── one walk after another ──
@@ -205,33 +208,25 @@ going_start {img} {a} {e} {h} {l} n m b w up own are enough = record {
 
 -- ── ends ──
 
-pub stop_ends : {w : Walk} {r : Walked} {m : List ℕ} (p c : ℕ) → 1 ≤ c → r ≡ stopped_at p c → w ≡ stopped p c → List ℕ → Ended w r m
-stop_ends p c some q e ps =
-    rw q (record { reached = ps; matches = λ z. absurd (omega (arith, z)); same = rw (ne_eqb c 0 (λ z. omega arith)) e })
-
--- nothing is said of the tables of a walk that has stopped
-pub halt_stays : {left : ℕ} {m b n c : List ℕ} {r : Walked} → (r.reason ≡ 0 → ⊥) → Stays left m b n c r
-halt_stays z = record { less = λ e. absurd (z e); kept = λ e. absurd (z e); are = λ e. absurd (z e); long = λ e. absurd (z e) }
-
-pub stop_stays : {left : ℕ} {m b n c : List ℕ} {r : Walked} (p e : ℕ) → r ≡ stopped_at p e → (e ≡ 0 → ⊥) → Stays left m b n c r
-stop_stays p e q z = rw q (halt_stays z)
+pub stop_ends : {w : Walk} {m : List ℕ} (s : Stop) → w ≡ stopped s.page (reason_number s.reason) → List ℕ → Ended w (Err s) m
+stop_ends s e ps = record { reached = ps; matches = tt; same = e }
 
 module _ {img : List ℕ} {g : Call} {marks back : List ℕ} {own level at end kind rest depth : ℕ} (now : Going img g marks back own level at end kind rest depth) where
-  pub going_stays : {r : Walked} → r ≡ walked_to rest → Stays g.left g.marks g.back marks back r
-  going_stays e = rw e (record { less = λ _. omega (arith, now.fewer); kept = λ _. now.kept; are = λ _. now.are; long = λ _. now.long })
+  pub going_stays : Stays g.left g.marks g.back marks back rest
+  going_stays = record { less = omega (arith, now.fewer); kept = now.kept; are = now.are; long = now.long }
 
   module _ (over : at ≡ end) where
     done : (ps : List ℕ) → walk_of img at end kind level rest ps ≡ on (been rest ps)
     done ps = walk_none img (part img at end) (at / page_size) kind level (been rest ps) (no_part img at end (omega arith))
 
     -- the call's own row is at its end
-    pub going_end : depth ≡ 0 → {r : Walked} → r ≡ walked_to rest → Ends (whole img g) g.marks marks r
+    pub going_end : depth ≡ 0 → Ends (whole img g) g.marks marks (Ok rest)
     unfolding resume
-    going_end z {r} e ps k = rw e (go now.frames now.count (now.left ps k))
+    going_end z ps k = go now.frames now.count (now.left ps k)
       where
         go : (fs : List Frame) → length fs ≡ depth → Resumed img (whole img g ps) (resume img level fs) marks at end kind level rest
-            → Ended (whole img g ps) (walked_to rest) marks
-        go [] c d = record { reached = d.reached; matches = λ _. d.matches; same = d.same ∙ rw (done d.reached) }
+            → Ended (whole img g ps) (Ok rest) marks
+        go [] c d = record { reached = d.reached; matches = d.matches; same = d.same ∙ rw (done d.reached) }
         go (f ∷ fs) c d = absurd (omega arith)
 
 -- ── out of a record ──
@@ -324,11 +319,11 @@ module _ {img : List ℕ} {g : Call} {marks back : List ℕ} {own level at end k
   abbrev behind : Been → Walk
   behind b = onward (walk img (part img next end) (at / page_size) kind level b) (resume img level now.frames)
 
-  abbrev First : (m : List ℕ) → Inner → Type 0
-  First m x = Leads img (first_of img at end kind level rest) (Into img at next kind level rest marks m x × Sized img at end) marks m x
+  abbrev First : (m : List ℕ) → Result Inner Stop → Type 0
+  First m r = Leads img (first_of img at end kind level rest) (λ x. Into img at next kind level rest marks m x × Sized img at end) marks m r
 
   -- the node's row, then the rest
-  turned : {m : List ℕ} {x : Inner} → First m x → (before : List ℕ) (k : Matches g.marks before) → let t = now.left before k in
+  turned : {m : List ℕ} {r : Result Inner Stop} → First m r → (before : List ℕ) (k : Matches g.marks before) → let t = now.left before k in
       whole img g before ≡ onward (into (first_of img at end kind level rest t.reached) (walk img)) behind
   turned l before k =
       let t = now.left before k in
@@ -337,21 +332,20 @@ module _ {img : List ℕ} {g : Call} {marks back : List ℕ} {own level at end k
       ∙ onward_more (into (first_of img at end kind level rest t.reached) (walk img)) (walk img (part img next end) (at / page_size) kind level)
       (resume img level now.frames)
 
-  pub going_stops : {m : List ℕ} {x : Inner} → First m x → (x.reason ≡ 0 → ⊥) → {r : Walked} {u : List ℕ} → r ≡ stopped_at x.page x.reason
-      → Ends (whole img g) g.marks u r
-  going_stops {m} {x} l z e before k =
+  pub going_stops : {m u : List ℕ} {s : Stop} → First m (Err s) → Ends (whole img g) g.marks u (Err s)
+  going_stops {m} {u} {s} l before k =
       let t = now.left before k in
       let d = l.led t.reached t.matches in
-      stop_ends x.page x.reason (omega (arith, z)) e (turned l before k ∙ rw (d.same, ne_eqb x.reason 0 z)) before
+      stop_ends s (turned l before k ∙ rw d.same) before
 
   -- what is left, where the node leads into a row
-  enters : {m : List ℕ} {x : Inner} → First m x → x.reason ≡ 0 → (a e h l n : ℕ) → x ≡ row_at a e h l n → (before : List ℕ) → Matches g.marks before
-      → Resumed img (whole img g before) behind m a e h l n
-  enters {m} {x} f z a e h l n q before k =
+  enters : {m : List ℕ} {x : Inner} → First m (Ok x) → (a e : ℕ) (h : Holder) (l n : ℕ) → x ≡ row_at a e h l n → (before : List ℕ) → Matches g.marks before
+      → Resumed img (whole img g before) behind m a e (holder_number h) l n
+  enters {m} {x} f a e h l n q before k =
       let t = now.left before k in
       let d = f.led t.reached t.matches in
-      subst (λ (y : Inner). Resumed img (whole img g before) behind m y.start y.stop y.kind y.level y.left) q
-      (record { reached = d.reached; matches = d.matches z; same = turned f before k ∙ rw (d.same, eq-eqb x.reason 0 z) })
+      subst (λ (y : Inner). Resumed img (whole img g before) behind m y.start y.stop (holder_number y.holder) y.level y.left) q
+      (record { reached = d.reached; matches = d.matches; same = turned f before k ∙ rw d.same })
 
   module _ (s : Sized img at end) where
     abbrev after : (j : ℕ) → next ≡ j → at / page_size ≡ j / page_size
@@ -390,56 +384,66 @@ module _ {img : List ℕ} {g : Call} {marks back : List ℕ} {own level at end k
           ∙ ap (λ (p : ℕ). onward (walk img (part img next end) p kind level (been n ps)) (resume img level now.frames)) (after next refl);
     }
 
-  module _ {m : List ℕ} {x : Inner} (f : First m x) (z : x.reason ≡ 0) where
+  module _ {m : List ℕ} {x : Inner} (f : First m (Ok x)) where
     sized : Sized img at end
-    sized = (f.says z).1
+    sized = f.says.1
 
     -- the measure falls
-    pub forth : (x.kind ≡ 0 → ⊥) → (at < x.start) × (at < x.stop)
-    forth none = go (f.says z).0
+    pub forth : (holder_number x.holder ≡ 0 → ⊥) → (at < x.start) × (at < x.stop)
+    forth none = go f.says.0
       where
         go : Into img at next kind level rest marks m x → (at < x.start) × (at < x.stop)
-        go (proxy p h e o) = absurd (none (ap (λ (y : Inner). y.kind) o.root.is))
+        go (proxy p h e o) = absurd (none (ap (λ (y : Inner). holder_number y.holder) o.root.is))
         go (helper h e q) = rw q (omega arith, omega (arith, sized))
         go (literal e q) = rw q (omega (arith, sized), omega (arith, sized))
         go (aggregate e h q) = rw q (omega arith, omega (arith, sized))
 
-    pub entered : x.kind ≡ 0 → x.left < rest
-    entered none = go (f.says z).0
+    pub entered : holder_number x.holder ≡ 0 → x.left < rest
+    entered none = go f.says.0
       where
         go : Into img at next kind level rest marks m x → x.left < rest
         go (proxy p h e o) = rw o.root.is (omega (arith, o.room))
-        go (helper h e q) = absurd (omega (arith, ap (λ (y : Inner). y.kind) q))
-        go (literal e q) = absurd (omega (arith, ap (λ (y : Inner). y.kind) q))
-        go (aggregate e h q) = absurd (omega (arith, ap (λ (y : Inner). y.kind) q))
+        go (helper h e q) = absurd (omega (arith, ap (λ (y : Inner). holder_number y.holder) q))
+        go (literal e q) = absurd (omega (arith, ap (λ (y : Inner). holder_number y.holder) q))
+        go (aggregate e h q) = absurd (omega (arith, ap (λ (y : Inner). holder_number y.holder) q))
+
+    -- a literal's row is empty
+    pub going_nil : holder_number x.holder ≡ 2 → x.start ≡ x.stop
+    going_nil two = go f.says.0
+      where
+        go : Into img at next kind level rest marks m x → x.start ≡ x.stop
+        go (proxy p h e o) = absurd (omega (arith, two, ap (λ (y : Inner). holder_number y.holder) o.root.is))
+        go (helper h e q) = absurd (omega (arith, two, ap (λ (y : Inner). holder_number y.holder) q))
+        go (literal e q) = rw q
+        go (aggregate e h q) = absurd (omega (arith, two, ap (λ (y : Inner). holder_number y.holder) q))
 
     -- a literal is passed, and an aggregate without nodes
-    pub going_empty : (x.kind ≡ 0 → ⊥) → (x.kind ≡ 4 → ⊥) → x.start ≡ x.stop → Going img g m back own level x.stop end kind rest depth
-    going_empty none four nil = go (f.says z).0
+    pub going_empty : (holder_number x.holder ≡ 0 → ⊥) → (holder_number x.holder ≡ 4 → ⊥) → x.start ≡ x.stop → Going img g m back own level x.stop end kind rest depth
+    going_empty none four nil = go f.says.0
       where
-        passed : (a h l : ℕ) → m ≡ marks → x ≡ row_at a next h l rest → next ≤ a → Going img g m back own level x.stop end kind rest depth
+        passed : (a : ℕ) (h : Holder) (l : ℕ) → m ≡ marks → x ≡ row_at a next h l rest → next ≤ a → Going img g m back own level x.stop end kind rest depth
         passed a h l e q empty =
             subst (λ (y : Inner). Going img g m back own level y.stop end kind rest depth) (sym q)
             (past sized m back rest (keeps_marks e) (subst IsMarks (sym e) now.are) now.long (omega arith)
             (λ before k.
-            let t = enters f z a next h l rest q before k in
-            over sized (whole img g before) (walk_of img a next h l rest t.reached) t.same
-            (walk_none img (part img a next) (a / page_size) h l (been rest t.reached) (no_part img a next empty)) t.matches))
+            let t = enters f a next h l rest q before k in
+            over sized (whole img g before) (walk_of img a next (holder_number h) l rest t.reached) t.same
+            (walk_none img (part img a next) (a / page_size) (holder_number h) l (been rest t.reached) (no_part img a next empty)) t.matches))
 
         go : Into img at next kind level rest marks m x → Going img g m back own level x.stop end kind rest depth
-        go (proxy p h e o) = absurd (none (ap (λ (y : Inner). y.kind) o.root.is))
-        go (helper h e q) = absurd (four (ap (λ (y : Inner). y.kind) q))
-        go (literal e q) = passed next 2 level e q (omega arith)
-        go (aggregate e h q) = passed (at + 6) 1 (level + 1) e q (omega (arith, ap (λ (y : Inner). y.start) q, ap (λ (y : Inner). y.stop) q))
+        go (proxy p h e o) = absurd (none (ap (λ (y : Inner). holder_number y.holder) o.root.is))
+        go (helper h e q) = absurd (four (ap (λ (y : Inner). holder_number y.holder) q))
+        go (literal e q) = passed next Literal level e q (omega arith)
+        go (aggregate e h q) = passed (at + 6) Aggregate (level + 1) e q (omega (arith, ap (λ (y : Inner). y.start) q, ap (λ (y : Inner). y.stop) q))
 
     -- a helper is its record's only node: the row goes on in it
-    pub going_helper : x.kind ≡ 4 → Going img g m back own level x.start end 4 rest depth
-    going_helper four = go (f.says z).0
+    pub going_helper : holder_number x.holder ≡ 4 → Going img g m back own level x.start end 4 rest depth
+    going_helper four = go f.says.0
       where
         go : Into img at next kind level rest marks m x → Going img g m back own level x.start end 4 rest depth
-        go (proxy p h e o) = absurd (omega (arith, ap (λ (y : Inner). y.kind) o.root.is))
-        go (literal e q) = absurd (omega (arith, ap (λ (y : Inner). y.kind) q))
-        go (aggregate e h q) = absurd (omega (arith, ap (λ (y : Inner). y.kind) q))
+        go (proxy p h e o) = absurd (omega (arith, ap (λ (y : Inner). holder_number y.holder) o.root.is))
+        go (literal e q) = absurd (omega (arith, ap (λ (y : Inner). holder_number y.holder) q))
+        go (aggregate e h q) = absurd (omega (arith, ap (λ (y : Inner). holder_number y.holder) q))
         go (helper h e q) =
             let last : next ≡ end = omega (arith, now.alone h (omega (arith, now.within, here)), now.within) in
             subst (λ (y : Inner). Going img g m back own level y.start end 4 rest depth) (sym q)
@@ -459,7 +463,7 @@ module _ {img : List ℕ} {g : Call} {marks back : List ℕ} {own level at end k
               fewer = now.fewer;
               falls = omega (arith, now.falls, sized);
               left = λ before k.
-                  let t = enters f z (at + 6) next 4 level rest q before k in
+                  let t = enters f (at + 6) next Helper level rest q before k in
                   record {
                     reached = t.reached;
                     matches = t.matches;
@@ -477,15 +481,15 @@ module _ {img : List ℕ} {g : Call} {marks back : List ℕ} {own level at end k
             deeper h (o ∷ os) s = (same_page now.row {j = at + 6} (omega arith) (omega (arith, sized)) ∙ s.0, s.1, λ _. refl)
 
     -- into the record of a proxy: the way back is kept
-    pub going_record : x.kind ≡ 0 → Going img g m (set back (x.start / page_size) (at + 8)) own level x.start x.stop 0 x.left (depth + 1)
+    pub going_record : holder_number x.holder ≡ 0 → Going img g m (set back (x.start / page_size) (at + 8)) own level x.start x.stop 0 x.left (depth + 1)
     unfolding Chain resume
-    going_record none = go (f.says z).0
+    going_record none = go f.says.0
       where
         go : Into img at next kind level rest marks m x
             → Going img g m (set back (x.start / page_size) (at + 8)) own level x.start x.stop 0 x.left (depth + 1)
-        go (helper h e q) = absurd (omega (arith, ap (λ (y : Inner). y.kind) q))
-        go (literal e q) = absurd (omega (arith, ap (λ (y : Inner). y.kind) q))
-        go (aggregate e h q) = absurd (omega (arith, ap (λ (y : Inner). y.kind) q))
+        go (helper h e q) = absurd (omega (arith, ap (λ (y : Inner). holder_number y.holder) q))
+        go (literal e q) = absurd (omega (arith, ap (λ (y : Inner). holder_number y.holder) q))
+        go (aggregate e h q) = absurd (omega (arith, ap (λ (y : Inner). holder_number y.holder) q))
         go (proxy p h e o) =
             let q = o.root.is in
             let low = o.holds.few in
@@ -525,7 +529,7 @@ module _ {img : List ℕ} {g : Call} {marks back : List ℕ} {own level at end k
               fewer = omega (arith, now.fewer, o.room);
               falls = omega (arith, now.falls, o.room, o.holds.used);
               left = λ before k.
-                  let t = enters f z (page_size * p) (record_end img p) 0 level (rest - 1) q before k in
+                  let t = enters f (page_size * p) (record_end img p) Record level (rest - 1) q before k in
                   record {
                     reached = t.reached;
                     matches = subst (λ (v : List ℕ). Matches v t.reached) o.marks t.matches;
@@ -538,22 +542,22 @@ module _ {img : List ℕ} {g : Call} {marks back : List ℕ} {own level at end k
 
     -- ── an aggregate with nodes ──
 
-    module _ (none : x.kind ≡ 0 → ⊥) (four : x.kind ≡ 4 → ⊥) (some : x.start ≡ x.stop → ⊥) where
-      aggregated : (m ≡ marks) × (level ≤ most_levels) × (x ≡ row_at (at + 6) next 1 (level + 1) rest)
-      aggregated = go (f.says z).0
+    module _ (none : holder_number x.holder ≡ 0 → ⊥) (four : holder_number x.holder ≡ 4 → ⊥) (some : x.start ≡ x.stop → ⊥) where
+      aggregated : (m ≡ marks) × (level ≤ most_levels) × (x ≡ row_at (at + 6) next Aggregate (level + 1) rest)
+      aggregated = go f.says.0
         where
-          go : Into img at next kind level rest marks m x → (m ≡ marks) × (level ≤ most_levels) × (x ≡ row_at (at + 6) next 1 (level + 1) rest)
-          go (proxy p h e o) = absurd (none (ap (λ (y : Inner). y.kind) o.root.is))
+          go : Into img at next kind level rest marks m x → (m ≡ marks) × (level ≤ most_levels) × (x ≡ row_at (at + 6) next Aggregate (level + 1) rest)
+          go (proxy p h e o) = absurd (none (ap (λ (y : Inner). holder_number y.holder) o.root.is))
           go (literal e q) = absurd (some (ap (λ (y : Inner). y.start) q ∙ sym (ap (λ (y : Inner). y.stop) q)))
-          go (helper h e q) = absurd (four (ap (λ (y : Inner). y.kind) q))
+          go (helper h e q) = absurd (four (ap (λ (y : Inner). holder_number y.holder) q))
           go (aggregate e h q) = (e, h, q)
 
       -- the last of the call's own row: its nodes take the row's place
       pub going_last : (depth ≡ 0) × (x.stop ≡ g.stop) → Going img g m back 1 x.level x.start end 1 rest depth
       unfolding Chain resume
-      going_last last = go now.frames now.count now.stands (λ before k. enters f z (at + 6) next 1 (level + 1) rest aggregated.2 before k)
+      going_last last = go now.frames now.count now.stands (λ before k. enters f (at + 6) next Aggregate (level + 1) rest aggregated.2 before k)
         where
-          a : (m ≡ marks) × (level ≤ most_levels) × (x ≡ row_at (at + 6) next 1 (level + 1) rest)
+          a : (m ≡ marks) × (level ≤ most_levels) × (x ≡ row_at (at + 6) next Aggregate (level + 1) rest)
           a = aggregated
 
           go : (fs : List Frame) → length fs ≡ depth → Stands img g.stop own level fs at end kind
@@ -611,24 +615,24 @@ module _ {img : List ℕ} {g : Call} {marks back : List ℕ} {own level at end k
       pub deeper_falls : 8192 * rest + (x.stop - x.start) < 8192 * g.left + (g.stop - g.start)
       deeper_falls = rw aggregated.2 (omega (arith, now.falls, sized))
 
-      module _ {r : Walked} {u : List ℕ} (d : Ends (walk_of img x.start x.stop 1 x.level rest) m u r) where
-        inner : (before : List ℕ) (k : Matches g.marks before) → let t = enters f z (at + 6) next 1 (level + 1) rest aggregated.2 before k in
+      module _ {r : Result ℕ Stop} {u : List ℕ} (d : Ends (walk_of img x.start x.stop 1 x.level rest) m u r) where
+        inner : (before : List ℕ) (k : Matches g.marks before) → let t = enters f (at + 6) next Aggregate (level + 1) rest aggregated.2 before k in
             Ended (walk_of img (at + 6) next 1 (level + 1) rest t.reached) r u
         inner before k =
-            let t = enters f z (at + 6) next 1 (level + 1) rest aggregated.2 before k in
+            let t = enters f (at + 6) next Aggregate (level + 1) rest aggregated.2 before k in
             subst (λ (y : Inner). Ended (walk_of img y.start y.stop 1 y.level rest t.reached) r u) aggregated.2 (d t.reached t.matches)
 
-        pub going_halts : (r.reason ≡ 0 → ⊥) → Ends (whole img g) g.marks u r
-        going_halts s before k =
-            let t = enters f z (at + 6) next 1 (level + 1) rest aggregated.2 before k in
-            record { reached = before; matches = λ e. absurd (s e); same = t.same ∙ rw ((inner before k).same, ne_eqb r.reason 0 s) }
+      pub going_halts : {s : Stop} {u : List ℕ} → Ends (walk_of img x.start x.stop 1 x.level rest) m u (Err s) → Ends (whole img g) g.marks u (Err s)
+      going_halts d before k =
+          let t = enters f (at + 6) next Aggregate (level + 1) rest aggregated.2 before k in
+          record { reached = before; matches = tt; same = t.same ∙ rw (inner d before k).same }
 
-        pub going_aggregate : {b : List ℕ} → Stays rest m back u b r → r.reason ≡ 0 → Going img g u b own level x.stop end kind r.left depth
-        going_aggregate {b} k s =
-            subst (λ (y : Inner). Going img g u b own level y.stop end kind r.left depth) (sym aggregated.2)
-            (past sized u b r.left (keeps_trans (keeps_marks aggregated.0) (k.kept s)) (k.are s) (k.long s ∙ now.long) (k.less s)
-            (λ before j.
-            let t = enters f z (at + 6) next 1 (level + 1) rest aggregated.2 before j in
-            let i = inner before j in
-            over sized (whole img g before) (walk_of img (at + 6) next 1 (level + 1) rest t.reached) t.same
-            (i.same ∙ rw (eq-eqb r.reason 0 s)) (i.matches s)))
+      pub going_aggregate : {n : ℕ} {u b : List ℕ} → Ends (walk_of img x.start x.stop 1 x.level rest) m u (Ok n) → Stays rest m back u b n
+          → Going img g u b own level x.stop end kind n depth
+      going_aggregate {n} {u} {b} d k =
+          subst (λ (y : Inner). Going img g u b own level y.stop end kind n depth) (sym aggregated.2)
+          (past sized u b n (keeps_trans (keeps_marks aggregated.0) k.kept) k.are (k.long ∙ now.long) k.less
+          (λ before j.
+          let t = enters f (at + 6) next Aggregate (level + 1) rest aggregated.2 before j in
+          let i = inner d before j in
+          over sized (whole img g before) (walk_of img (at + 6) next 1 (level + 1) rest t.reached) t.same i.same i.matches))

@@ -1,18 +1,17 @@
 // The walk of a diagnosis: a row of nodes, each followed by the row that it leads into, to the page in which it stops and why.
 #![tactic(auto)]
 
-ghost use Rattle.std.specs.Prelude.{◌≡◌, true, ◌*◌, ◌≤◌, length};
+ghost use Rattle.std.specs.Prelude.{◌≡◌, true, ◌*◌, ◌≤◌, length, IfOk};
 ghost use Rattle.model.specs.Limits.{most_pages, page_size};
 ghost use Rattle.model.specs.Reading.{length_ok, used_at};
 ghost use Rattle.theory_check.specs.Check.{PassedBefore};
 ghost use Rattle.theory_check.specs.Marks.{IsMarks};
-ghost use Rattle.base_ranges.specs.Tables.{few_pages};
-ghost use Rattle.read_fault_nodes.specs.Rows.{Within, Holds, walk_of, record_walk, Ends, Stays};
+ghost use Rattle.read_fault_nodes.specs.Rows.{holder_number, Within, Holds, walk_of, record_walk, Ends, Stays};
 
+use base_layout::record_end;
 use base_ranges::{FEW, Tables, tables_for};
-use model::Settings;
-use read_fault_nodes::{BAD_NODE, PROXY, Walked, first, last_own, record_row, stopped, went};
-use read_marks::record_end;
+use model::{Reason, Settings};
+use read_fault_nodes::{Holder, PROXY, Stop, first, last_own, record_row};
 use read_nodes::head;
 
 // The nodes of a row, each followed by the row that it leads into. The walk goes into the record of a proxy and comes back out of it: `depth` is how many
@@ -22,16 +21,16 @@ fn row_walk(
     image: &[u8],
     start: usize,
     stop: usize,
-    mut holder: usize,
+    mut holder: Holder,
     mut level: usize,
     left: usize,
     marks: &mut [u8; Settings::MARKS],
     back: &mut [u32],
-) -> Walked
-    requires { PassedBefore image.now × Within image.now start stop holder level × (start ≤ stop) × (holder ≡ 0 → ⊥)
+) -> Result<usize, Stop>
+    requires { PassedBefore image.now × Within image.now start stop (holder_number holder) level × (start ≤ stop) × (holder_number holder ≡ 0 → ⊥)
         × IsMarks marks.old × (length image.now ≤ page_size * length back.old) }
-    ensures { Ends (walk_of image.now start stop holder level left) marks.old marks.new result
-        × Stays left marks.old back.old marks.new back.new result }
+    ensures { Ends (walk_of image.now start stop (holder_number holder) level left) marks.old marks.new result
+        × IfOk result (Stays left marks.old back.old marks.new back.new) }
 {
     let mut at = start;
     let mut end = stop;
@@ -41,49 +40,57 @@ fn row_walk(
     loop {
         if at == end {
             if depth == 0 {
-                return went(rest);
+                return Ok(rest);
             }
             at = back[at / Settings::PAGE] as usize;
-            depth = depth - 1;
+            depth -= 1;
             // A proxy stands in the call's own row, or in a helper's.
             if depth == 0 {
                 end = stop;
                 kind = holder;
             } else {
                 end = record_end(image, at / Settings::PAGE);
-                kind = 4;
+                kind = Holder::Helper;
             }
         } else {
-            let x = first(image, at, end, kind, level, rest, marks);
-            if x.reason != 0 {
-                return stopped(x.page, x.reason);
-            }
-            if x.kind == 0 {
-                back[x.start / Settings::PAGE] = (at + PROXY) as u32;
-                depth = depth + 1;
-                rest = x.left;
-                kind = 0;
-                at = x.start;
-                end = x.stop;
-            } else if x.kind == 4 {
-                // A helper is its record's only node, so the row ends where it did.
-                kind = 4;
-                at = x.start;
-            } else if x.start == x.stop {
-                // A literal, or an aggregate without nodes.
-                at = x.stop;
-            } else if last_own(depth, x.stop, stop) {
-                holder = 1;
-                level = x.level;
-                kind = 1;
-                at = x.start;
-            } else {
-                let r = row_walk(image, x.start, x.stop, 1, x.level, rest, marks, back);
-                if r.reason != 0 {
-                    return r;
+            let x = first(image, at, end, kind, level, rest, marks)?;
+            match x.holder {
+                Holder::Record => {
+                    back[x.start / Settings::PAGE] = (at + PROXY) as u32;
+                    depth += 1;
+                    rest = x.left;
+                    kind = Holder::Record;
+                    at = x.start;
+                    end = x.stop;
                 }
-                at = x.stop;
-                rest = r.left;
+                // A helper is its record's only node, so the row ends where it did.
+                Holder::Helper => {
+                    kind = Holder::Helper;
+                    at = x.start;
+                }
+                Holder::Literal => at = x.stop,
+                Holder::Aggregate => {
+                    if x.start == x.stop {
+                        at = x.stop;
+                    } else if last_own(depth, x.stop, stop) {
+                        holder = Holder::Aggregate;
+                        level = x.level;
+                        kind = Holder::Aggregate;
+                        at = x.start;
+                    } else {
+                        rest = row_walk(
+                            image,
+                            x.start,
+                            x.stop,
+                            Holder::Aggregate,
+                            x.level,
+                            rest,
+                            marks,
+                            back,
+                        )?;
+                        at = x.stop;
+                    }
+                }
             }
         }
     }
@@ -95,52 +102,48 @@ fn walk_root(
     left: usize,
     marks: &mut [u8; Settings::MARKS],
     back: &mut [u32],
-) -> Walked
+) -> Result<usize, Stop>
     requires { PassedBefore image.now × Holds image.now 1 × (1 ≤ used_at image.now page_size) × IsMarks marks.old
         × (length image.now ≤ page_size * length back.old) }
     ensures { Ends (record_walk image.now left) marks.old marks.new result }
 {
     if image[Settings::PAGE] != 1 {
-        return stopped(1, BAD_NODE);
+        return Err(Stop::new(1, Reason::BadNode));
     }
-    let x = record_row(image, true, 1, 1, left);
-    if x.reason != 0 {
-        return stopped(x.page, x.reason);
+    let x = record_row(image, true, 1, 1, left)?;
+    if head(&image[x.start..x.stop], 0) != 1 {
+        return Err(Stop::new(1, Reason::BadNode));
     }
-    let a = x.start;
-    let e = x.stop;
-    if head(&image[a..e], 0) != 1 {
-        return stopped(1, BAD_NODE);
-    }
-    row_walk(image, a + 6, e, 1, 2, left, marks, back)
+    let a = x.start + 6;
+    row_walk(image, a, x.stop, Holder::Aggregate, 2, left, marks, back)
 }
 
-fn walk_few(image: &[u8], left: usize, marks: &mut [u8; Settings::MARKS]) -> Walked
+// The walk with ways back for N pages.
+fn walk_sized<const N: usize>(
+    image: &[u8],
+    left: usize,
+    marks: &mut [u8; Settings::MARKS],
+) -> Result<usize, Stop>
     requires { PassedBefore image.now × Holds image.now 1 × (1 ≤ used_at image.now page_size) × IsMarks marks.old
-        × (length image.now ≤ page_size * few_pages) }
+        × (length image.now ≤ page_size * N) × (N ≤ most_pages) }
     ensures { Ends (record_walk image.now left) marks.old marks.new result }
 {
-    let mut back = [0u32; FEW];
-    walk_root(image, left, marks, &mut back)
-}
-
-fn walk_many(image: &[u8], left: usize, marks: &mut [u8; Settings::MARKS]) -> Walked
-    requires { PassedBefore image.now × Holds image.now 1 × (1 ≤ used_at image.now page_size) × IsMarks marks.old
-        × (length image.now ≤ page_size * most_pages) }
-    ensures { Ends (record_walk image.now left) marks.old marks.new result }
-{
-    let mut back = [0u32; Settings::PAGES];
+    let mut back = [0u32; N];
     walk_root(image, left, marks, &mut back)
 }
 
 // The same, with ways back of the size that the image takes.
-pub fn record_walk(image: &[u8], left: usize, marks: &mut [u8; Settings::MARKS]) -> Walked
+pub fn record_walk(
+    image: &[u8],
+    left: usize,
+    marks: &mut [u8; Settings::MARKS],
+) -> Result<usize, Stop>
     requires { PassedBefore image.now × Holds image.now 1 × (1 ≤ used_at image.now page_size) × IsMarks marks.old
         × (length_ok (length image.now) ≡ true) }
     ensures { Ends (record_walk image.now left) marks.old marks.new result }
 {
     match tables_for(image.len()) {
-        Tables::Few => walk_few(image, left, marks),
-        Tables::Many => walk_many(image, left, marks),
+        Tables::Few => walk_sized::<FEW>(image, left, marks),
+        Tables::Many => walk_sized::<{ Settings::PAGES }>(image, left, marks),
     }
 }

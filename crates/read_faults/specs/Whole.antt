@@ -1,5 +1,5 @@
 -- The walk from page 1 to its end, and the stages together.
-use Rattle.std.specs.Prelude.{◌≡◌, Bool, List, [], ℕ, ◌+◌, ◌-◌, ◌*◌, ◌≤◌, ◌<◌, length, get_or, replicate}
+use Rattle.std.specs.Prelude.{◌≡◌, Bool, List, [], ℕ, ◌+◌, ◌-◌, ◌*◌, ◌≤◌, ◌<◌, length, get_or, replicate, Result, Ok, Err}
 use Rattle.std.proofs.Math.Path.{refl, sym}
 use Rattle.std.proofs.Common.{ap, ◌∙◌, arith, eq-eqb, ne_eqb, eqb-true}
 use Rattle.std.proofs.Math.Bool.{true, false, cond}
@@ -10,6 +10,7 @@ use Rattle.model.specs.Reading.{length_ok, used_at, kind_at, page_of}
 use Rattle.model.specs.BeforeWalk.{settings_ok, pages_fit, page_count, before_walk}
 use Rattle.model.specs.Calls.Diagnose.{fault, no_fault, been, settings_reason, pages_fault, not_reached, unreached, walk_end, record_count, walk_fault}
 use Rattle.model.specs.Calls.Diagnose.{fault_of, diagnosis, diagnose_of}
+use Rattle.model.specs.Reasons.{reason_number}
 use Rattle.model.specs.Calls.Check.{check_of}
 use Rattle.model.specs.Answers.{not_passed}
 use Rattle.theory_decoding.specs.Valid.{both as and_both}
@@ -22,7 +23,7 @@ use Rattle.theory_faults.specs.Stages.{count_is, pages_stage}
 use Rattle.theory_faults.specs.Tests.{record_some, record_long}
 use Rattle.theory_faults.specs.Exact.{no_fault_lem, some_fault}
 use Rattle.theory_decoding.specs.Length.{length_says}
-use Rattle.read_fault_nodes.specs.declared.Walked.{Walked}
+use Rattle.read_fault_nodes.specs.declared.Stop.{Stop}
 use Rattle.read_fault_nodes.specs.Rows.{Holds, record_on, Ended, record_walk, Ends}
 use Rattle.read_faults.specs.Answer.{answer}
 
@@ -50,7 +51,7 @@ module _ (img : List ℕ) (l : length_ok (length img) ≡ true) (passed : before
   pub first_some : 1 ≤ used_at img page_size
   first_some = omega (arith, record_some img 1 passed (omega arith) few (first_used img few passed))
 
-  module _ (n : ℕ) (is : n ≡ record_count img (page_count img - 1) 1) {r : Walked} {m : List ℕ}
+  module _ (n : ℕ) (is : n ≡ record_count img (page_count img - 1) 1) {r : Result ℕ Stop} {m : List ℕ}
       (e : Ends (record_walk img n) (replicate mark_bytes 0) m r) where
     ended : Ended (record_walk img n []) r m
     ended = e [] matches_none
@@ -64,16 +65,16 @@ module _ (img : List ℕ) (l : length_ok (length img) ≡ true) (passed : before
         (ap (walk_end img) (record_fuel (16384 * (1 + page_count img)) img (eqb (kind_at img page_size) 1) 1 1 (been n [])
         (omega (arith, record_long img 1 h.on h.used, h.used, is, count_trailers img passed, trailers_most img))))
 
-    pub walk_stops : (r.reason ≡ 0 → ⊥) → walk_fault img ≡ fault 3 r.page r.reason
-    walk_stops s = walked ∙ rw (ended.same, ne_eqb r.reason 0 s)
+  module _ (n : ℕ) (is : n ≡ record_count img (page_count img - 1) 1) {m : List ℕ} where
+    pub walk_stops : {s : Stop} → Ends (record_walk img n) (replicate mark_bytes 0) m (Err s) → walk_fault img ≡ fault 3 s.page (reason_number s.reason)
+    walk_stops e = walked n is e ∙ rw (ended n is e).same
 
-    module _ (s : r.reason ≡ 0) where
-      pub walk_all : r.left ≡ 1 → walk_fault img ≡ no_fault
-      walk_all a = walked ∙ rw (ended.same, eq-eqb r.reason 0 s, eq-eqb r.left 1 a)
+    pub walk_all : {left : ℕ} → Ends (record_walk img n) (replicate mark_bytes 0) m (Ok left) → left ≡ 1 → walk_fault img ≡ no_fault
+    walk_all {left} e a = walked n is e ∙ rw ((ended n is e).same, eq-eqb left 1 a)
 
-      pub walk_some : (r.left ≡ 1 → ⊥) → (p : ℕ) → ((reached : List ℕ) → Matches m reached → p ≡ unreached img reached (page_count img - 2) 2)
-          → walk_fault img ≡ fault 3 p not_reached
-      walk_some a p f = walked ∙ rw (ended.same, eq-eqb r.reason 0 s, ne_eqb r.left 1 a, ← f ended.reached (ended.matches s))
+    pub walk_some : {left : ℕ} → Ends (record_walk img n) (replicate mark_bytes 0) m (Ok left) → (left ≡ 1 → ⊥) → (p : ℕ)
+        → ((reached : List ℕ) → Matches m reached → p ≡ unreached img reached (page_count img - 2) 2) → walk_fault img ≡ fault 3 p not_reached
+    walk_some {left} e a p f = let d = ended n is e in walked n is e ∙ rw (d.same, ne_eqb left 1 a, ← f d.reached d.matches)
 
 -- ── the stages ──
 

@@ -1,7 +1,8 @@
 -- Find: a path's entries lead from the root down to the node that the path names.
-use Rattle.std.specs.Prelude.{◌≡◌, Bool, false, cond, List, [], ◌∷◌, ℕ, zero, suc, ◌+◌, ◌*◌, ◌-◌, ◌/◌, ◌%◌, ◌≤◌, ◌<◌, length, drop, ltb}
+use Rattle.std.specs.Prelude.{◌≡◌, Bool, false, cond, List, [], ◌∷◌, ℕ, zero, suc, ◌+◌, ◌*◌, ◌-◌, ◌/◌, ◌%◌, ◌≤◌, ◌<◌, length, get_or, drop, ltb, ◌++◌, Ok, Err}
 use Rattle.std.proofs.Math.Path.{refl, sym, ap, subst}
-use Rattle.std.proofs.Common.{◌∙◌, arith, drop_of_length-le}
+use Rattle.std.proofs.Common.{◌∙◌, arith, drop_of_length-le, drop_at, length-append}
+use Rattle.std.proofs.Math.ListN.{get_or-append}
 use Rattle.std.proofs.Math.Bool.{true}
 use Rattle.std.proofs.lemmas.Bool.{false≢true}
 use Rattle.std.proofs.Math.Option.{Option, none, some}
@@ -9,19 +10,18 @@ use borrow.Author.Tests.{ltb-true, ltb-false, lt-ltb, le-ltb}
 use Rattle.model.specs.Limits.{most_pages, page_size, most_bytes, longest_path}
 use Rattle.model.specs.Row.{Row, nil, agg, lit, rec, size, base, is_agg, Config}
 use Rattle.model.specs.Tree.{shown, width, Node, named, place_at, place_of}
-use Rattle.model.specs.Reading.{Reads, size_at, kind_at}
+use Rattle.model.specs.Reading.{Reads, size_at, kind_at, two_at}
 use Rattle.model.specs.Answers.{find_refused}
 use Rattle.model.specs.Common.{entries, named_if, or_empty, is_none}
 use Rattle.model.specs.Calls.Check.{check_of}
 use Rattle.model.specs.Calls.Find.{find_in, find_of}
 use Rattle.model.specs.declared.Place.{Place}
-use Rattle.model.specs.declared.FindAnswer.{FindAnswer}
+use Rattle.model.specs.Answers.{FindAnswer}
 use Rattle.theory_decoding.specs.Steps.{steps, few_steps}
 use Rattle.theory_decoding.specs.Reading.{reads_valid}
 use Rattle.theory_places.specs.Named.{named_place, unnamed_place}
 use Rattle.theory_calls.specs.Open.{opens, passing}
 use Rattle.theory_layout.specs.Here.{nesting, Here, view, root_here, root_nesting}
-use Rattle.read_find.specs.declared.NthNode.{NthNode}
 use Rattle.read_find.specs.Nth.{nth_of, nth_none, nth_inside, nth_after, place_past}
 use Rattle.read_find.specs.Rowed.{Rowed, children_of}
 use Rattle.read_find.specs.Entries.{four_at, never, whole, broken, NextEntry, next_entry}
@@ -54,36 +54,34 @@ pub record Leads (img : List ℕ) (pos : ℕ) (path : List ℕ) (t : Option Plac
 -- ── one entry ──
 
 -- From a row, the node that the entry names leads on.
-pub reach : (img : List ℕ) (page pos off k : ℕ) (path : List ℕ) (row : Row) → Here img page pos row → pos ≡ page_size * page + off
-    → nesting row ≤ most_pages → steps row ≤ most_bytes → (nth_of pos row k).found ≡ true → Leads img (nth_of pos row k).at path (place_at page off k path row)
+pub reach : (img : List ℕ) (page pos off k at : ℕ) (path : List ℕ) (row : Row) → Here img page pos row → pos ≡ page_size * page + off
+    → nesting row ≤ most_pages → steps row ≤ most_bytes → nth_of pos row k ≡ Ok at → Leads img at path (place_at page off k path row)
 unfolding nth_of place_at
-reach img page pos off k path nil h e d f y = absurd (false≢true y)
-reach img page pos off zero path (agg l cs rest) h e d f y =
-    record { page = page; off = off; row = agg l cs rest; here = h; at = e; node = refl; deep = d; few = f; to = refl }
-reach img page pos off (suc k) path (agg l cs rest) h e d f y =
-    reach img page (pos + (6 + size cs)) (off + 6 + size cs) k path rest (view h (omega arith)).after (omega arith) (omega arith) (omega arith) y
-reach img page pos off zero path (lit l c rest) h e d f y =
-    record { page = page; off = off; row = lit l c rest; here = h; at = e; node = refl; deep = d; few = f; to = refl }
-reach img page pos off (suc k) path (lit l c rest) h e d f y =
-    reach img page (pos + (6 + length c)) (off + 6 + length c) k path rest (view h (omega arith)).after (omega arith) d (omega arith) y
-reach img page pos off k path (rec p s r rest) h e d f y =
+reach img page pos off k at path nil h e d f y = absurd (cc)
+reach img page pos off zero at path (agg l cs rest) h e d f y =
+    let z : pos ≡ at = cc in
+    subst (λ (n : ℕ). Leads img n path (place_at page off 0 path (agg l cs rest))) z
+    (record { page = page; off = off; row = agg l cs rest; here = h; at = e; node = refl; deep = d; few = f; to = refl })
+reach img page pos off (suc k) at path (agg l cs rest) h e d f y =
+    reach img page (pos + (6 + size cs)) (off + 6 + size cs) k at path rest (view h (omega arith)).after (omega arith) (omega arith) (omega arith) y
+reach img page pos off zero at path (lit l c rest) h e d f y =
+    let z : pos ≡ at = cc in
+    subst (λ (n : ℕ). Leads img n path (place_at page off 0 path (lit l c rest))) z
+    (record { page = page; off = off; row = lit l c rest; here = h; at = e; node = refl; deep = d; few = f; to = refl })
+reach img page pos off (suc k) at path (lit l c rest) h e d f y =
+    reach img page (pos + (6 + length c)) (off + 6 + length c) k at path rest (view h (omega arith)).after (omega arith) d (omega arith) y
+reach img page pos off k at path (rec p s r rest) h e d f y =
     let v = view h (omega arith) in
     go (ltb k (width r)) refl
-    (reach img p (page_size * p + base r) (base r) k path r v.under.here refl (omega arith) (omega arith))
-    (reach img page (pos + 8) (off + 8) (k - width r) path rest v.after (omega arith) (omega arith) (omega arith))
+    (reach img p (page_size * p + base r) (base r) k at path r v.under.here refl (omega arith) (omega arith))
+    (reach img page (pos + 8) (off + 8) (k - width r) at path rest v.after (omega arith) (omega arith) (omega arith))
   where
     go : (b : Bool) → ltb k (width r) ≡ b
-        → ((nth_of (page_size * p + base r) r k).found ≡ true → Leads img (nth_of (page_size * p + base r) r k).at path (place_at p (base r) k path r))
-        → ((nth_of (pos + 8) rest (k - width r)).found ≡ true
-        → Leads img (nth_of (pos + 8) rest (k - width r)).at path (place_at page (off + 8) (k - width r) path rest))
-        → Leads img (nth_of pos (rec p s r rest) k).at path (cond b (place_at p (base r) k path r) (place_at page (off + 8) (k - width r) path rest))
-    go true b within beyond =
-        let g = nth_inside pos p s r rest k (ltb-true k (width r) b) in
-        subst (λ (x : NthNode). Leads img x.at path (place_at p (base r) k path r)) (sym g) (within (ap (λ (x : NthNode). x.found) (sym g) ∙ y))
-    go false b within beyond =
-        let g = nth_after pos p s r rest k (ltb-false k (width r) b) in
-        subst (λ (x : NthNode). Leads img x.at path (place_at page (off + 8) (k - width r) path rest)) (sym g)
-        (beyond (ap (λ (x : NthNode). x.found) (sym g) ∙ y))
+        → (nth_of (page_size * p + base r) r k ≡ Ok at → Leads img at path (place_at p (base r) k path r))
+        → (nth_of (pos + 8) rest (k - width r) ≡ Ok at → Leads img at path (place_at page (off + 8) (k - width r) path rest))
+        → Leads img at path (cond b (place_at p (base r) k path r) (place_at page (off + 8) (k - width r) path rest))
+    go true b within beyond = within (sym (nth_inside pos p s r rest k (ltb-true k (width r) b)) ∙ y)
+    go false b within beyond = beyond (sym (nth_after pos p s r rest k (ltb-false k (width r) b)) ∙ y)
 
 -- ── the whole path ──
 
@@ -96,8 +94,8 @@ pub record Finds (img bytes : List ℕ) (pos i : ℕ) (t : Option Place) : Type 
 -- What the node at pos holds, if it is an aggregate, and where the entry at i leads.
 pub record Down (img bytes : List ℕ) (pos i len k : ℕ) (t : Option Place) : Type 0 where
   pub kids : Rowed img (pos + 6) (pos + len) most_pages
-  pub found : (r : NthNode) → r ≡ nth_of (pos + 6) kids.row k → r.found ≡ true → Finds img bytes r.at (i + 4) t
-  pub missing : (r : NthNode) → r ≡ nth_of (pos + 6) kids.row k → r.found ≡ false → t ≡ none
+  pub found : (at : ℕ) → Ok at ≡ nth_of (pos + 6) kids.row k → Finds img bytes at (i + 4) t
+  pub missing : (left : ℕ) → Err left ≡ nth_of (pos + 6) kids.row k → t ≡ none
 
 -- A path without entries leads to the node itself, and no entry leads on from a literal.
 pub no_entry : (page off : ℕ) (row : Row) → is_node row ≡ true → place_at page off 0 [] row ≡ some (record { page = page; offset = off })
@@ -125,16 +123,14 @@ module _ (img bytes : List ℕ) (page pos off i len k : ℕ) (path : List ℕ) (
       let v = view h (omega arith) in
       record {
         kids = children_of h refl d f len long;
-        found = λ r e g. record {
+        found = λ at e. record {
           path = path;
           spelled = spelled;
           leads =
-              subst (λ (x : NthNode). Leads img x.at path t) (sym e)
-              (subst (Leads img (nth_of (pos + 6) cs k).at path) y
-              (reach img page (pos + 6) (off + 6) k path cs v.children (omega arith) (omega arith) (omega arith)
-              (ap (λ (x : NthNode). x.found) (sym e) ∙ g)));
+              subst (Leads img at path) y
+              (reach img page (pos + 6) (off + 6) k at path cs v.children (omega arith) (omega arith) (omega arith) (sym e));
         };
-        missing = λ r e g. sym y ∙ place_past page (off + 6) k path cs (nth_none (pos + 6) cs k (ap (λ (x : NthNode). x.found) (sym e) ∙ g));
+        missing = λ left e. sym y ∙ place_past page (off + 6) k path cs (nth_none (pos + 6) cs k left (sym e));
       }
   into (lit l c rest) h n d f y = absurd (omega (arith, (view h (omega arith)).kind_is))
   into (rec p s r rest) h n d f y = absurd (false≢true n)
@@ -174,6 +170,31 @@ module _ (img bytes : List ℕ) (pos i : ℕ) (t : Option Place) (w : Finds img 
         let g = w.leads in
         into img bytes g.page pos g.off i len k entry.rest t g.at kind long entry.more g.row g.here g.node g.deep g.few
         (ap (λ (j : ℕ). place_at g.page g.off 0 (j ∷ entry.rest) g.row) e ∙ onward)
+
+-- The path as an entry and what is behind it.
+module _ (img bytes entry more : List ℕ) (split : bytes ≡ entry ++ more) (long : length entry ≡ 4) where
+  pub some_bytes : 0 < length bytes
+  some_bytes = omega (arith, ap length split, length-append entry more)
+
+  pub first_entry : four_at entry 0 ≡ four_at bytes 0
+  unfolding four_at two_at
+  first_entry =
+      let b : (j : ℕ) → j < 4 → get_or bytes j 0 ≡ get_or entry j 0 =
+      λ j h. ap (λ (l : List ℕ). get_or l j 0) split ∙ get_or-append entry more 0 j (omega arith) in
+      omega (arith, b 0 (omega arith), b 1 (omega arith), b 2 (omega arith), b 3 (omega arith))
+
+  pub behind : (pos : ℕ) (t : Option Place) → Finds img bytes pos 4 t → Finds img more pos 0 t
+  behind pos t w =
+      let e : drop 4 bytes ≡ more = ap (drop 4) split ∙ drop_at entry more 4 long in
+      record { path = w.path; spelled = ap entries (sym e) ∙ w.spelled; leads = w.leads }
+
+-- Where fewer bytes are left than an entry has, the path ends.
+pub ended : (img bytes : List ℕ) (pos : ℕ) (t : Option Place) → Finds img bytes pos 0 t → length bytes < 4 → t ≡ some (place_on pos)
+ended img [] pos t w h = arrived img [] pos 0 t w (omega arith)
+ended img (a ∷ []) pos t w h = never w.spelled
+ended img (a ∷ b ∷ []) pos t w h = never w.spelled
+ended img (a ∷ b ∷ c ∷ []) pos t w h = never w.spelled
+ended img (a ∷ b ∷ c ∷ d ∷ l) pos t w h = absurd (omega arith)
 
 -- ── the answer ──
 

@@ -1,39 +1,28 @@
 -- Node k of those that a row shows: where it starts.
-use Rattle.std.specs.Prelude.{◌≡◌, refl, Bool, true, false, cond, List, ℕ, zero, suc, ◌+◌, ◌*◌, ◌-◌, ◌≤◌, ◌<◌, length, ltb}
-use Rattle.std.proofs.Common.{sym, ap, ◌∙◌, true≢false, arith, le-ltb, ltb-true, ltb-false}
-use Rattle.std.proofs.lemmas.Bool.{false≢true}
+use Rattle.std.specs.Prelude.{◌≡◌, refl, Bool, true, false, List, ℕ, zero, suc, ◌+◌, ◌*◌, ◌-◌, ◌≤◌, ◌<◌, length, ltb, Result, Ok, Err}
+use Rattle.std.proofs.Common.{arith, le-ltb, ltb-true, ltb-false}
 use Rattle.std.proofs.Math.Option.{none}
 use Rattle.std.proofs.Math.Nat.{sub-zero, suc-sub-suc}
 use Rattle.theory_row_bytes.specs.RowAt.{kind_of, size_of, rest_of}
 use Rattle.model.specs.Limits.{page_size}
 use Rattle.model.specs.Row.{Row, nil, agg, lit, rec, size, base}
 use Rattle.model.specs.Tree.{width, place_at}
-use Rattle.read_find.specs.declared.NthNode.{NthNode}
 
-abbrev pub found_at : ℕ → NthNode
-found_at pos = record { found = true; at = pos }
-
-abbrev pub left_over : ℕ → NthNode
-left_over k = record { found = false; at = k }
+-- What is found stands; with nodes left to pass, the search goes on.
+abbrev pub or_beyond : Result ℕ ℕ → (beyond : ℕ → Result ℕ ℕ) → Result ℕ ℕ
+or_beyond (Ok at) beyond = Ok at
+or_beyond (Err left) beyond = beyond left
 
 -- Of the nodes that the row at pos shows, number k: the byte of the image at which it starts; else how many are left after passing all.
-unfoldable pub nth_of : (pos : ℕ) → Row → (k : ℕ) → NthNode
-nth_of pos nil k = left_over k
-nth_of pos (agg h cs rest) zero = found_at pos
+unfoldable pub nth_of : (pos : ℕ) → Row → (k : ℕ) → Result ℕ ℕ
+nth_of pos nil k = Err k
+nth_of pos (agg h cs rest) zero = Ok pos
 nth_of pos (agg h cs rest) (suc k) = nth_of (pos + (6 + size cs)) rest k
-nth_of pos (lit h c rest) zero = found_at pos
+nth_of pos (lit h c rest) zero = Ok pos
 nth_of pos (lit h c rest) (suc k) = nth_of (pos + (6 + length c)) rest k
-nth_of pos (rec p s r rest) k =
-    let inside = nth_of (page_size * p + base r) r k in
-    let beyond = nth_of (pos + 8) rest inside.at in
-    cond inside.found inside beyond
+nth_of pos (rec p s r rest) k = or_beyond (nth_of (page_size * p + base r) r k) (λ left. nth_of (pos + 8) rest left)
 
--- A test whose outcome is known.
-pick_true : {A : Type 0} (b : Bool) (x y : A) → b ≡ true → cond b x y ≡ x
-pick_true true x y e = refl
-pick_true false x y e = absurd (false≢true e)
-
-pub nth_left : (pos : ℕ) (row : Row) (k : ℕ) → width row ≤ k → nth_of pos row k ≡ left_over (k - width row)
+pub nth_left : (pos : ℕ) (row : Row) (k : ℕ) → width row ≤ k → nth_of pos row k ≡ Err (k - width row)
 unfolding nth_of
 nth_left pos nil k h = rw sub-zero
 nth_left pos (agg l cs rest) zero h = absurd (omega arith)
@@ -45,31 +34,31 @@ nth_left pos (rec p s r rest) k h =
     rw (nth_left (page_size * p + base r) r k (omega arith), nth_left (pos + 8) rest (k - width r) (omega arith), e)
 
 -- It is found exactly if the row shows more than k.
-pub nth_found : (pos : ℕ) (row : Row) (k : ℕ) → k < width row → (nth_of pos row k).found ≡ true
+pub nth_found : (pos : ℕ) (row : Row) (k : ℕ) → k < width row → (at : ℕ) × (nth_of pos row k ≡ Ok at)
 unfolding nth_of
 nth_found pos nil k h = absurd (omega arith)
-nth_found pos (agg l cs rest) zero h = refl
+nth_found pos (agg l cs rest) zero h = (pos, refl)
 nth_found pos (agg l cs rest) (suc k) h = nth_found (pos + (6 + size cs)) rest k (omega arith)
-nth_found pos (lit l c rest) zero h = refl
+nth_found pos (lit l c rest) zero h = (pos, refl)
 nth_found pos (lit l c rest) (suc k) h = nth_found (pos + (6 + length c)) rest k (omega arith)
 nth_found pos (rec p s r rest) k h =
     go (ltb k (width r)) refl (nth_found (page_size * p + base r) r k) (nth_found (pos + 8) rest (k - width r))
   where
-    go : (b : Bool) → ltb k (width r) ≡ b → (k < width r → (nth_of (page_size * p + base r) r k).found ≡ true)
-        → (k - width r < width rest → (nth_of (pos + 8) rest (k - width r)).found ≡ true) → (nth_of pos (rec p s r rest) k).found ≡ true
-    go true e f g = let a = f (ltb-true k (width r) e) in ap (λ (x : NthNode). x.found) (pick_true _ _ _ a) ∙ a
-    go false e f g = let a = ltb-false k (width r) e in rw (nth_left (page_size * p + base r) r k a) (g (omega arith))
+    go : (b : Bool) → ltb k (width r) ≡ b → (k < width r → (at : ℕ) × (nth_of (page_size * p + base r) r k ≡ Ok at))
+        → (k - width r < width rest → (at : ℕ) × (nth_of (pos + 8) rest (k - width r) ≡ Ok at)) → (at : ℕ) × (nth_of pos (rec p s r rest) k ≡ Ok at)
+    go true e f g = let (at, a) = f (ltb-true k (width r) e) in (at, rw a)
+    go false e f g = let (at, a) = g (omega (arith, ltb-false k (width r) e)) in (at, rw (nth_left (page_size * p + base r) r k (ltb-false k (width r) e), a))
 
-pub nth_none : (pos : ℕ) (row : Row) (k : ℕ) → (nth_of pos row k).found ≡ false → width row ≤ k
-nth_none pos row k e = go (ltb k (width row)) refl
+pub nth_none : (pos : ℕ) (row : Row) (k left : ℕ) → nth_of pos row k ≡ Err left → width row ≤ k
+nth_none pos row k left e = go (ltb k (width row)) refl
   where
     go : (b : Bool) → ltb k (width row) ≡ b → width row ≤ k
-    go true f = absurd (true≢false (sym (nth_found pos row k (ltb-true k (width row) f)) ∙ e))
+    go true f = let (at, a) = nth_found pos row k (ltb-true k (width row) f) in cc
     go false f = ltb-false k (width row) f
 
 -- A node is the first, and behind it they go on.
 pub nth_first : (pos : ℕ) (row : Row) → 0 < size row → (kind_of row ≡ 3 → ⊥)
-    → (found_at pos ≡ nth_of pos row 0) × ((k : ℕ) → nth_of (pos + size_of row) (rest_of row) k ≡ nth_of pos row (suc k))
+    → (Ok pos ≡ nth_of pos row 0) × ((k : ℕ) → nth_of (pos + size_of row) (rest_of row) k ≡ nth_of pos row (suc k))
 unfolding nth_of
 nth_first pos nil h k = absurd (omega arith)
 nth_first pos (agg l cs rest) h k = (refl, λ _. refl)
@@ -80,7 +69,7 @@ nth_first pos (rec p s r rest) h k = absurd (k refl)
 module _ (pos p : ℕ) (s : Bool) (r rest : Row) (k : ℕ) where
   pub nth_inside : k < width r → nth_of pos (rec p s r rest) k ≡ nth_of (page_size * p + base r) r k
   unfolding nth_of
-  nth_inside h = pick_true _ _ _ (nth_found (page_size * p + base r) r k h)
+  nth_inside h = let (at, a) = nth_found (page_size * p + base r) r k h in rw a
 
   pub nth_after : width r ≤ k → nth_of pos (rec p s r rest) k ≡ nth_of (pos + 8) rest (k - width r)
   unfolding nth_of

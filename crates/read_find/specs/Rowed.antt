@@ -1,6 +1,7 @@
 -- A walk along a row that stands in an image: what it asks at each node, and what is left after it.
-use Rattle.std.specs.Prelude.{◌≡◌, refl, Bool, cond, List, ℕ, suc, ◌+◌, ◌*◌, ◌-◌, ◌≤◌, ◌<◌, length, get_or, eqb}
-use Rattle.std.proofs.Common.{sym, ap, subst, ◌∙◌, arith}
+use Rattle.std.specs.Prelude.{◌≡◌, refl, Bool, cond, List, ℕ, suc, ◌+◌, ◌*◌, ◌-◌, ◌≤◌, ◌<◌, length, get_or, eqb, true, false, Result, Ok, Err}
+use Rattle.std.proofs.Common.{sym, ap, subst, ◌∙◌, arith, eqb-true}
+use Rattle.std.proofs.lemmas.Bool.{eqb-false}
 use Rattle.model.specs.Limits.{page_size, most_bytes}
 use Rattle.model.specs.Row.{Row, nil, agg, lit, rec, size, base}
 use Rattle.model.specs.Tree.{width}
@@ -9,8 +10,8 @@ use Rattle.theory_decoding.specs.Steps.{steps}
 use Rattle.theory_row_bytes.specs.RowAt.{kind_of, size_of, kids_of, rest_of, size_first, agg_first}
 use Rattle.theory_layout.specs.Here.{nesting, parts_less, PageIn, Here, view}
 use Rattle.theory_layout.specs.Widths.{Widths, width_first, plain_width}
-use Rattle.read_find.specs.declared.NthNode.{NthNode}
-use Rattle.read_find.specs.Nth.{found_at, left_over, nth_of, nth_inside, nth_after, nth_first}
+use Rattle.read_find.specs.Nth.{nth_of, nth_inside, nth_after, nth_first}
+use Rattle.read_find.specs.Shown.{shown_at, Counts}
 
 -- A row stands from pos to end, with records nested at most `depth` deep below it.
 pub record Rowed (img : List ℕ) (pos end depth : ℕ) : Type 0 where
@@ -74,7 +75,7 @@ pub record Passed (img : List ℕ) (i end depth len : ℕ) (row : Row) : Type 0 
   pub more : 6 ≤ len
   pub after : Rowed img (i + len) end depth
   pub wide : width row ≡ suc (width after.row)
-  pub first : found_at i ≡ nth_of i row 0
+  pub first : Ok i ≡ nth_of i row 0
   pub later : (k : ℕ) → nth_of (i + len) after.row k ≡ nth_of i row (suc k)
 
 module _ (img : List ℕ) (i end depth len : ℕ) (some : i < end) (long : len ≡ size_at img i) (kind : kind_at img i ≡ 3 → ⊥) where
@@ -148,6 +149,23 @@ module _ (img : List ℕ) (i end depth p : ℕ) (some : i < end) (kind : kind_at
   pub enter : (w : Rowed img i end depth) → Entered img i end depth p w.row
   enter w = enter_row w.page w.row w.here w.ends w.deep w.few
 
+-- ── the first node ──
+
+-- What it shows, by the table.
+module _ (img : List ℕ) (i end depth : ℕ) (some : i < end) (w : Rowed img i end depth) (c : List ℕ) (table : Widths img c) where
+  pub counts : Counts img c i
+  counts =
+      let r = room img i end depth w in
+      record {
+        inside = omega (arith, r.0);
+        named = λ k.
+            let e = enter img i end depth (name_at img i) some k refl w in
+            (omega (arith, r.0), omega (arith, e.on.inside, table.long));
+      }
+
+  pub more : 6 ≤ size_at img i
+  more = let v = view w.here (omega (arith, w.ends)) in omega (arith, v.size_is, v.more)
+
 -- ── counting ──
 
 -- n nodes are passed, and the row that is left brings the count to t.
@@ -179,38 +197,50 @@ count_proxy img i end depth n t len p e s a c table =
     subst (λ (m : ℕ). Counted img (i + m) end depth (n + get_or c p 0) t) (sym (e ∙ a.long))
     (record { rest = a.after; sum = omega (arith, s.sum, a.wide, a.told c table) })
 
+-- The first node, as many as it shows.
+module _ (img : List ℕ) (i end depth n t len : ℕ) (some : i < end) (long : len ≡ size_at img i) (s : Counted img i end depth n t)
+    (c : List ℕ) (table : Widths img c) where
+  pub count_first : Counted img (i + len) end depth (n + shown_at img c i) t
+  count_first = go (eqb (kind_at img i) 3) refl
+    where
+      go : (b : Bool) → eqb (kind_at img i) 3 ≡ b → Counted img (i + len) end depth (n + cond b (get_or c (name_at img i) 0) 1) t
+      go true e =
+          count_proxy img i end depth n t len (name_at img i) long s
+          (enter img i end depth (name_at img i) some (eqb-true (kind_at img i) 3 e) refl s.rest) c table
+      go false e = count_node img i end depth n t len s (pass img i end depth len some long (eqb-false (kind_at img i) 3 e) s.rest)
+
 -- ── searching ──
 
 -- Node `left` of the row that is left is the one sought.
-pub record Sought (img : List ℕ) (i end depth left : ℕ) (t : NthNode) : Type 0 where
+pub record Sought (img : List ℕ) (i end depth left : ℕ) (t : Result ℕ ℕ) : Type 0 where
   pub rest : Rowed img i end depth
   pub same : nth_of i rest.row left ≡ t
 
 pub seeking : (img : List ℕ) (i end depth k : ℕ) → (w : Rowed img i end depth) → Sought img i end depth k (nth_of i w.row k)
 seeking img i end depth k w = record { rest = w; same = refl }
 
-pub sought : (img : List ℕ) (i end depth left : ℕ) (t : NthNode) → Sought img i end depth left t → end ≤ i → left_over left ≡ t
+pub sought : (img : List ℕ) (i end depth left : ℕ) (t : Result ℕ ℕ) → Sought img i end depth left t → end ≤ i → Err left ≡ t
 unfolding nth_of
 sought img i end depth left t s h = go s.rest.row s.rest.ends s.same
   where
-    go : (row : Row) → end ≡ i + size row → nth_of i row left ≡ t → left_over left ≡ t
+    go : (row : Row) → end ≡ i + size row → nth_of i row left ≡ t → Err left ≡ t
     go nil e u = u
     go (agg l cs rest) e u = absurd (omega arith)
     go (lit l c rest) e u = absurd (omega arith)
     go (rec p b r rest) e u = absurd (omega arith)
 
-pub seek_here : (img : List ℕ) (i end depth left len : ℕ) (t : NthNode) → (s : Sought img i end depth left t) → Passed img i end depth len s.rest.row
-    → left ≡ 0 → found_at i ≡ t
+pub seek_here : (img : List ℕ) (i end depth left len : ℕ) (t : Result ℕ ℕ) → (s : Sought img i end depth left t) → Passed img i end depth len s.rest.row
+    → left ≡ 0 → Ok i ≡ t
 seek_here img i end depth left len t s a z = a.first ∙ ap (nth_of i s.rest.row) (sym z) ∙ s.same
 
-pub seek_node : (img : List ℕ) (i end depth left len : ℕ) (t : NthNode) → (s : Sought img i end depth left t) → Passed img i end depth len s.rest.row
+pub seek_node : (img : List ℕ) (i end depth left len : ℕ) (t : Result ℕ ℕ) → (s : Sought img i end depth left t) → Passed img i end depth len s.rest.row
     → (left ≡ 0 → ⊥) → Sought img (i + len) end depth (left - 1) t
 seek_node img i end depth left len t s a z =
     let e : suc (left - 1) ≡ left = omega arith in
     record { rest = a.after; same = a.later (left - 1) ∙ ap (nth_of i s.rest.row) e ∙ s.same }
 
 -- Into a record that shows more nodes than are to be passed, and past one that does not, by the table's number of its nodes.
-module _ (img : List ℕ) (i end depth left p : ℕ) (t : NthNode) (s : Sought img i end depth left t) (a : Entered img i end depth p s.rest.row)
+module _ (img : List ℕ) (i end depth left p : ℕ) (t : Result ℕ ℕ) (s : Sought img i end depth left t) (a : Entered img i end depth p s.rest.row)
     (c : List ℕ) (table : Widths img c) where
   pub seek_inside : (start stop : ℕ) → start ≡ start_on img p → stop ≡ end_on img p → left < get_or c p 0 → Sought img start stop (depth - 1) left t
   seek_inside start stop e f h =
@@ -220,3 +250,17 @@ module _ (img : List ℕ) (i end depth left p : ℕ) (t : NthNode) (s : Sought i
   seek_past h =
       let e = a.told c table in
       record { rest = a.after; same = ap (λ (n : ℕ). nth_of (i + 8) a.after.row (left - n)) e ∙ a.beyond left (omega arith) ∙ s.same }
+
+-- Past a first node that shows no more nodes than are to be passed.
+module _ (img : List ℕ) (i end depth left len : ℕ) (t : Result ℕ ℕ) (some : i < end) (long : len ≡ size_at img i) (s : Sought img i end depth left t)
+    (c : List ℕ) (table : Widths img c) where
+  pub seek_on : shown_at img c i ≤ left → Sought img (i + len) end depth (left - shown_at img c i) t
+  seek_on = go (eqb (kind_at img i) 3) refl
+    where
+      go : (b : Bool) → eqb (kind_at img i) 3 ≡ b → cond b (get_or c (name_at img i) 0) 1 ≤ left
+          → Sought img (i + len) end depth (left - cond b (get_or c (name_at img i) 0) 1) t
+      go true e h =
+          let a = enter img i end depth (name_at img i) some (eqb-true (kind_at img i) 3 e) refl s.rest in
+          rw (long ∙ a.long) (seek_past img i end depth left (name_at img i) t s a c table h)
+      go false e h =
+          seek_node img i end depth left len t s (pass img i end depth len some long (eqb-false (kind_at img i) 3 e) s.rest) (λ z. omega arith)

@@ -6,14 +6,14 @@ ghost use Rattle.model.specs.Limits.{most_levels};
 ghost use Rattle.read_leaves.specs.Leafy.{Leafy};
 
 use base_layout::size_at;
-use base_node_kinds::in_aggregate;
+use base_node_kinds::{AGGREGATE, kinds_in};
 use read_nodes::{aggregate, literal, size_of};
 
 // Whether the nodes of a list are empty aggregates and literals alone.
 fn leaves(part: &[u8], level: usize) -> bool
     ensures { result ≡ true → Leafy part.now level × ((length part.now ≡ 0 → ⊥) → level ≤ most_levels) }
 {
-    let may = in_aggregate();
+    let may = kinds_in(AGGREGATE);
     let mut at = 0;
     while at < part.len() {
         let rest = &part[at..];

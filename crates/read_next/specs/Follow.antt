@@ -1,5 +1,5 @@
 -- The next node in document order: past the end of a record the nodes go on behind its proxy, and a proxy's nodes are its record's.
-use Rattle.std.specs.Prelude.{◌≡◌, refl, List, [], ◌∷◌, ◌++◌, ℕ, suc, ◌+◌, ◌*◌, ◌-◌, ◌/◌, ◌%◌, ◌≤◌, ◌<◌, length}
+use Rattle.std.specs.Prelude.{◌≡◌, refl, Option, None, Some, List, [], ◌∷◌, ◌++◌, ℕ, suc, ◌+◌, ◌*◌, ◌-◌, ◌/◌, ◌%◌, ◌≤◌, ◌<◌, length}
 use Rattle.std.proofs.Common.{sym, ap, subst, ◌∙◌, append_assoc, arith}
 use Rattle.std.proofs.Math.Option.{some}
 use Rattle.read_find.specs.Rowed.{start_on, end_on}
@@ -13,7 +13,7 @@ use Rattle.model.specs.Calls.Next.{next_of, kind_of, origin_of}
 use Rattle.model.specs.declared.Place.{Place}
 use Rattle.model.specs.declared.Kind.{Kind}
 use Rattle.model.specs.declared.Origin.{Origin}
-use Rattle.model.specs.declared.NextAnswer.{NextAnswer}
+use Rattle.model.specs.Answers.{NextAnswer}
 use Rattle.model.specs.declared.Next.TheVariants as next_is
 use Rattle.theory_calls.specs.Navigate.{next_stray, next_follows, next_last}
 use Rattle.theory_layout.specs.Here.{PageIn}
@@ -71,9 +71,9 @@ pub record ItemUpward (img : List ℕ) (pos page n left : ℕ) : Type 0 where
   pub from : ItemsFrom img pos page n
   pub deep : from.on.depth ≤ left
 
-pub record ItemAfter (img : List ℕ) (pos r : ℕ) : Type 0 where
-  pub stop : r ≡ 0 → Last img pos
-  pub more : 1 ≤ r → Ahead img pos r
+abbrev pub ItemAfter : (img : List ℕ) (pos : ℕ) → Option ℕ → Type 0
+ItemAfter img pos None = Last img pos
+ItemAfter img pos (Some n) = Ahead img pos n
 
 -- Where a node stands.
 pub node_head : {img : List ℕ} {pos : ℕ} (a : NodeAt img pos) → HeaderRoom img a.spot.page pos
@@ -319,10 +319,10 @@ module _ {img : List ℕ} {pos n left : ℕ} (c : Enter img pos n left) (k : kin
 abbrev pub next_at : (n : ℕ) → Kind → Origin → NextAnswer
 next_at n k o = record { number = 0; next = next_is.Node (record { place = record { page = n / page_size; offset = n % page_size }; kind = k; origin = o }) }
 
--- The next node, or 0 at the end.
-pub record Nexted (img : List ℕ) (pos r : ℕ) : Type 0 where
-  pub stop : r ≡ 0 → Last img pos
-  pub more : 1 ≤ r → Follows img pos r
+-- The next node, or none at the end.
+abbrev pub Nexted : (img : List ℕ) (pos : ℕ) → Option ℕ → Type 0
+Nexted img pos None = Last img pos
+Nexted img pos (Some n) = Follows img pos n
 
 module _ (img : List ℕ) (x : Place) (pos : ℕ) (a : NodeOf img x.page x.offset pos) where
   -- A node at the position has the place.
@@ -359,10 +359,10 @@ module _ (img : List ℕ) (x : Place) (pos : ℕ) (a : NodeOf img x.page x.offse
           rw (read_kind img m n b.1.0.0, o) (rw (place_at_lem img l.settings l.root l.reads m n b.1.0.1) at f.2)
 
 -- A place where no node is.
-pub answer_stray : (img : List ℕ) (x : Place) (r : ℕ) → check_of img ≡ 0 → Located img x.page x.offset r → r ≡ 0 → next_of img x ≡ next_refused 10
-answer_stray img x r z l e =
+pub answer_stray : (img : List ℕ) (x : Place) → check_of img ≡ 0 → Located img x.page x.offset None → next_of img x ≡ next_refused 10
+answer_stray img x z f =
     let s = store_of img z in
-    next_stray img s.settings s.root s.reads x (l.stray e s.settings s.root s.reads)
+    next_stray img s.settings s.root s.reads x (f s.settings s.root s.reads)
 
 -- A node that follows is in the image.
 pub follows_inside : {img : List ℕ} {pos n : ℕ} → Follows img pos n → n + 6 ≤ length img
@@ -373,7 +373,8 @@ follows_inside {img} {pos} {n} l =
     let h = node_header img l.settings l.root l.reads n (node_in l.root n m) in
     omega (arith, h.room, h.on.inside)
 
--- The answer with the kind and the origin that are read.
-pub answer_read : (img : List ℕ) (x : Place) (pos n : ℕ) (k : Kind) (o : Origin) → NodeOf img x.page x.offset pos → Follows img pos n
-    → k ≡ kind_of (kind_at img n) → o ≡ origin_of (head_at img n).origin → next_at n k o ≡ next_of img x
-answer_read img x pos n k o a f e h = rw (e, h) (sym (answer_node img x pos a n f))
+-- The answer with the place, the kind and the origin that are read.
+pub answer_read : (img : List ℕ) (x : Place) (pos n : ℕ) (y : Place) (k : Kind) (o : Origin) → NodeOf img x.page x.offset pos → Follows img pos n
+    → y ≡ record { page = n / page_size; offset = n % page_size } → k ≡ kind_of (kind_at img n) → o ≡ origin_of (head_at img n).origin
+    → record { number = 0; next = next_is.Node (record { place = y; kind = k; origin = o }) } ≡ next_of img x
+answer_read img x pos n y k o a f d e h = rw (d, e, h) (sym (answer_node img x pos a n f))

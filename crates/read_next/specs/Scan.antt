@@ -1,5 +1,5 @@
 -- Looking for a header in a record: for a node at a byte, and for the proxy that names a page.
-use Rattle.std.specs.Prelude.{◌≡◌, refl, Bool, true, false, cond, ℕ, ◌+◌, ◌*◌, ◌/◌, ◌≤◌, ◌<◌, length, eqb}
+use Rattle.std.specs.Prelude.{◌≡◌, refl, Bool, true, false, cond, Option, None, Some, ℕ, ◌+◌, ◌*◌, ◌/◌, ◌≤◌, ◌<◌, length, eqb}
 use Rattle.std.proofs.Common.{sym, ap, ◌∙◌, true≢false, arith, eqb-true, eq-eqb, ne_eqb}
 use Rattle.std.proofs.Math.Path.{subst}
 use mathlib.Core.List.{List, [], ◌∷◌, ◌++◌, Memᴰ}
@@ -151,10 +151,10 @@ pub record Reached (img : List ℕ) (page target r : ℕ) : Type 0 where
   pub past : target ≤ r
   pub scan : (w : OnRecord img page) → Scan img page w target r
 
--- The target if a node stands there, else 0.
-pub record Standing (img : List ℕ) (page target r : ℕ) : Type 0 where
-  pub stray : r ≡ 0 → (w : OnRecord img page) → Memᴰ (node target) (all w) → ⊥
-  pub found : 1 ≤ r → (r ≡ target) × ((w : OnRecord img page) → Memᴰ (node target) (all w))
+-- Whether a node stands at the target.
+abbrev pub Standing : (img : List ℕ) (page target : ℕ) → Bool → Type 0
+Standing img page target true = (w : OnRecord img page) → Memᴰ (node target) (all w)
+Standing img page target false = (w : OnRecord img page) → Memᴰ (node target) (all w) → ⊥
 
 -- ── a place ──
 
@@ -171,10 +171,10 @@ pub record NodeOf (img : List ℕ) (page offset pos : ℕ) : Type 0 where
   pub short : offset < page_size
   pub node : NodeAt img pos
 
--- Where the node of a place stands, or 0.
-pub record Located (img : List ℕ) (page offset r : ℕ) : Type 0 where
-  pub stray : r ≡ 0 → (st : Config) (root : Row) → Reads img st root → NoNode root (record { page = page; offset = offset })
-  pub found : 1 ≤ r → NodeOf img page offset r
+-- Where the node of a place stands, if there is one.
+abbrev pub Located : (img : List ℕ) (page offset : ℕ) → Option ℕ → Type 0
+Located img page offset None = (st : Config) (root : Row) → Reads img st root → NoNode root (record { page = page; offset = offset })
+Located img page offset (Some pos) = NodeOf img page offset pos
 
 -- The store of an image that passes the check.
 pub record Store (img : List ℕ) : Type 0 where
@@ -199,15 +199,11 @@ module _ (img : List ℕ) (page offset : ℕ) where
   abbrev x : Place
   x = record { page = page; offset = offset }
 
-  -- nothing is found
-  none : ((st : Config) (root : Row) → Reads img st root → NoNode root x) → Located img page offset 0
-  none f = record { stray = λ _. f; found = λ h. absurd (omega arith) }
+  pub no_page : page ≡ 0 → Located img page offset None
+  no_page e = λ st root r n m p. omega (arith, (node_spot img st root r n m x p).1.low)
 
-  pub no_page : page ≡ 0 → Located img page offset 0
-  no_page e = none (λ st root r n m p. omega (arith, (node_spot img st root r n m x p).1.low))
-
-  pub past_pages : length img / page_size ≤ page → Located img page offset 0
-  past_pages h = none (λ st root r n m p. omega (arith, reads_length img st root r, (node_spot img st root r n m x p).1.high))
+  pub past_pages : length img / page_size ≤ page → Located img page offset None
+  past_pages h = λ st root r n m p. omega (arith, reads_length img st root r, (node_spot img st root r n m x p).1.high)
 
   -- The record that a place's node is in is its page's.
   module _ (st : Config) (root : Row) (r : Reads img st root) (n : Node) (m : Mem n (nodes (shown root))) (p : place_of root n.path ≡ some x) where
@@ -242,11 +238,11 @@ module _ (img : List ℕ) (page offset : ℕ) where
         let u : used_at img (page_size * page) ≡ record_size s.row = subst (λ (q : ℕ). used_at img (page_size * q) ≡ record_size s.row) its_page v.used in
         omega (arith, h.further, e, its_page, u)
 
-  pub no_record : (state_at img (page_size * page) ≡ 1 → ⊥) → Located img page offset 0
-  no_record f = none (λ st root r n m p. f (its_state st root r n m p))
+  pub no_record : (state_at img (page_size * page) ≡ 1 → ⊥) → Located img page offset None
+  no_record f = λ st root r n m p. f (its_state st root r n m p)
 
-  pub past_end : used_at img (page_size * page) ≤ offset → Located img page offset 0
-  past_end h = none (λ st root r n m p. omega (arith, its_end st root r n m p))
+  pub past_end : used_at img (page_size * page) ≤ offset → Located img page offset None
+  past_end h = λ st root r n m p. omega (arith, its_end st root r n m p)
 
   record_in : (st : Config) (root : Row) → Reads img st root → 1 ≤ page → page < length img / page_size → state_at img (page_size * page) ≡ 1 → OnRecord img page
   record_in st root r low high e =
@@ -256,24 +252,25 @@ module _ (img : List ℕ) (page offset : ℕ) where
   pub its_page_in : check_of img ≡ 0 → 1 ≤ page → page < length img / page_size → state_at img (page_size * page) ≡ 1 → OnRecord img page
   its_page_in z low high e = let s = store_of img z in record_in s.settings s.root s.reads low high e
 
-  pub located : (r : ℕ) → check_of img ≡ 0 → 1 ≤ page → page < length img / page_size → state_at img (page_size * page) ≡ 1
-      → Standing img page (page_size * page + offset) r → Located img page offset r
+  pub no_node : check_of img ≡ 0 → 1 ≤ page → page < length img / page_size → state_at img (page_size * page) ≡ 1
+      → Standing img page (page_size * page + offset) false → Located img page offset None
+  unfolding record_in
+  no_node z low high e f = λ st root reads n m p.
+      let w = record_in st root reads low high e in
+      f w (its_item st root reads n m p w refl)
+
+  pub located : check_of img ≡ 0 → 1 ≤ page → page < length img / page_size → state_at img (page_size * page) ≡ 1
+      → Standing img page (page_size * page + offset) true → Located img page offset (Some (page_size * page + offset))
   unfolding record_in item_node its_page_in
-  located r z low high e s = record {
-    stray = λ q st root reads n m p.
-        let w = record_in st root reads low high e in
-        s.stray q w (its_item st root reads n m p w refl);
-    found = λ q.
-        let w = its_page_in z low high e in
-        let i = s.found q in
-        let here : NodeIn w.root (page_size * page + offset) =
-        item_node img w.settings w.root w.reads w.within (page_size * page + offset) (i.1 w) in
-        record {
-          is = i.0;
-          short = omega (arith, (node_header img w.settings w.root w.reads (page_size * page + offset) here).room);
-          node = record { settings = w.settings; root = w.root; reads = w.reads; spot = subst (NodeIn w.root) (sym i.0) here };
-        };
-  }
+  located z low high e f =
+      let w = its_page_in z low high e in
+      let here : NodeIn w.root (page_size * page + offset) =
+      item_node img w.settings w.root w.reads w.within (page_size * page + offset) (f w) in
+      record {
+        is = refl;
+        short = omega (arith, (node_header img w.settings w.root w.reads (page_size * page + offset) here).room);
+        node = record { settings = w.settings; root = w.root; reads = w.reads; spot = here };
+      }
 
 -- ── the proxy that names a page ──
 
@@ -385,11 +382,11 @@ names_none img pos page k = rw (ne_eqb (kind_at img pos) 3 k)
 -- ── the scan's end ──
 
 module _ (img : List ℕ) (page target r : ℕ) (s : Reached img page target r) where
-  pub standing_past : (r ≡ target → ⊥) → Standing img page target 0
-  standing_past f = record { stray = λ _ w m. scan_past w target r (s.scan w) (omega (arith, s.past)) m; found = λ h. absurd (omega arith) }
+  pub standing_past : (r ≡ target → ⊥) → Standing img page target false
+  standing_past f = λ w m. scan_past w target r (s.scan w) (omega (arith, s.past)) m
 
-  pub standing_proxy : r ≡ target → kind_at img r ≡ 3 → Standing img page target 0
-  standing_proxy e k = record { stray = λ _ w m. scan_proxy w target r (s.scan w) e k m; found = λ h. absurd (omega arith) }
+  pub standing_proxy : r ≡ target → kind_at img r ≡ 3 → Standing img page target false
+  standing_proxy e k = λ w m. scan_proxy w target r (s.scan w) e k m
 
   module _ (w : OnRecord img page) (e : r ≡ target) (h : target < end_on img page) where
     reached_head : HeaderRoom img page r
@@ -398,8 +395,5 @@ module _ (img : List ℕ) (page target r : ℕ) (s : Reached img page target r) 
     pub reached_inside : r < length img
     reached_inside = omega (arith, reached_head.inside)
 
-    pub standing_node : (kind_at img r ≡ 3 → ⊥) → Standing img page target r
-    standing_node k = record {
-      stray = λ z. absurd (omega (arith, reached_head.low, (known w).on.low));
-      found = λ _. (e, λ w. scan_node w target r (s.scan w) e (omega (arith, (known w).end)) k);
-    }
+    pub standing_node : (kind_at img r ≡ 3 → ⊥) → Standing img page target true
+    standing_node k = λ w. scan_node w target r (s.scan w) e (omega (arith, (known w).end)) k

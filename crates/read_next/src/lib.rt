@@ -1,9 +1,10 @@
 // Moving about in an image that passes the check: the node of a place, and the next one in document order.
 #![tactic(auto)]
 
-ghost use Rattle.std.specs.Prelude.{◌≡◌, false, cond, ℕ, ◌+◌, ◌*◌, ◌≤◌, ◌<◌, length, get_or, eqb};
+ghost use Rattle.std.specs.Prelude.{◌≡◌, false, Ok, cond, ℕ, ◌+◌, ◌*◌, ◌≤◌, ◌<◌, length, get_or, eqb};
 ghost use Rattle.model.specs.Limits.{most_bytes};
 ghost use Rattle.model.specs.Reading.{head_at, size_at};
+ghost use Rattle.model.specs.Answers.{next_result, read_result};
 ghost use Rattle.model.specs.Calls.Check.{check_of};
 ghost use Rattle.model.specs.Calls.Read.{read_of};
 ghost use Rattle.model.specs.Calls.Next.{kind_of, origin_of, next_of};
@@ -11,12 +12,12 @@ ghost use Rattle.read_find.specs.Rowed.{end_on};
 ghost use Rattle.theory_layout.specs.Order.{step};
 ghost use Rattle.theory_layout.specs.Widths.{Widths};
 ghost use Rattle.read_next.specs.Scan.{OnRecord, Reached, Standing, Located, HeldBy, NodeAt, names as names_page};
-ghost use Rattle.read_next.specs.Read.{Inner, agg_read, lit_read};
+ghost use Rattle.read_next.specs.Read.{Inner, IsOrigin, agg_read, lit_read};
 ghost use Rattle.read_next.specs.Follow.{ItemAfter, Ahead, Follows, Nexted};
 
-use base_layout::{back_at, label_at, name_at, origin_at, size_at, used_at};
-use model::{Kind, Next, NextAnswer, NextNode, Origin, Place, ReadNode, Settings};
-use read_find::{row_end, row_start, width};
+use base_layout::{back_at, label_at, name_at, origin_at, record_end, size_at, used_at};
+use model::{Details, Kind, Next, NextNode, Origin, Place, Refusal, Settings};
+use read_find::{row_start, width};
 
 // Where the header after the one at pos stands.
 fn flat(image: &[u8], pos: usize) -> usize
@@ -43,40 +44,45 @@ fn reach(image: &[u8], page: usize, target: usize) -> usize
     pos
 }
 
-// The target if a node stands there, else 0.
-fn standing(image: &[u8], page: usize, target: usize) -> usize
+// Whether a node stands at the target.
+fn stands(image: &[u8], page: usize, target: usize) -> bool
     requires { OnRecord image.now page × (target < end_on image.now page) }
     ensures { Standing image.now page target result }
 {
     let pos = reach(image, page, target);
     if pos != target {
-        return 0;
+        return false;
     }
     if image[pos] == 3 {
-        return 0;
+        return false;
     }
-    pos
+    true
 }
 
-// Where the node of a place stands in the image, 0 if there is none.
-pub fn node_at(image: &[u8], page: usize, offset: usize) -> usize
+// Where the node of a place stands in the image.
+pub fn node_at(image: &[u8], x: Place) -> Option<usize>
     requires { check_of image.now ≡ 0 }
-    ensures { Located image.now page offset result }
+    ensures { Located image.now x.page x.offset result }
 {
-    if page == 0 {
-        return 0;
+    if x.page == 0 {
+        return None;
     }
-    if image.len() / Settings::PAGE <= page {
-        return 0;
+    if image.len() / Settings::PAGE <= x.page {
+        return None;
     }
-    let a = Settings::PAGE * page;
+    let a = Settings::PAGE * x.page;
     if image[a + Settings::CAPACITY] != 1 {
-        return 0;
+        return None;
     }
-    if used_at(image, a) <= offset {
-        return 0;
+    if used_at(image, a) <= x.offset {
+        return None;
     }
-    standing(image, page, a + offset)
+    let pos = a + x.offset;
+    if stands(image, x.page, pos) {
+        Some(pos)
+    } else {
+        None
+    }
 }
 
 // ── the next node ──
@@ -104,53 +110,50 @@ pub fn find_proxy(image: &[u8], holder: usize, page: usize) -> usize
     pos
 }
 
-// The next item after a node, which past the end of a record stands behind the record's proxy; 0 at the end.
-fn item_after(image: &[u8], pos: usize) -> usize
+// The next item after a node, which past the end of a record stands behind the record's proxy; none at the end.
+fn item_after(image: &[u8], pos: usize) -> Option<usize>
     requires { NodeAt image.now pos }
     ensures { ItemAfter image.now pos result }
 {
     let mut page = pos / Settings::PAGE;
     let mut at = flat(image, pos);
     let mut left: usize = Settings::PAGES;
-    while at == row_end(image, page) {
+    while at == record_end(image, page) {
         if page == 1 {
-            return 0;
+            return None;
         }
         let holder = back_at(image, Settings::PAGE * page);
         at = find_proxy(image, holder, page) + 8;
         page = holder;
-        left = left - 1;
+        left -= 1;
     }
-    at
+    Some(at)
 }
 
 // The first node of an item: a proxy's is the first of its record.
 fn enter(image: &[u8], item: usize) -> usize
     requires { (pos : ℕ) × Ahead image.now pos item }
-    ensures { (pos : ℕ) → Ahead image.now pos item → Follows image.now pos result × (1 ≤ result) }
+    ensures { (pos : ℕ) → Ahead image.now pos item → Follows image.now pos result }
 {
     let mut at = item;
     let mut left: usize = Settings::PAGES;
     while image[at] == 3 {
         at = row_start(image, name_at(image, at));
-        left = left - 1;
+        left -= 1;
     }
     at
 }
 
-// The node after the one at pos, 0 at the end.
-pub fn next_in(image: &[u8], pos: usize) -> usize
+// The node after the one at pos, none at the end.
+pub fn next_in(image: &[u8], pos: usize) -> Option<usize>
     requires { NodeAt image.now pos }
     ensures { Nexted image.now pos result }
 {
-    let item = item_after(image, pos);
-    if item == 0 {
-        return 0;
-    }
-    enter(image, item)
+    let item = item_after(image, pos)?;
+    Some(enter(image, item))
 }
 
-// The kind and the origin of the node at pos, as Next gives them.
+// The kind and the origin of the node at pos.
 fn kind_at(image: &[u8], pos: usize) -> Kind
     requires { pos < length image.now }
     ensures { result ≡ kind_of (get_or image.now pos 0) }
@@ -165,70 +168,46 @@ fn origin_of(image: &[u8], pos: usize) -> Origin
     requires { pos + 6 ≤ length image.now }
     ensures { result ≡ origin_of (head_at image.now pos).origin }
 {
-    let n = origin_at(image, pos);
-    if n == 0 {
-        return Origin::Wire;
+    match origin_at(image, pos) {
+        0 => Origin::Wire,
+        1 => Origin::Stored,
+        2 => Origin::TypedIn,
+        _ => Origin::Derived,
     }
-    if n == 1 {
-        return Origin::Stored;
-    }
-    if n == 2 {
-        return Origin::TypedIn;
-    }
-    Origin::Derived
 }
 
-// Next: 0, or 10 where the place is no node's.
-pub fn next_of(image: &[u8], x: Place) -> NextAnswer
+// Next: the node that follows, or the end.
+pub fn next_of(image: &[u8], x: Place) -> Result<Next, Refusal>
     requires { check_of image.now ≡ 0 }
-    ensures { result ≡ next_of image.now x }
+    ensures { next_result result ≡ next_of image.now x }
 {
-    let pos = node_at(image, x.page, x.offset);
-    if pos == 0 {
-        return NextAnswer {
-            number: 10,
-            next: Next::End,
-        };
-    }
-    let at = next_in(image, pos);
-    if at == 0 {
-        return NextAnswer {
-            number: 0,
-            next: Next::End,
-        };
-    }
-    let kind = kind_at(image, at);
-    let origin = origin_of(image, at);
-    let place = Place {
-        page: at / Settings::PAGE,
-        offset: at % Settings::PAGE,
+    let Some(pos) = node_at(image, x) else {
+        return Err(Refusal::NoPlaceThere);
     };
-    NextAnswer {
-        number: 0,
-        next: Next::Node(NextNode {
-            place: place,
-            kind: kind,
-            origin: origin,
-        }),
-    }
+    let Some(at) = next_in(image, pos) else {
+        return Ok(Next::End);
+    };
+    Ok(Next::Node(NextNode {
+        place: Place::of_byte(at),
+        kind: kind_at(image, at),
+        origin: origin_of(image, at),
+    }))
 }
 
-// ── a node's numbers ──
+// ── what stands at a place ──
 
-// An aggregate's; `widths` has how many nodes each record shows.
-fn read_agg(image: &[u8], widths: &[u32], pos: usize) -> ReadNode
-    requires { (pos + 5 < length image.now) × (pos < most_bytes) × Inner image.now pos × Widths image.now widths.now }
-    ensures { (w : Inner image.now pos) → result ≡ agg_read image.now pos w.row }
+// An aggregate; `widths` has how many nodes each record shows.
+fn read_agg(image: &[u8], widths: &[u32], pos: usize) -> Details
+    requires { (pos + 5 < length image.now) × (pos < most_bytes) × Inner image.now pos × Widths image.now widths.now
+        × IsOrigin (head_at image.now pos).origin }
+    ensures { (w : Inner image.now pos) → read_result (Ok result) ≡ agg_read image.now pos w.row }
 {
-    let origin = origin_at(image, pos);
-    let label = label_at(image, pos);
     let end = pos + size_at(image, pos);
     let n = width(image, widths, pos + 6, end);
-    ReadNode {
-        number: 0,
-        kind: 1,
-        origin: origin as u32,
-        label: label as u32,
+    Details {
+        kind: Kind::Aggregate,
+        origin: origin_of(image, pos),
+        label: label_at(image, pos) as u32,
         children: n as u32,
         start: 0,
         len: 0,
@@ -240,50 +219,34 @@ pub fn content_at(pos: usize, len: usize) -> usize
     requires { pos < most_bytes }
     ensures { result ≡ cond (eqb len 0) 0 (pos + 6) }
 {
-    if len == 0 {
-        return 0;
-    }
-    pos + 6
+    if len == 0 { 0 } else { pos + 6 }
 }
 
-fn read_lit(image: &[u8], pos: usize) -> ReadNode
-    requires { (pos + 5 < length image.now) × (pos < most_bytes) × (6 ≤ size_at image.now pos) }
-    ensures { result ≡ lit_read image.now pos }
+fn read_lit(image: &[u8], pos: usize) -> Details
+    requires { (pos + 5 < length image.now) × (pos < most_bytes) × (6 ≤ size_at image.now pos) × IsOrigin (head_at image.now pos).origin }
+    ensures { read_result (Ok result) ≡ lit_read image.now pos }
 {
-    let origin = origin_at(image, pos);
-    let label = label_at(image, pos);
     let len = size_at(image, pos) - 6;
-    let start = content_at(pos, len);
-    ReadNode {
-        number: 0,
-        kind: 2,
-        origin: origin as u32,
-        label: label as u32,
+    Details {
+        kind: Kind::Literal,
+        origin: origin_of(image, pos),
+        label: label_at(image, pos) as u32,
         children: 0,
-        start: start,
-        len: len,
+        start: content_at(pos, len),
+        len,
     }
 }
 
-// Read: 0, or 10 where the place is no node's; the content is a part of the image.
-pub fn read_of(image: &[u8], widths: &[u32], x: Place) -> ReadNode
+// Read: the content is a part of the image.
+pub fn read_of(image: &[u8], widths: &[u32], x: Place) -> Result<Details, Refusal>
     requires { (check_of image.now ≡ 0) × Widths image.now widths.now }
-    ensures { result ≡ read_of image.now x }
+    ensures { read_result result ≡ read_of image.now x }
 {
-    let pos = node_at(image, x.page, x.offset);
-    if pos == 0 {
-        return ReadNode {
-            number: 10,
-            kind: 0,
-            origin: 0,
-            label: 0,
-            children: 0,
-            start: 0,
-            len: 0,
-        };
-    }
+    let Some(pos) = node_at(image, x) else {
+        return Err(Refusal::NoPlaceThere);
+    };
     if image[pos] == 1 {
-        return read_agg(image, widths, pos);
+        return Ok(read_agg(image, widths, pos));
     }
-    read_lit(image, pos)
+    Ok(read_lit(image, pos))
 }

@@ -1,2 +1,3 @@
+pub mod Largest
 pub mod Pages
 pub mod Scans

@@ -1,48 +1,69 @@
 -- The pass over the pages: one turn of its loop, and its end.
-use mathlib.Core.Path.{◌≡◌, sym, ap, ◌∙◌}
-use mathlib.Core.List.{List}
-use Prim.Native.Nat.{ℕ, suc, ◌+◌, ◌-◌, ◌*◌, ◌≤◌, ◌<◌}
-use native.Mathlib.Omega.{arith}
-use native.Mathlib.Nat.{add-sub_cancel_left}
-use native.Mathlib.Numerals.{add-one}
-use lib.ListN.{length, take, drop, length-drop}
-use lib.Seq.{length-take-le}
-use borrow.Author.Tests.{eq-eqb, ne_eqb}
+use Rattle.std.specs.Prelude.{◌≡◌, refl, Bool, true, false, cond, ◌&&◌, Option, None, Some, List, ℕ, suc, ◌+◌, ◌-◌, ◌*◌, ◌≤◌, ◌<◌, length, take, drop, unwrap_or, is_some}
+use Rattle.std.proofs.Common.{arith, sym, ap, ◌∙◌, add-one}
+use Rattle.std.proofs.Math.Seq.{length-take-le}
 use Rattle.model.specs.Limits.{page_size}
-use Rattle.model.specs.Reading.{page_of}
+use Rattle.model.specs.Reading.{length_ok, page_of}
+use Rattle.theory_decoding.specs.Length.{length_says}
+use Rattle.model.specs.BeforeWalk.{settings_ok, page_fits, pages_fit, page_count, before_walk, is_free, trailer_of}
 use Rattle.theory_check.specs.Tests.{state_of}
-use Rattle.theory_check.specs.Check.{scan_from}
+use Rattle.theory_check.specs.Sums.{sum}
+use Rattle.theory_check.specs.Check.{in_use, trailers_of}
+use Rattle.read_pages.specs.declared.PageState.{PageState}
+use Rattle.read_pages.specs.declared.PageState.TheVariants.{Broken, Free, Record}
+use Rattle.read_pages.specs.Counts.{state_number, count_from}
 
 module _ (img : List ℕ) (pages p n : ℕ) where
-  abbrev Now : ℕ → Type 0
-  Now r = scan_from img pages (pages - p) p n ≡ r
+  pub count_end : pages ≤ p → Some n ≡ count_from img pages (pages - p) p n
+  unfolding pages_fit
+  count_end h = let e : pages - p ≡ 0 = omega arith in rw e (ap Some (omega arith))
 
-  pub scan_end : pages ≤ p → Now n
-  unfolding scan_from
-  scan_end h = let e : pages - p ≡ 0 = omega arith in rw e
+  -- What the pages from p on come to, by the state of page p.
+  abbrev pub after : PageState → Option ℕ
+  after Broken = None
+  after Free = count_from img pages (pages - (p + 1)) (p + 1) n
+  after Record = count_from img pages (pages - (p + 1)) (p + 1) (n + 1)
 
-  module _ (k : ℕ) (is : k ≡ state_of pages p (take (page_size * p + page_size - page_size * p) (drop (page_size * p) img))) (h : p < pages) where
-    at_page : state_of pages p (page_of img p) ≡ k
-    at_page = ap (λ (m : ℕ). state_of pages p (take m (drop (page_size * p) img))) (sym (add-sub_cancel_left (page_size * p) page_size)) ∙ sym is
+  -- Of the pages after p, whether they are right, and how many records there are.
+  turn : (b f x : Bool) (k m : ℕ) (s : PageState) → state_number s ≡ cond b (cond f 1 2) 0 → k ≡ cond {A = ℕ} f 0 1
+      → count_from img pages (pages - (p + 1)) (p + 1) n ≡ cond x (Some (n + m)) None
+      → count_from img pages (pages - (p + 1)) (p + 1) (n + 1) ≡ cond x (Some (n + 1 + m)) None
+      → cond (b && x) (Some (n + (k + m))) None ≡ after s
+  turn false f x k m Broken q e past on = refl
+  turn false f x k m Free q e past on = absurd (omega (arith, q))
+  turn false f x k m Record q e past on = absurd (omega (arith, q))
+  turn true true x k m Broken q e past on = absurd (omega (arith, q))
+  turn true true x k m Free q e past on = ap (λ (z : ℕ). cond x (Some z) None) (omega (arith, e)) ∙ sym past
+  turn true true x k m Record q e past on = absurd (omega (arith, q))
+  turn true false x k m Broken q e past on = absurd (omega (arith, q))
+  turn true false x k m Free q e past on = absurd (omega (arith, q))
+  turn true false x k m Record q e past on = ap (λ (z : ℕ). cond x (Some z) None) (omega (arith, e)) ∙ sym on
 
-    left : pages - p ≡ suc (pages - (p + 1))
-    left = omega arith
+  pub count_turn : (s : PageState) → state_number s ≡ state_of pages p (take (page_size * p + page_size - page_size * p) (drop (page_size * p) img)) → p < pages
+      → count_from img pages (pages - p) p n ≡ after s
+  unfolding state_of pages_fit
+  count_turn s is h =
+      let left : pages - p ≡ suc (pages - (p + 1)) = omega arith in
+      let whole : page_size * p + page_size - page_size * p ≡ page_size = omega arith in
+      let on : (m : ℕ) → count_from img pages (pages - (p + 1)) (p + 1) m ≡ count_from img pages (pages - (p + 1)) (suc p) m =
+      (λ m. ap (λ (q : ℕ). count_from img pages (pages - (p + 1)) q m) (add-one p)) in
+      rw left (turn (page_fits pages p (page_of img p)) (is_free (trailer_of (page_of img p))) _ _ _ s (rw whole at is) refl (on n) (on (n + 1)))
 
-    pub scan_bad : k ≡ 0 → Now 0
-    unfolding scan_from
-    scan_bad e = rw (left, eq-eqb (state_of pages p (page_of img p)) 0 (at_page ∙ e))
+-- ── the whole, where page 0 passes ──
 
-    pub scan_record : (k ≡ 0 → ⊥) → k ≡ 2 → Now (scan_from img pages (pages - (p + 1)) (p + 1) (n + 1))
-    unfolding scan_from
-    scan_record z e =
-        rw (left, ne_eqb (state_of pages p (page_of img p)) 0 (λ q. z (sym at_page ∙ q)), eq-eqb (state_of pages p (page_of img p)) 2 (at_page ∙ e))
-        (ap (λ (q : ℕ). scan_from img pages (pages - (p + 1)) q (n + 1)) (sym (add-one p)))
+module _ (img : List ℕ) where
+  pub first_long : length_ok (length img) ≡ true → length (take page_size img) ≡ page_size
+  first_long ok = let l = length_says (length img) ok in length-take-le page_size img (omega (arith, l.whole, l.few))
 
-    pub scan_free : (k ≡ 0 → ⊥) → (k ≡ 2 → ⊥) → Now (scan_from img pages (pages - (p + 1)) (p + 1) n)
-    unfolding scan_from
-    scan_free z e =
-        rw (left, ne_eqb (state_of pages p (page_of img p)) 0 (λ q. z (sym at_page ∙ q)), ne_eqb (state_of pages p (page_of img p)) 2 (λ q. e (sym at_page ∙ q)))
-        (ap (λ (q : ℕ). scan_from img pages (pages - (p + 1)) q n) (sym (add-one p)))
+  pub none_passed : settings_ok (page_of img 0) (page_count img) ≡ false → (0 ≡ trailers_of img) × (false ≡ before_walk img)
+  unfolding trailers_of before_walk
+  none_passed e = rw e (refl, refl)
 
-pub page_long : (img : List ℕ) (a : ℕ) → a + page_size ≤ length img → length (take (a + page_size - a) (drop a img)) ≡ page_size
-page_long img a h = length-take-le (a + page_size - a) (drop a img) (omega (arith, length-drop a img)) ∙ add-sub_cancel_left a page_size
+  pub pages_counted : settings_ok (page_of img 0) (page_count img) ≡ true → (r : Option ℕ) → r ≡ count_from img (page_count img) (page_count img - 1) 1 0
+      → (unwrap_or r 0 ≡ trailers_of img) × (is_some r ≡ before_walk img)
+  unfolding trailers_of before_walk
+  pages_counted e r is = rw (is, e) (go (pages_fit img (page_count img) (page_count img - 1) 1) (sum (in_use img) (page_count img - 1) 1))
+    where
+      go : (b : Bool) (m : ℕ) → (unwrap_or (cond b (Some (0 + m)) None) 0 ≡ cond b m 0) × (is_some (cond {A = Option ℕ} b (Some (0 + m)) None) ≡ b)
+      go true m = (omega arith, refl)
+      go false m = (refl, refl)

@@ -8,7 +8,7 @@ use Rattle.model.specs.Limits.{most_pages, page_size}
 use Rattle.model.specs.Answers.{write_refused, short_buffer}
 use Rattle.model.specs.Calls.Check.{check_of}
 use Rattle.model.specs.Calls.Records.{page_bytes, records_of}
-use Rattle.model.specs.declared.WriteAnswer.{WriteAnswer}
+use Rattle.model.specs.Answers.{WriteAnswer}
 use Rattle.base_numbers.specs.Over.{over, over_front}
 use Rattle.theory_decoding.specs.Reading.{reads_valid, reads_length}
 use Rattle.theory_calls.specs.Open.{passing}

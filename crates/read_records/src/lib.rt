@@ -3,13 +3,14 @@
 
 ghost use Rattle.std.specs.Prelude.{◌≡◌, ◌-◌, ◌*◌, ◌≤◌, length};
 ghost use Rattle.model.specs.Limits.{page_size};
+ghost use Rattle.model.specs.Answers.{write_result};
 ghost use Rattle.model.specs.Calls.Check.{check_of};
 ghost use Rattle.model.specs.Calls.Records.{page_bytes, records_of};
 ghost use Rattle.base_numbers.specs.Over.{over};
 ghost use Rattle.read_records.specs.Up.{up_from, up_pages};
 
 use base_numbers::put16;
-use model::{Settings, WriteAnswer};
+use model::{Refusal, Settings};
 
 // How many pages from 1 on hold a record: the first byte of such a page's trailer is 1.
 pub fn count_pages(image: &[u8], pages: usize) -> usize
@@ -17,12 +18,10 @@ pub fn count_pages(image: &[u8], pages: usize) -> usize
     ensures { result ≡ length (up_from image.now (pages - 1) 1) }
 {
     let mut n = 0;
-    let mut p = 1;
-    while p < pages {
+    for p in 1..pages {
         if image[Settings::PAGE * p + Settings::CAPACITY] == 1 {
             n += 1;
         }
-        p += 1;
     }
     n
 }
@@ -34,33 +33,25 @@ fn put_pages(image: &[u8], pages: usize, buffer: &mut [u8])
     ensures { buffer.new ≡ over 0 (page_bytes (up_from image.now (pages - 1) 1)) buffer.old }
 {
     let mut at = 0;
-    let mut p = 1;
-    while p < pages {
+    for p in 1..pages {
         if image[Settings::PAGE * p + Settings::CAPACITY] == 1 {
             put16(buffer, at, p);
             at += 2;
         }
-        p += 1;
     }
 }
 
-// Records, of an image that passes the check.
-pub fn records_of(image: &[u8], buffer: &mut [u8]) -> WriteAnswer
+// Records, of an image that passes the check: how many bytes are written.
+pub fn records_of(image: &[u8], buffer: &mut [u8]) -> Result<usize, Refusal>
     requires { check_of image.now ≡ 0 }
-    ensures answer { result ≡ (records_of (up_pages image.now) image.now buffer.old).0 }
+    ensures answer { write_result result ≡ (records_of (up_pages image.now) image.now buffer.old).0 }
     ensures buffer { buffer.new ≡ (records_of (up_pages image.now) image.now buffer.old).1 }
 {
     let pages = image.len() / Settings::PAGE;
-    let n = count_pages(image, pages);
-    if buffer.len() < 2 * n {
-        return WriteAnswer {
-            number: 11,
-            written: 0,
-        };
+    let n = 2 * count_pages(image, pages);
+    if buffer.len() < n {
+        return Err(Refusal::ShortBuffer);
     }
     put_pages(image, pages, buffer);
-    WriteAnswer {
-        number: 0,
-        written: 2 * n,
-    }
+    Ok(n)
 }

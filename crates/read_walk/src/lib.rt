@@ -15,9 +15,10 @@ ghost use Rattle.read_turns.specs.Going.{PartAt, Ended, Goal};
 ghost use Rattle.read_turns.specs.Steps.{Standing, NodeAt, Turned};
 ghost use Rattle.read_walk.specs.Asked.{Ready, Walked};
 
+use base_layout::record_end;
 use model::Settings;
 use read_leaves::holds_leaves;
-use read_marks::{record_end, tail_zero};
+use read_marks::tail_zero;
 use read_nodes::{aggregate, head, kind_in, literal, only, size_of};
 use read_walker::{Walker, enter, first, leave, past, reach, refused};
 

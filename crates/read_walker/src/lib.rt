@@ -7,10 +7,11 @@ ghost use Rattle.base_node_kinds.specs.Holders.{kinds_in};
 ghost use Rattle.theory_check.specs.Check.{PassedBefore};
 ghost use Rattle.read_walker.specs.Turns.{Fits, way_back, walker, reach_of, marked_of, out_of};
 
-use base_layout::{back_at, name_at};
-use base_node_kinds::{Kinds, in_aggregate, in_helper};
+use base_layout::{back_at, name_at, record_end};
+use base_marks::set_mark;
+use base_node_kinds::{AGGREGATE, HELPER, Kinds, kinds_in};
 use model::Settings;
-use read_marks::{enters, record_end, set_mark};
+use read_marks::enters;
 
 // At byte `at` of the image, in a row that ends at `end` and takes these kinds of nodes, which have the level. `left` is one more than the pages that are to
 // be reached, 0 where the walk is refused; `count` nodes are passed, and the list is in `depth` records of helpers.
@@ -30,7 +31,7 @@ pub fn first(start: usize, last: usize, level: usize, left: usize) -> Walker
     ensures { result ≡ walker (kinds_in 1) left 0 0 start last level }
 {
     Walker {
-        kinds: in_aggregate(),
+        kinds: kinds_in(AGGREGATE),
         left: left,
         count: 0,
         depth: 0,
@@ -95,7 +96,7 @@ pub fn enter(w: Walker, p: usize, end: usize, widths: &mut [u32], back: &mut [u1
     widths[p] = w.count as u32;
     back[p] = ((w.at + 8) % Settings::PAGE) as u16;
     Walker {
-        kinds: in_helper(),
+        kinds: kinds_in(HELPER),
         left: w.left - 1,
         count: w.count,
         depth: w.depth + 1,
@@ -125,7 +126,7 @@ pub fn leave(image: &[u8], w: Walker, last: usize, widths: &mut [u32], back: &[u
     r.at = at;
     r.depth = depth;
     if depth == 0 {
-        r.kinds = in_aggregate();
+        r.kinds = kinds_in(AGGREGATE);
         r.end = last;
         return r;
     }

@@ -1,5 +1,5 @@
 -- A branch whose records are freed.
-use Rattle.std.specs.Prelude.{◌≡◌, List, ℕ, ◌+◌, ◌*◌, ◌-◌, ◌≤◌, length, take, drop}
+use Rattle.std.specs.Prelude.{◌≡◌, List, [], ◌++◌, ℕ, ◌+◌, ◌*◌, ◌-◌, ◌≤◌, length, take, drop}
 use Rattle.std.proofs.Math.Path.{sym}
 use Rattle.std.proofs.Common.{ap, ◌∙◌, arith}
 use Rattle.std.proofs.lemmas.List.{length-map}
@@ -100,11 +100,11 @@ module _ {img m : List ℕ} {start end : ℕ} (w : Branch img m start end) where
   names_long = ap length (sym (pages_own page node)) ∙ length-map (own page node) (λ (h : Held). h.page)
 
   -- The list begins with the pages that the node names itself.
-  module _ (list : List ℕ) (wide : length img ≤ page_size * length list) (small : length list ≤ most_pages) where
-    list_long : record_count node ≤ length list
+  module _ (most : ℕ) (wide : length img ≤ page_size * most) (small : most ≤ most_pages) (list : List ℕ) (none : list ≡ []) where
+    list_long : record_count node ≤ most
     list_long = omega (arith, few, reads_length img w.b.st w.b.root w.b.reads)
 
-    pub listing : Listing (take (end - start) (drop start img)) list 0
+    pub listing : Listing (take (end - start) (drop start img)) list most
     listing = record {
       linked =
           record {
@@ -113,22 +113,21 @@ module _ {img m : List ℕ} {start end : ℕ} (w : Branch img m start end) where
             below = below_count most_pages node (λ q k. (w.here.names q k).high);
             small = omega (arith, w.here.room);
           };
-      room = omega (arith, names_long, length_weight (own page node), weight_own page node, list_long);
+      room = omega (arith, ap length none, names_long, length_weight (own page node), weight_own page node, list_long);
       small = small;
     }
 
-    module _ (now : List ℕ) (n : ℕ) (l : Listed listing now n) where
-      pub freeing : Freeing img m now n
+    module _ (now : List ℕ) (l : Listed listing now) where
+      pub freeing : Freeing img m now most
       unfolding listing
       freeing = record {
         records = own page node;
         stand = own_stand (page_of img) page node w.here.fits w.here.stored;
         inside = λ q h. w.here.names q (omega (arith, has_own q page node));
         once = λ q. omega (arith, has_own q page node, stand_once w.b.root w.b.new w.b.t w.b.leaves q w.b.st v);
-        few = omega (arith, weight_own page node, list_long, l.long);
-        is = l.is ∙ sym (pages_own page node);
-        listed = omega (arith, l.many, names_long);
-        small = omega (arith, l.long, small);
+        few = omega (arith, weight_own page node, list_long);
+        is = l ∙ ap (λ (a : List ℕ). a ++ names node) none ∙ sym (pages_own page node);
+        small = small;
         map_long = w.map_long;
       }
 

@@ -1,7 +1,7 @@
 -- The records of a list are freed, one after another; those that a record names come to the list before it goes.
 use Rattle.std.specs.Prelude.{◌≡◌, refl, List, [], ◌∷◌, ◌++◌, ℕ, ◌+◌, ◌*◌, ◌-◌, ◌≤◌, ◌<◌, get_or, take, eqb}
 use Rattle.std.proofs.Math.Path.{sym, ap}
-use Rattle.std.proofs.Common.{ap₂, subst, ◌∙◌, get_or-take, get_or-drop, drop-drop, length-take-le}
+use Rattle.std.proofs.Common.{ap₂, subst, ◌∙◌, get_or-drop, drop-drop}
 use Rattle.std.proofs.lemmas.List.{map-append, drop-append-le}
 use native.Mathlib.Omega.{arith}
 use Rattle.std.proofs.Math.ListN.{length, drop, length-append, length-map}
@@ -25,33 +25,31 @@ use Rattle.remove_branch.specs.Own.{Stands, AllStand, stand-++, own_stand}
 use Rattle.remove_branch.specs.Listed.{Listing, Listed}
 use Rattle.remove_branch.specs.Cleared.{Cleared, cleared_none, cleared_same, cleared_page}
 
--- The first n of the list are the pages of these records, which stand with all below them, each page named one time.
-pub record Freeing (img m list : List ℕ) (n : ℕ) : Type 0 where
+-- The list, of at most so many pages, has those of these records, which stand with all below them, each page named one time.
+pub record Freeing (img m list : List ℕ) (most : ℕ) : Type 0 where
   pub records : List Held
   pub stand : AllStand (page_of img) records
   pub inside : (q : ℕ) → 1 ≤ total (has q) records → PageIn img q
   pub once : (q : ℕ) → total (has q) records ≤ 1
-  pub few : total weight records ≤ length list
-  pub is : take n list ≡ pages records
-  pub listed : n ≡ length records
-  pub small : length list ≤ most_pages
+  pub few : total weight records ≤ most
+  pub is : list ≡ pages records
+  pub small : most ≤ most_pages
   pub map_long : length img ≤ page_size * (8 * length m)
 
 -- Their pages are freed, and those of all records below them.
-abbrev pub Emptied : {img m list : List ℕ} {n : ℕ} → Freeing img m list n → (after map : List ℕ) → Type 0
+abbrev pub Emptied : {img m list : List ℕ} {most : ℕ} → Freeing img m list most → (after map : List ℕ) → Type 0
 Emptied {img} {m} w after map = Cleared (λ q. total (has q) w.records) img m after map
 
 -- The first k of the list are freed: `times` says which pages they are. The others are the pages of the records that are left.
-pub record Turn {img m list : List ℕ} {n : ℕ} (w : Freeing img m list n) (after map now : List ℕ) (many k : ℕ) : Type 0 where
+pub record Turn {img m list : List ℕ} {most : ℕ} (w : Freeing img m list most) (after map now : List ℕ) (k : ℕ) : Type 0 where
   pub times : ℕ → ℕ
   pub left : List Held
   pub all : (q : ℕ) → times q + total (has q) left ≡ total (has q) w.records
   pub cleared : Cleared times img m after map
   pub stand : AllStand (page_of img) left
-  pub few : k + total weight left ≤ length list
-  pub is : drop k (take many now) ≡ pages left
-  pub listed : many ≡ k + length left
-  pub long : length now ≡ length list
+  pub few : k + total weight left ≤ most
+  pub is : drop k now ≡ pages left
+  pub listed : length now ≡ k + length left
 
 pub record First (l : List Held) : Type 0 where
   pub head : Held
@@ -62,8 +60,8 @@ first_of_lem : (l : List Held) → 1 ≤ length l → First l
 first_of_lem [] h = absurd (omega arith)
 first_of_lem (x ∷ l) h = record { head = x; tail = l; is = refl }
 
-module _ {img m list : List ℕ} {n : ℕ} (w : Freeing img m list n) where
-  pub turn_start : Turn w img m list n 0
+module _ {img m list : List ℕ} {most : ℕ} (w : Freeing img m list most) where
+  pub turn_start : Turn w img m list 0
   turn_start = record {
     times = λ q. 0;
     left = w.records;
@@ -72,17 +70,14 @@ module _ {img m list : List ℕ} {n : ℕ} (w : Freeing img m list n) where
     stand = w.stand;
     few = omega (arith, w.few);
     is = w.is;
-    listed = omega (arith, w.listed);
-    long = refl;
+    listed = omega (arith, ap length w.is, length-map w.records (λ (h : Held). h.page));
   }
 
-  module _ {after map now : List ℕ} {many k : ℕ} (t : Turn w after map now many k) where
-    pub turn_few : (many ≤ length now) × (many ≤ most_pages)
-    turn_few =
-        let low : many ≤ length list = omega (arith, t.listed, t.few, length_weight t.left) in
-        (omega (arith, t.long), omega (arith, w.small))
+  module _ {after map now : List ℕ} {k : ℕ} (t : Turn w after map now k) where
+    pub turn_few : length now ≤ most_pages
+    turn_few = omega (arith, t.listed, t.few, length_weight t.left, w.small)
 
-    pub turn_end : many ≤ k → Emptied w after map
+    pub turn_end : length now ≤ k → Emptied w after map
     turn_end h = cleared_same same t.cleared
       where
         none : (l : List Held) (q : ℕ) → length l ≡ 0 → total (has q) l ≡ 0
@@ -93,7 +88,7 @@ module _ {img m list : List ℕ} {n : ℕ} (w : Freeing img m list n) where
         same q = omega (arith, t.all q, none t.left q (omega (arith, t.listed)))
 
     -- The next page of the list.
-    module _ (some : k < many) (p : ℕ) (at : p ≡ get_or now k 0) where
+    module _ (some : k < length now) (p : ℕ) (at : p ≡ get_or now k 0) where
       abbrev f : First t.left
       f = first_of_lem t.left (omega (arith, t.listed))
 
@@ -106,8 +101,7 @@ module _ {img m list : List ℕ} {n : ℕ} (w : Freeing img m list n) where
       first_page_lem : p ≡ f.head.page
       first_page_lem =
           let z : k + 0 ≡ k = omega arith in
-          at ∙ sym (get_or-take many now k 0 some)
-          ∙ sym (get_or-drop k (take many now) 0 0 ∙ ap (λ (n : ℕ). get_or (take many now) n 0) z)
+          at ∙ sym (get_or-drop k now 0 0 ∙ ap (λ (n : ℕ). get_or now n 0) z)
           ∙ ap (λ (l : List ℕ). get_or l 0 0) (t.is ∙ ap pages f.is)
 
       stands : Stands (page_of img) f.head × AllStand (page_of img) f.tail
@@ -152,7 +146,7 @@ module _ {img m list : List ℕ} {n : ℕ} (w : Freeing img m list n) where
         pub turn_room : (start ≤ end) × (end ≤ length after)
         turn_room = let o = turn_page in (omega (arith, start_is, end_is), omega (arith, end_is, first_page_lem, o.inside, stands.0.small))
 
-        pub turn_listing : Listing (take (end - start) (drop start after)) now many
+        pub turn_listing : Listing (take (end - start) (drop start after)) now most
         turn_listing = record {
           linked =
               record {
@@ -164,7 +158,6 @@ module _ {img m list : List ℕ} {n : ℕ} (w : Freeing img m list n) where
           room =
               omega (
                 arith,
-                t.long,
                 t.listed,
                 t.few,
                 ap length f.is,
@@ -172,7 +165,7 @@ module _ {img m list : List ℕ} {n : ℕ} (w : Freeing img m list n) where
                 length_weight f.tail,
                 names_few,
               );
-          small = omega (arith, t.long, w.small);
+          small = w.small;
         }
           where
             names_few : length (names row) ≤ record_count row
@@ -185,9 +178,9 @@ module _ {img m list : List ℕ} {n : ℕ} (w : Freeing img m list n) where
                   weight_own p row,
                 )
 
-        pub turn_again : (next : List ℕ) (r : ℕ) → Listed turn_listing next r → Turn w (set_page p blank after) (unmarked map p) next r (k + 1)
+        pub turn_again : (next : List ℕ) → Listed turn_listing next → Turn w (set_page p blank after) (unmarked map p) next (k + 1)
         unfolding turn_listing
-        turn_again next r l =
+        turn_again next l =
             let o = turn_page in
             record {
               times = λ q. bit (eqb q p) + t.times q;
@@ -201,23 +194,22 @@ module _ {img m list : List ℕ} {n : ℕ} (w : Freeing img m list n) where
               listed =
                   omega (
                     arith,
-                    l.many,
+                    ap length l,
+                    length-append now (names row),
                     t.listed,
                     ap length f.is,
                     length-append f.tail (own p row),
                     ap length (pages_own p row),
                     length-map (own p row) (λ (h : Held). h.page),
                   );
-              long = l.long ∙ t.long;
             }
           where
-            rest_is : drop (k + 1) (take many now) ≡ pages f.tail
-            rest_is = sym (drop-drop 1 k (take many now)) ∙ ap (drop 1) (t.is ∙ ap pages f.is)
+            rest_is : drop (k + 1) now ≡ pages f.tail
+            rest_is = sym (drop-drop 1 k now) ∙ ap (drop 1) (t.is ∙ ap pages f.is)
 
-            is : drop (k + 1) (take r next) ≡ pages later
+            is : drop (k + 1) next ≡ pages later
             is =
-                ap (drop (k + 1)) l.is
-                ∙ drop-append-le (k + 1) (take many now) (names row)
-                (omega (arith, length-take-le many now turn_few.0))
+                ap (drop (k + 1)) l
+                ∙ drop-append-le (k + 1) now (names row) (omega (arith, some))
                 ∙ ap₂ (λ (a b : List ℕ). a ++ b) rest_is (sym (pages_own p row))
                 ∙ sym (map-append (λ (h : Held). h.page) f.tail (own p row))

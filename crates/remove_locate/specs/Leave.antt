@@ -1,5 +1,6 @@
 -- What the code finds: the record that a node leaves, the bytes of it that go, and the node's parent there.
-use Rattle.std.specs.Prelude.{◌≡◌, true, List, [], ◌∷◌, ◌++◌, ℕ, ◌+◌, ◌*◌, ◌-◌, ◌/◌, ◌%◌, ltb}
+use Rattle.std.specs.Option.{option_map}
+use Rattle.std.specs.Prelude.{Option, Some, None, is_some, refl, ◌≡◌, List, [], ◌∷◌, ◌++◌, ℕ, ◌+◌, ◌*◌, ◌-◌, ◌/◌, ◌%◌, ltb}
 use Rattle.std.proofs.Common.{sym, ap, ◌∙◌, arith}
 use Rattle.std.proofs.Math.Path.{subst}
 use Rattle.std.proofs.Math.Option.{some}
@@ -18,7 +19,7 @@ use Rattle.read_find.specs.Rowed.{Rowed}
 use Rattle.grow_locate.specs.declared.Located.{Located}
 use Rattle.grow_locate.specs.declared.Span.{Span}
 use Rattle.grow_locate.specs.Seek.{seek_span, children_span, seek_found}
-use Rattle.grow_locate.specs.Parent.{holder_in, Stands, IsStand, stand_hits}
+use Rattle.grow_locate.specs.Parent.{holder_in, IsStand, stand_hits}
 use Rattle.grow_locate.specs.Children.{kids, kids_go}
 use Rattle.remove_locate.specs.declared.Standing.{Standing}
 
@@ -36,13 +37,12 @@ pub record Leaving (img : List ℕ) (parent k : ℕ) : Type 0 where
 
 -- By the byte of the image, and in the records.
 abbrev pub standing_at : Located → Standing
-standing_at l = record { found = l.found; page = l.at / page_size; at = l.at % page_size; gone = l.past - l.at; par = l.par; deep = l.deep }
+standing_at l = record { page = l.at / page_size; at = l.at % page_size; gone = l.past - l.at; par = l.par; deep = l.deep }
 
 abbrev pub standing_of : Stand → Standing
 standing_of t =
     let row = t.node ⊹ t.rest in
     record {
-      found = true;
       page = last_page t.chain;
       at = offset_in t.position row;
       gone = size t.node;
@@ -50,9 +50,15 @@ standing_of t =
       deep = hang t.chain t.position;
     }
 
+some_map : {A B : Type 0} (f : A → B) (o : Option A) → is_some (option_map f o) ≡ is_some o
+some_map f None = refl
+some_map f (Some x) = refl
+
 -- It is found exactly if the parent has such a child.
-pub standing_found : (s : Standing) (span : Span) (k : ℕ) (row : Row) → s ≡ standing_at (seek_span span row k) → s.found ≡ ltb k (width row)
-standing_found s span k row e = ap (λ (s : Standing). s.found) e ∙ seek_found span.pos span.par span.deep row k
+pub standing_found : (s : Option Standing) (span : Span) (k : ℕ) (row : Row) → s ≡ option_map standing_at (seek_span span row k)
+    → is_some s ≡ ltb k (width row)
+standing_found s span k row e =
+    ap (λ (s : Option Standing). is_some s) e ∙ some_map standing_at (seek_span span row k) ∙ seek_found span.pos span.par span.deep row k
 
 -- ── what the code finds ──
 
@@ -80,25 +86,27 @@ module _ {img : List ℕ} {above k : ℕ} (w : Leaving img above k) where
   found = at_path (stand_below k) (stand_along k) t top (here nil) 0 w.path w.root w.stands
 
   -- What the search finds among the parent's children.
-  abbrev sought : Located
+  abbrev sought : Option Located
   sought = seek_span (children_span img above) found.children k
 
-  hits : Stands sought t
+  hits : IsStand sought (some t)
   unfolding stand_in
   hits =
       let p = found in
       subst (IsStand sought) (sym (p.along Stand (stand_below k) (stand_along k)) ∙ w.stands)
       (stand_hits p.chain (into p.position p.head p.rest) k p.children (kids_go w.reads p w.names w.at))
 
-  pub standing_is : (s : Standing)
-      → ((r : Rowed img (above + 6) (above + size_at img above) most_pages) → s ≡ standing_at (seek_span (children_span img above) r.row k))
-      → s ≡ standing_of t
-  standing_is s f =
-      let l = sought in
+  stood : (o : Option Located) → IsStand o (some t) → option_map standing_at o ≡ Some (standing_of t)
+  stood None g = absurd g
+  stood (Some l) m =
       let h = stand_here in
-      let g = hits.goes in
+      let g = m.goes in
       let a : l.at / page_size ≡ last_page t.chain = omega (arith, g.at, h.room) in
       let b : l.at % page_size ≡ offset_in t.position row = omega (arith, g.at, h.room) in
-      let e : l.past - l.at ≡ size t.node = omega (arith, hits.ends) in
-      f (kids w.reads found w.names w.at)
-      ∙ (λ i. record { found = hits.found i; page = a i; at = b i; gone = e i; par = g.holder i; deep = g.hangs i })
+      let e : l.past - l.at ≡ size t.node = omega (arith, m.ends) in
+      λ i. Some (record { page = a i; at = b i; gone = e i; par = g.holder i; deep = g.hangs i })
+
+  pub standing_is : (s : Option Standing)
+      → ((r : Rowed img (above + 6) (above + size_at img above) most_pages) → s ≡ option_map standing_at (seek_span (children_span img above) r.row k))
+      → s ≡ Some (standing_of t)
+  standing_is s f = f (kids w.reads found w.names w.at) ∙ stood sought hits

@@ -1,6 +1,7 @@
 // Where a node stands that a removal takes out, on an image that passes the check.
 #![tactic(auto)]
 
+ghost use Rattle.std.specs.Option.{option_map};
 ghost use Rattle.std.specs.Prelude.{◌≡◌, ◌+◌};
 ghost use Rattle.model.specs.Limits.{most_pages};
 ghost use Rattle.model.specs.Reading.{size_at};
@@ -17,7 +18,6 @@ use model::Settings;
 // helper that shows children of the parent.
 #[derive(Clone, Copy)]
 pub struct Standing {
-    pub found: bool,
     pub page: usize,
     pub at: usize,
     pub gone: usize,
@@ -25,19 +25,18 @@ pub struct Standing {
     pub deep: usize,
 }
 
-// Where child k of the aggregate at the byte `parent` of the image stands.
-pub fn stand_of(image: &[u8], widths: &[u32], parent: usize, k: usize) -> Standing
+// Where child k of the aggregate at the byte `parent` of the image stands, if there is one.
+pub fn stand_of(image: &[u8], widths: &[u32], parent: usize, k: usize) -> Option<Standing>
     requires { Rowed image.now (parent + 6) (parent + size_at image.now parent) most_pages × Widths image.now widths.now }
     ensures { (w : Rowed image.now (parent + 6) (parent + size_at image.now parent) most_pages)
-        → result ≡ standing_at (seek_span (children_span image.now parent) w.row k) }
+        → result ≡ option_map standing_at (seek_span (children_span image.now parent) w.row k) }
 {
-    let l = seek_child(image, widths, parent, k);
-    Standing {
-        found: l.found,
+    let l = seek_child(image, widths, parent, k)?;
+    Some(Standing {
         page: l.at / Settings::PAGE,
         at: l.at % Settings::PAGE,
         gone: l.past - l.at,
         par: l.par,
         deep: l.deep,
-    }
+    })
 }

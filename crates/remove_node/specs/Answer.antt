@@ -1,5 +1,5 @@
 -- A removal's number, image, table and map: from its tests and what it took out to the definition.
-use Rattle.std.specs.Prelude.{◌≡◌, true, false, not, length}
+use Rattle.std.specs.Prelude.{◌≡◌, refl, true, false, not, length, None, Some}
 use Rattle.std.proofs.Math.Path.{sym, ap, subst}
 use Rattle.std.proofs.Common.{◌∙◌, true≢false, arith}
 use Rattle.std.proofs.Math.Bool.{not-eq-not}
@@ -21,6 +21,7 @@ use Rattle.theory_removal.specs.Keeps.{removed_is}
 use Rattle.theory_calls.specs.Remove.{Removable, removable, removal, remove_accepted, remove_refused}
 use Rattle.grow_map.specs.Mapped.{Mapped, mapped}
 use Rattle.remove_locate.specs.declared.Standing.{Standing}
+use Rattle.remove_locate.specs.Leave.{standing_of}
 use Rattle.remove_path.specs.Locate.{Locates}
 use Rattle.remove_node.specs.Going.{Going}
 use Rattle.remove_node.specs.Gone.{Gone}
@@ -67,17 +68,17 @@ module _ {img u m : List ℕ} {st : Config} {root : Row} (r : Reads img st root)
     pub refused_empty : length path ≡ 0 → Answers img path 14 img u m
     refused_empty e = refused 14 (no_bytes (shown root) path short e) (λ e. omega arith)
 
-    module _ (z : length path ≡ 0 → ⊥) (s : Standing) (l : Locates root path s) where
-      pub refused_absent : s.found ≡ false → Answers img path 7 img u m
-      refused_absent e =
-          let none = (not-eq-not {b = true}).0 (λ f. true≢false (sym (ap not f) ∙ sym l.found ∙ e)) in
+    module _ (z : length path ≡ 0 → ⊥) where
+      pub refused_absent : Locates root path None → Answers img path 7 img u m
+      refused_absent l =
+          let none = (not-eq-not {b = true}).0 (λ f. true≢false (sym (ap not f) ∙ sym l.found)) in
           refused 7 (no_node_lem (shown root) path short z none) (λ e. omega arith)
 
       -- ── accepted ──
 
-      module _ (e : s.found ≡ true) where
+      module _ (s : Standing) (l : Locates root path (Some s)) where
         number_is : remove_number (shown root) path ≡ 0
-        number_is = no_refusal (shown root) path short z ((not-eq-not {b = false}).0 (λ f. true≢false (sym e ∙ l.found ∙ ap not f)))
+        number_is = no_refusal (shown root) path short z ((not-eq-not {b = false}).0 (λ f. true≢false (l.found ∙ ap not f)))
 
         able : Removable root path
         able = removable root path number_is
@@ -90,7 +91,7 @@ module _ {img u m : List ℕ} {st : Config} {root : Row} (r : Reads img st root)
           new = _;
           t = able.stand;
           leaves = stand_leaves root able.first able.more able.stand able.stands;
-          found = l.stands e able.stand (ap (stand_of root) able.is ∙ able.stands);
+          found = let is : Some s ≡ Some (standing_of able.stand) = l.stands refl able.stand (ap (stand_of root) able.is ∙ able.stands) in cc;
           table = table.store st root r;
           map = map;
         }

@@ -41,7 +41,7 @@ use Rattle.remove_branch.specs.Branch.{Freed}
 use Rattle.remove_lift.specs.Rename.{Renaming}
 use Rattle.remove_lift.specs.Lifting.{Lifting, lifted, lifted_long, lifted_pages}
 use Rattle.remove_locate.specs.declared.Standing.{Standing}
-use Rattle.remove_record.specs.declared.Remnant.{Remnant}
+use Rattle.remove_record.specs.declared.Remnant.TheVariants as remnant
 use Rattle.remove_record.specs.Reduced.{Reduced}
 use Rattle.remove_node.specs.Going.{Going, c, row, old, v, page_is, on_page, settled_is, holder_is, apart, removing, less, named, one_time}
 use Rattle.remove_node.specs.Going.{room, branch}
@@ -88,17 +88,18 @@ module _ {img u m : List ℕ} {s : Standing} (w : Going img u m s) where
       (keeps.record_left t.position t.node t.rest w.leaves.not_alone w.leaves.one (last_settled (c w)) g z).fits
 
   -- A record is left, not one proxy.
-  record_left : (r : Remnant) (was is : List ℕ) → Reduced (removing w) r was is → r.child ≡ 0 → lone_rec left ≡ false
-  record_left r was is f z = go (lone_rec left) refl
+  record_left : (n : ℕ) (was is : List ℕ) → Reduced (removing w) (remnant.Record n) was is → lone_rec left ≡ false
+  record_left n was is f = go (lone_rec left) refl
     where
       go : (b : Bool) → lone_rec left ≡ b → lone_rec left ≡ false
-      go true e = let x = f.proxy (proxy_of_lem left e) in absurd (omega (arith, x.0, x.1.low))
+      go true e = let x = (f.proxy (proxy_of_lem left e)).0 in absurd (cc)
       go false e = e
 
-  pub left_small : (r : Remnant) (was is : List ℕ) → Reduced (removing w) r was is → r.child ≡ 0 → r.len ≤ capacity
-  left_small r was is f z =
-      let alone = record_left r was is f z in
-      omega (arith, (f.other alone).1, left_record_fits alone)
+  record_long : (n : ℕ) (was is : List ℕ) → Reduced (removing w) (remnant.Record n) was is → n ≡ record_size left
+  record_long n was is f = let x = (f.other (record_left n was is f)).0 in cc
+
+  pub left_small : (n : ℕ) (was is : List ℕ) → Reduced (removing w) (remnant.Record n) was is → n ≤ capacity
+  left_small n was is f = omega (arith, record_long n was is f, left_record_fits (record_left n was is f))
 
   -- Or one proxy, which takes the record's place.
   pub record Lifts (child : ℕ) : Type 0 where
@@ -112,16 +113,17 @@ module _ {img u m : List ℕ} {s : Standing} (w : Going img u m s) where
     pub names : child ≡ proxy.page
     pub kid : PageIn img proxy.page
 
-  pub proxy_left : (r : Remnant) (was is : List ℕ) → Reduced (removing w) r was is → (r.child ≡ 0 → ⊥) → Lifts r.child
-  proxy_left r was is f z = go (lone_rec left) refl t.chain refl
+  pub proxy_left : (child : ℕ) (was is : List ℕ) → Reduced (removing w) (remnant.Proxy child) was is → Lifts child
+  proxy_left child was is f = go (lone_rec left) refl t.chain refl
     where
-      go : (b : Bool) → lone_rec left ≡ b → (c : Chain) → t.chain ≡ c → Lifts r.child
-      go false e c k = absurd (z (f.other e).0)
+      go : (b : Bool) → lone_rec left ≡ b → (c : Chain) → t.chain ≡ c → Lifts child
+      go false e c k = let x = (f.other e).0 in absurd (cc)
       go true e top k = absurd (true≢false (sym e ∙ root_stays w.root w.new t w.leaves (v w).rows k))
       go true e (below c p q b rest) k =
           let x = proxy_of_lem left e in
           let o = f.proxy x in
-          record { upper = c; position = p; page = q; settled = b; rest = rest; proxy = x; is = k; names = o.0; kid = o.1 }
+          let same = o.0 in
+          record { upper = c; position = p; page = q; settled = b; rest = rest; proxy = x; is = k; names = cc; kid = o.1 }
 
   -- A map is right that has the pages free that are named no more.
   right_by : (gone : ℕ → ℕ) → ((q : ℕ) → count q (without t) + gone q ≡ count q w.root) → (next : List ℕ) → Unmarked gone m next
@@ -148,20 +150,21 @@ module _ {img u m : List ℕ} {s : Standing} (w : Going img u m s) where
 
     -- ── the record stays ──
 
-    module _ (r : Remnant) (was is : List ℕ) (f : Reduced (removing w) r was is) (z : r.child ≡ 0) where
+    module _ (n : ℕ) (was is : List ℕ) (f : Reduced (removing w) (remnant.Record n) was is) where
       alone : lone_rec left ≡ false
-      alone = record_left r was is f z
+      alone = record_left n was is f
 
       -- Its bytes are at the buffer's front.
-      content_is : take r.len is ≡ record_bytes left
+      content_is : take n is ≡ record_bytes left
       content_is =
           let o = f.other alone in
-          (λ i. take (o.1 i) (o.2 i)) ∙ take_over (record_size left) (record_bytes left) was (length_record left)
+          let long = record_long n was is f in
+          (λ i. take (long i) (o.1 i)) ∙ take_over (record_size left) (record_bytes left) was (length_record left)
 
       abbrev page : List ℕ
       page = record_page (record_on (last_page (c w)) (last_settled (c w)) (last_holder (c w)) left)
 
-      pub gone_stays : (content after : List ℕ) (settled holder : ℕ) → content ≡ take r.len is → settled ≡ settled_at img (page_size * s.page)
+      pub gone_stays : (content after : List ℕ) (settled holder : ℕ) → content ≡ take n is → settled ≡ settled_at img (page_size * s.page)
           → holder ≡ back_at img (page_size * s.page) → after ≡ set_page s.page (page_bytes_of content settled holder) mid → Gone w after entries map
       gone_stays content after settled holder a b h e =
           let long : length page ≡ page_size =

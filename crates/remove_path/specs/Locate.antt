@@ -1,5 +1,6 @@
 -- Where a removal's node stands: from what find says of its parent, and what is found among the parent's children.
-use Rattle.std.specs.Prelude.{◌≡◌, refl, Bool, true, false, not, List, [], ◌∷◌, ◌++◌, ℕ, ◌+◌, ◌*◌, ◌-◌, ◌%◌, ◌≤◌, length, take, ltb}
+use Rattle.std.specs.Option.{option_map}
+use Rattle.std.specs.Prelude.{Option as Found, Some, None, is_some, ◌≡◌, refl, Bool, true, false, not, List, [], ◌∷◌, ◌++◌, ℕ, ◌+◌, ◌*◌, ◌-◌, ◌%◌, ◌≤◌, length, take, ltb}
 use Rattle.std.proofs.Common.{sym, ap, subst, ◌∙◌, true≢false, arith, eq-eqb, length-take}
 use Rattle.std.proofs.Math.Bool.{not-eq-not}
 use Rattle.std.proofs.Math.Option.{Option, some}
@@ -11,7 +12,7 @@ use Rattle.model.specs.Spot.{Stand, stand_of}
 use Rattle.model.specs.Common.{named_if, named_by, or_empty, path_of, is_none}
 use Rattle.model.specs.Calls.Find.{find_of}
 use Rattle.model.specs.declared.Place.{Place}
-use Rattle.model.specs.declared.FindAnswer.{FindAnswer}
+use Rattle.model.specs.Answers.{FindAnswer}
 use Rattle.theory_layout.specs.Here.{view}
 use Rattle.theory_layout.specs.Nodes.{ReadAt}
 use Rattle.read_find.specs.Rowed.{Rowed}
@@ -22,22 +23,17 @@ use Rattle.remove_locate.specs.declared.Standing.{Standing}
 use Rattle.remove_locate.specs.Leave.{standing_at, standing_of, standing_found, standing_is}
 use Rattle.remove_path.specs.Child.{has_child, child_named, no_child, LastEntry, last_entry}
 
-abbrev pub nowhere : Standing
-nowhere = record { found = false; page = 0; at = 0; gone = 0; par = 0; deep = 0 }
-
 -- The node is found exactly if the path names one, and then where it stands in the records.
-pub record Locates (root : Row) (path : List ℕ) (r : Standing) : Type 0 where
-  pub found : r.found ≡ not (is_none (named_by (shown root) path))
-  pub stands : r.found ≡ true → (t : Stand) → stand_of root (path_of path) ≡ some t → r ≡ standing_of t
+pub record Locates (root : Row) (path : List ℕ) (r : Found Standing) : Type 0 where
+  pub found : is_some r ≡ not (is_none (named_by (shown root) path))
+  pub stands : is_some r ≡ true → (t : Stand) → stand_of root (path_of path) ≡ some t → r ≡ Some (standing_of t)
 
-none_located : (root : Row) (path : List ℕ) (r : Standing) → r ≡ nowhere → is_none (named_by (shown root) path) ≡ true → Locates root path r
-none_located root path r e z =
-    let f : r.found ≡ false = ap (λ (r : Standing). r.found) e in
-    record { found = f ∙ ap not (sym z); stands = λ y. absurd (true≢false (sym y ∙ f)) }
+none_located : (root : Row) (path : List ℕ) → is_none (named_by (shown root) path) ≡ true → Locates root path None
+none_located root path z = record { found = ap not (sym z); stands = λ y. absurd (true≢false (sym y)) }
 
 -- A path that is not whole entries names none.
-pub broken_located : (root : Row) (path : List ℕ) (r : Standing) → (length path % 4 ≡ 0 → ⊥) → r ≡ nowhere → Locates root path r
-broken_located root path r h e = none_located root path r e (ap (λ (o : Option (List ℕ)). is_none (named_if (shown root) o)) (broken path h))
+pub broken_located : (root : Row) (path : List ℕ) → (length path % 4 ≡ 0 → ⊥) → Locates root path None
+broken_located root path h = none_located root path (ap (λ (o : Option (List ℕ)). is_none (named_if (shown root) o)) (broken path h))
 
 -- ── by the parent ──
 
@@ -63,10 +59,10 @@ module _ (img : List ℕ) (st : Config) (root : Row) (reads : Reads img st root)
   node_is = ap (named_if (shown root)) last.is
 
   module _ (f : FindAnswer) (is : f ≡ find_of img (take up path)) where
-    pub no_parent : (r : Standing) → (f.number ≡ 0 → ⊥) → r ≡ nowhere → Locates root path r
-    no_parent r z e =
+    pub no_parent : (f.number ≡ 0 → ⊥) → Locates root path None
+    no_parent z =
         let n = (not-eq-not {b = true}).0 (λ e. z (ap (λ (f : FindAnswer). f.number) is ∙ find_number img st root reads (take up path) parent_short false e)) in
-        none_located root path r e
+        none_located root path
         (ap is_none node_is ∙ no_child 0 last.front (k ∷ []) (shown root) (ap is_none (sym parent_is) ∙ n))
 
     module _ (there : f.number ≡ 0) where
@@ -93,24 +89,24 @@ module _ (img : List ℕ) (st : Config) (root : Row) (reads : Reads img st root)
         node_read = (parent.node, own_read)
 
         -- A literal has no children.
-        pub literal_located : (r : Standing) → kind_at img pos ≡ 2 → r ≡ nowhere → Locates root path r
-        literal_located r e n =
+        pub literal_located : kind_at img pos ≡ 2 → Locates root path None
+        literal_located e =
             let v = own_read in
             let two : parent.node.kind ≡ 2 = v.kind_is ∙ sym (view v.here v.some).kind_is ∙ e in
-            none_located root path r n (has_child_lem ∙ rw (eq-eqb parent.node.kind 2 two))
+            none_located root path (has_child_lem ∙ rw (eq-eqb parent.node.kind 2 two))
 
         -- Its children as the search takes them, and what it finds.
         pub kids : (kind_at img pos ≡ 2 → ⊥) → Rowed img (pos + 6) (pos + size_at img pos) most_pages
         kids z = searched own_read z
 
-        pub child_located : (r : Standing) (n : ℕ) → n ≡ k → (kind_at img pos ≡ 2 → ⊥)
-            → ((w : Rowed img (pos + 6) (pos + size_at img pos) most_pages) → r ≡ standing_at (seek_span (children_span img pos) w.row n))
+        pub child_located : (r : Found Standing) (n : ℕ) → n ≡ k → (kind_at img pos ≡ 2 → ⊥)
+            → ((w : Rowed img (pos + 6) (pos + size_at img pos) most_pages) → r ≡ option_map standing_at (seek_span (children_span img pos) w.row n))
             → Locates root path r
         child_located r n i z sought =
             let v = own_read in
-            let e : (w : Rowed img (pos + 6) (pos + size_at img pos) most_pages) → r ≡ standing_at (seek_span (children_span img pos) w.row k) =
-            λ w. sought w ∙ ap (λ (n : ℕ). standing_at (seek_span (children_span img pos) w.row n)) i in
-            let many : r.found ≡ ltb k parent.node.children =
+            let e : (w : Rowed img (pos + 6) (pos + size_at img pos) most_pages) → r ≡ option_map standing_at (seek_span (children_span img pos) w.row k) =
+            λ w. sought w ∙ ap (λ (n : ℕ). option_map standing_at (seek_span (children_span img pos) w.row n)) i in
+            let many : is_some r ≡ ltb k parent.node.children =
             standing_found r (children_span img pos) k (searched v z).row (e (searched v z)) ∙ ap (ltb k) (sym v.children_is) in
             record {
               found = many ∙ sym (ap not has_child_lem ∙ rw (not_literal v z) (twice (ltb k parent.node.children)));

@@ -1,5 +1,5 @@
 -- What is left of the record on a page without one of its nodes.
-use Rattle.std.specs.Prelude.{◌≡◌, refl, Bool, true, false, List, [], ℕ, ◌+◌, ◌*◌, ◌-◌, ◌≤◌, ◌<◌, length, take, drop}
+use Rattle.std.specs.Prelude.{◌≡◌, refl, Bool, true, false, List, [], ℕ, ◌+◌, ◌*◌, ◌-◌, ◌≤◌, ◌<◌, length, take, drop, None, Some}
 use Rattle.std.proofs.Common.{sym, ap, subst, ◌∙◌, true≢false, arith}
 use Rattle.model.specs.Limits.{page_size, capacity}
 use Rattle.model.specs.Row.{Head, Row, nil, agg, lit, rec, ◌⊹◌, size, is_nil, node_count, lone, lone_rec, base, bytes, record_size, record_bytes, record_page}
@@ -21,8 +21,9 @@ use Rattle.grow_splice.specs.Splice.{KeepsRoot, Splicing, many_keeps, take_out}
 use Rattle.grow_locate.specs.Parent.{holder_in, at_before}
 use Rattle.grow_replace_proxy.specs.Lift.{page_used, page_part}
 use Rattle.remove_record.specs.declared.Remnant.{Remnant}
+use Rattle.remove_record.specs.declared.Remnant.TheVariants as remnant
 use Rattle.remove_record.specs.declared.Sibling.{Sibling}
-use Rattle.remove_record.specs.Sibling.{Losing, SiblingIs, Alone}
+use Rattle.remove_record.specs.Sibling.{Losing, SiblingIs}
 
 -- A record stands on `page`; `node`, one node of `gone` bytes, is to go from it: it stands at the byte pos of the record, in the node at par, and `rest` after
 -- it. At the top of the record's row it has another beside it.
@@ -46,10 +47,10 @@ pub record Removing (img : List ℕ) (page pos par gone : ℕ) : Type 0 where
 abbrev pub reduced : {img : List ℕ} {page pos par gone : ℕ} → Removing img page pos par gone → Row
 reduced w = fill w.position w.rest
 
--- What is left: one proxy, to page `child`, and the buffer as it was; or a record, at the buffer's front, and no child.
+-- What is left: one proxy, and the buffer as it was; or a record, at the buffer's front.
 pub record Reduced {img : List ℕ} {page pos par gone : ℕ} (w : Removing img page pos par gone) (r : Remnant) (was is : List ℕ) : Type 0 where
-  pub proxy : (x : Proxy (reduced w)) → (r.child ≡ x.page) × PageIn img x.page × (is ≡ was)
-  pub other : lone_rec (reduced w) ≡ false → (r.child ≡ 0) × (r.len ≡ record_size (reduced w)) × (is ≡ over 0 (record_bytes (reduced w)) was)
+  pub proxy : (x : Proxy (reduced w)) → (r ≡ remnant.Proxy x.page) × PageIn img x.page × (is ≡ was)
+  pub other : lone_rec (reduced w) ≡ false → (r ≡ remnant.Record (record_size (reduced w))) × (is ≡ over 0 (record_bytes (reduced w)) was)
 
 -- ── one proxy or not ──
 
@@ -129,69 +130,65 @@ module _ {img : List ℕ} {page pos par gone : ℕ} (w : Removing img page pos p
       beside = w.beside;
     }
 
-    module _ (r : Sibling) (s : SiblingIs losing r) where
-      -- ── a record that keeps its root ──
+    -- ── a record that keeps its root ──
 
-      module _ (f : r.found ≡ false) where
-        pub keeps_root : KeepsRoot w.position (w.node ⊹ w.rest) w.rest
-        keeps_root k = many_keeps w.position (w.node ⊹ w.rest) w.rest (w.beside k) (s.none f k) k
+    module _ (s : SiblingIs losing None) where
+      pub keeps_root : KeepsRoot w.position (w.node ⊹ w.rest) w.rest
+      keeps_root k = many_keeps w.position (w.node ⊹ w.rest) w.rest (w.beside k) (s k) k
 
-        -- Where `splice` takes it out.
-        abbrev pub out_place : (new : List ℕ) → new ≡ [] → Splicing l pos par gone new
-        out_place new n =
-            take_out w.position w.node w.rest l pos par gone new e w.goes (w.offset ∙ sym (at_before w.position (base row))) w.holder n
-            keeps_root
+      -- Where `splice` takes it out.
+      abbrev pub out_place : (new : List ℕ) → new ≡ [] → Splicing l pos par gone new
+      out_place new n =
+          take_out w.position w.node w.rest l pos par gone new e w.goes (w.offset ∙ sym (at_before w.position (base row))) w.holder n
+          keeps_root
 
-        pub left_spliced : (n : ℕ) (was is : List ℕ) → n ≡ record_size (reduced w) → is ≡ over 0 (record_bytes (reduced w)) was
-            → Reduced w (record { len = n; child = 0 }) was is
-        left_spliced n was is m k =
-            let apart = keeps_apart w.position w.rest (s.none f) in
-            record { proxy = λ x. absurd (true≢false (sym (proxy_lone _ x) ∙ apart)); other = λ _. (refl, m, k) }
+      pub left_spliced : (n : ℕ) (was is : List ℕ) → n ≡ record_size (reduced w) → is ≡ over 0 (record_bytes (reduced w)) was
+          → Reduced w (remnant.Record n) was is
+      left_spliced n was is m k =
+          let apart = keeps_apart w.position w.rest s in
+          record { proxy = λ x. absurd (true≢false (sym (proxy_lone _ x) ∙ apart)); other = λ _. (ap (λ (n : ℕ). remnant.Record n) m, k) }
 
-      -- ── one node ──
+    -- ── one node ──
 
-      module _ (f : r.found ≡ true) where
-        alone : Alone l r.start r.end (reduced w)
-        alone = s.found f
+    module _ (r : Sibling) (alone : SiblingIs losing (Some r)) where
+      small : size (reduced w) < 65536
+      small = omega (arith, size_fill w.position (w.node ⊹ w.rest) w.rest, size-⊹ w.node w.rest, w.small)
 
-        small : size (reduced w) < 65536
-        small = omega (arith, size_fill w.position (w.node ⊹ w.rest) w.rest, size-⊹ w.node w.rest, w.small)
+      first : FirstNode l r.start (reduced w)
+      first = first_node l r.start (reduced w) (omega (arith, nodes_size (reduced w) (omega (arith, alone.one)))) small alone.at
 
-        first : FirstNode l r.start (reduced w)
-        first = first_node l r.start (reduced w) (omega (arith, nodes_size (reduced w) (omega (arith, alone.one)))) small alone.at
+      pub alone_fits : (r.start + 6 ≤ r.end) × (r.end ≤ length l)
+      alone_fits = (omega (arith, alone.ends, first.more, first.total), omega (arith, alone.ends, first.within))
 
-        pub alone_fits : (r.start + 6 ≤ r.end) × (r.end ≤ length l)
-        alone_fits = (omega (arith, alone.ends, first.more, first.total), omega (arith, alone.ends, first.within))
+      -- It is a proxy,
+      module _ (k : kind_at l r.start ≡ 3) where
+        proxy : kind_of (reduced w) ≡ 3
+        proxy = sym first.kind_is ∙ k
 
-        -- It is a proxy,
-        module _ (k : kind_at l r.start ≡ 3) where
-          proxy : kind_of (reduced w) ≡ 3
-          proxy = sym first.kind_is ∙ k
+        pub name_fits : r.start + 8 ≤ length l
+        name_fits = omega (arith, proxy_size (reduced w) proxy, first.within)
 
-          pub name_fits : r.start + 8 ≤ length l
-          name_fits = omega (arith, proxy_size (reduced w) proxy, first.within)
-
-          pub left_proxy : (q : ℕ) (was : List ℕ) → q ≡ name_at l r.start → Reduced w (record { len = 0; child = q }) was was
-          left_proxy q was e =
-              let v = proxy_alone (reduced w) alone.one proxy in
-              let on = named (name_of (reduced w)) v.1 in
-              let q-is : q ≡ name_of (reduced w) = e ∙ first.name_is proxy (omega (arith, on.high)) in
-              record {
-                proxy = λ x. let n : name_of (reduced w) ≡ x.page = ap name_of x.is in (q-is ∙ n, subst (PageIn img) n on, refl);
-                other = λ f. absurd (true≢false (sym v.0 ∙ f));
-              }
-
-        -- or the record's root.
-        pub left_root : (kind_at l r.start ≡ 3 → ⊥) → (n : ℕ) (was is : List ℕ) → n ≡ r.end - r.start
-            → is ≡ over 0 (take (r.end - r.start) (drop r.start l)) was → Reduced w (record { len = n; child = 0 }) was is
-        left_root k n was is m e =
-            let v = root_alone (reduced w) alone.one (λ z. k (first.kind_is ∙ z)) in
-            let long : r.end - r.start ≡ size (reduced w) = omega (arith, alone.ends) in
-            let size_is : record_size (reduced w) ≡ size (reduced w) = rw v.0 (omega arith) in
-            let bytes-is : record_bytes (reduced w) ≡ bytes (reduced w) = rw v.0 in
-            let content : take (r.end - r.start) (drop r.start l) ≡ record_bytes (reduced w) =
-            rw long (row_bytes l r.start (reduced w) alone.at) ∙ sym bytes-is in
+        pub left_proxy : (q : ℕ) (was : List ℕ) → q ≡ name_at l r.start → Reduced w (remnant.Proxy q) was was
+        left_proxy q was e =
+            let v = proxy_alone (reduced w) alone.one proxy in
+            let on = named (name_of (reduced w)) v.1 in
+            let q-is : q ≡ name_of (reduced w) = e ∙ first.name_is proxy (omega (arith, on.high)) in
             record {
-              proxy = λ x. absurd (true≢false (sym (proxy_lone _ x) ∙ v.1));
-              other = λ _. (refl, m ∙ long ∙ sym size_is, e ∙ ap (λ (z : List ℕ). over 0 z was) content);
+              proxy = λ x. let n : name_of (reduced w) ≡ x.page = ap name_of x.is in (ap (λ (n : ℕ). remnant.Proxy n) (q-is ∙ n), subst (PageIn img) n on, refl);
+              other = λ f. absurd (true≢false (sym v.0 ∙ f));
             }
+
+      -- or the record's root.
+      pub left_root : (kind_at l r.start ≡ 3 → ⊥) → (n : ℕ) (was is : List ℕ) → n ≡ r.end - r.start
+          → is ≡ over 0 (take (r.end - r.start) (drop r.start l)) was → Reduced w (remnant.Record n) was is
+      left_root k n was is m e =
+          let v = root_alone (reduced w) alone.one (λ z. k (first.kind_is ∙ z)) in
+          let long : r.end - r.start ≡ size (reduced w) = omega (arith, alone.ends) in
+          let size_is : record_size (reduced w) ≡ size (reduced w) = rw v.0 (omega arith) in
+          let bytes-is : record_bytes (reduced w) ≡ bytes (reduced w) = rw v.0 in
+          let content : take (r.end - r.start) (drop r.start l) ≡ record_bytes (reduced w) =
+          rw long (row_bytes l r.start (reduced w) alone.at) ∙ sym bytes-is in
+          record {
+            proxy = λ x. absurd (true≢false (sym (proxy_lone _ x) ∙ v.1));
+            other = λ _. (ap (λ (n : ℕ). remnant.Record n) (m ∙ long ∙ sym size_is), e ∙ ap (λ (z : List ℕ). over 0 z was) content);
+          }

@@ -1,7 +1,6 @@
 -- The only sibling of a node: the other child of a helper with two.
-use Rattle.std.specs.Prelude.{◌≡◌, refl, Bool, true, false, cond, List, ℕ, ◌+◌, ◌≤◌, eqb, length}
+use Rattle.std.specs.Prelude.{◌≡◌, refl, Bool, true, false, cond, List, ℕ, ◌+◌, ◌≤◌, eqb, length, Option, Some, None}
 use Rattle.std.proofs.Common.{sym, ap, subst, ◌∙◌, true≢false, ⊎_elim, arith, eq-eqb, eqb-true}
-use Rattle.std.proofs.lemmas.Bool.{false≢true}
 use Rattle.model.specs.Limits.{capacity}
 use Rattle.model.specs.Row.{Row, nil, agg, lit, rec, ◌⊹◌, size, node_count, base, record_size}
 use Rattle.model.specs.Reading.{kind_at, size_at}
@@ -52,17 +51,9 @@ pub record Alone (l : List ℕ) (start end : ℕ) (row : Row) : Type 0 where
   pub ends : end ≡ start + size row
 
 -- The sibling is all that is left of the record's row without the node; with none found, a helper keeps two children or more.
-pub record SiblingIs {l : List ℕ} {pos par : ℕ} (w : Losing l pos par) (r : Sibling) : Type 0 where
-  pub found : r.found ≡ true → Alone l r.start r.end (fill w.position w.rest)
-  pub none : r.found ≡ false → is_inside w.position ≡ false → 2 ≤ node_count (fill w.position w.rest)
-
-module _ {l : List ℕ} {pos par : ℕ} (w : Losing l pos par) where
-  pub none_is : (start end : ℕ) → (is_inside w.position ≡ false → 2 ≤ node_count (fill w.position w.rest))
-      → SiblingIs w (record { found = false; start = start; end = end })
-  none_is start end k = record { found = λ e. absurd (false≢true e); none = λ _. k }
-
-  pub one_is : (start end : ℕ) → Alone l start end (fill w.position w.rest) → SiblingIs w (record { found = true; start = start; end = end })
-  one_is start end v = record { found = λ _. v; none = λ e. absurd (true≢false e) }
+abbrev pub SiblingIs : {l : List ℕ} {pos par : ℕ} → Losing l pos par → Option Sibling → Type 0
+SiblingIs w None = is_inside w.position ≡ false → 2 ≤ node_count (fill w.position w.rest)
+SiblingIs {l} w (Some r) = Alone l r.start r.end (fill w.position w.rest)
 
 -- The node is a child of the record's helper, behind `left`.
 pub record AtTop {l : List ℕ} {pos par : ℕ} (w : Losing l pos par) : Type 0 where

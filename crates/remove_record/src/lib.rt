@@ -11,54 +11,43 @@ use base_numbers::copy_in;
 use grow_splice::splice;
 use model::Settings;
 
-// What is left of a record: its new content, so many bytes at the buffer's front; or, where a helper is left with one proxy, the page that this names, else 0.
+// What is left of a record: its new content, so many bytes at the buffer's front; or, where a helper is left with one proxy, the page that this names.
 #[derive(Clone, Copy)]
-pub struct Remnant {
-    pub len: usize,
-    pub child: usize,
+pub enum Remnant {
+    Record(usize),
+    Proxy(usize),
 }
 
-// Found: the only other child of a helper is the record's bytes from `start` to `end`.
+// The only other child of a helper: the record's bytes from `start` to `end`.
 #[derive(Clone, Copy)]
 struct Sibling {
-    found: bool,
     start: usize,
     end: usize,
 }
 
 // The only sibling of the node at byte `at` of the record, in the node at par, if it is one of a helper's two children.
-fn only_sibling(rec: &[u8], at: usize, par: usize) -> Sibling
+fn only_sibling(rec: &[u8], at: usize, par: usize) -> Option<Sibling>
     requires { Losing rec.now at par }
     ensures { (w : Losing rec.now at par) → SiblingIs w result }
 {
-    let none = Sibling {
-        found: false,
-        start: 0,
-        end: 0,
-    };
     if par != 0 {
-        return none;
+        return None;
     }
     if rec[0] != 4 {
-        return none;
+        return None;
     }
     let second = 6 + size_at(rec, 6);
     let end = second + size_at(rec, second);
     if end != rec.len() {
-        return none;
+        return None;
     }
     if at == 6 {
-        return Sibling {
-            found: true,
-            start: second,
-            end: end,
-        };
+        return Some(Sibling { start: second, end });
     }
-    Sibling {
-        found: true,
+    Some(Sibling {
         start: 6,
         end: second,
-    }
+    })
 }
 
 // Writes to the front of buf what is left of the record on the page without the node or proxy of `gone` bytes at byte `at` of it, in the node at par.
@@ -76,22 +65,15 @@ pub fn take_out(
     let a = Settings::PAGE * page;
     let e = a + used_at(image, a);
     let rec = &image[a..e];
-    let s = only_sibling(rec, at, par);
-    if !s.found {
+    let Some(sibling) = only_sibling(rec, at, par) else {
         let len = splice(rec, at, par, gone, &rec[..0], buf);
-        return Remnant { len: len, child: 0 };
-    }
-    let start = s.start;
+        return Remnant::Record(len);
+    };
+    let start = sibling.start;
     if rec[start] == 3 {
-        return Remnant {
-            len: 0,
-            child: name_at(rec, start),
-        };
+        return Remnant::Proxy(name_at(rec, start));
     }
-    let end = s.end;
+    let end = sibling.end;
     copy_in(&rec[start..end], buf, 0);
-    Remnant {
-        len: end - start,
-        child: 0,
-    }
+    Remnant::Record(end - start)
 }

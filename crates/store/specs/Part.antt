@@ -1,7 +1,7 @@
 -- The part of the image that Read hands over: within the image, so that a slice can name it.
-use Rattle.std.specs.Prelude.{◌≡◌, Bool, ℕ, ◌+◌, ◌*◌, ◌-◌, ◌≤◌, take, drop, leb}
+use Rattle.std.specs.Prelude.{◌≡◌, Result, Ok, Err, Bool, ℕ, ◌+◌, ◌*◌, ◌-◌, ◌≤◌, take, drop, leb}
 use Rattle.std.proofs.Math.Path.{refl}
-use Rattle.std.proofs.Common.{ap}
+use Rattle.std.proofs.Common.{ap, leb-true}
 use Rattle.std.proofs.Math.Bool.{true, false, cond}
 use mathlib.Core.List.{List, [], ◌∷◌}
 use native.Mathlib.Omega.{arith}
@@ -16,6 +16,9 @@ use Rattle.model.specs.Reading.{Reads}
 use Rattle.model.specs.Calls.Check.{check_of}
 use Rattle.model.specs.Calls.Read.{read_in, read_from, as_read, read_of, part_of}
 use Rattle.model.specs.declared.Place.{Place}
+use Rattle.model.specs.declared.Details.{Details}
+use Rattle.model.specs.declared.Refusal.{Refusal}
+use Rattle.store.specs.declared.ReadAnswer.{ReadAnswer}
 use Rattle.theory_decoding.specs.Reading.{reads_valid}
 use Rattle.theory_places.specs.Order.{one_root}
 use Rattle.theory_places.specs.Named.{in_tree}
@@ -36,7 +39,12 @@ start_in img a n = cond (leb a (length img)) (cond (leb n (length img - a)) a 0)
 abbrev pub byte_of : (image : Bor (List ℕ)) → (k : ℕ) → ℕ × ℕ
 byte_of image k = (image.ref_ptr.0, k + image.ref_ptr.1)
 
-inside_slice : (img : List ℕ) (a n : ℕ) → a + n ≤ length img → slice img a n ≡ take n (drop a img)
+-- The numbers of an answer of read, without its content.
+abbrev pub node_of : Result ReadAnswer Refusal → Result Details Refusal
+node_of (Ok a) = Ok a.node
+node_of (Err r) = Err r
+
+pub inside_slice : (img : List ℕ) (a n : ℕ) → a + n ≤ length img → slice img a n ≡ take n (drop a img)
 unfolding slice
 inside_slice img a n h = rw (le-leb a (length img) (omega arith), le-leb n (length img - a) (omega arith))
 
@@ -70,9 +78,20 @@ part_inside img x = go (eqb (check_of img) 0) refl
     go true e = let p = passing img (eqb-true (check_of img) 0 e) in read_inside img p.0.0 p.0.1 p.1 x
     go false e = refused_inside img x (check_of img) refl (eqb-false (check_of img) 0 e)
 
-inside_start : (img : List ℕ) (a n : ℕ) → a + n ≤ length img → start_in img a n ≡ a
+pub inside_start : (img : List ℕ) (a n : ℕ) → a + n ≤ length img → start_in img a n ≡ a
 unfolding start_in
 inside_start img a n h = rw (le-leb a (length img) (omega arith), le-leb n (length img - a) (omega arith))
+
+-- There are none that do not lie in the image.
+pub outside : (img : List ℕ) (a n : ℕ) → (a + n ≤ length img → ⊥) → (slice img a n ≡ []) × (start_in img a n ≡ 0)
+unfolding slice start_in
+outside img a n h = go (leb a (length img)) (leb n (length img - a)) refl refl
+  where
+    go : (b d : Bool) → leb a (length img) ≡ b → leb n (length img - a) ≡ d
+        → (cond b (cond d (take n (drop a img)) []) [] ≡ []) × (cond b (cond d a 0) 0 ≡ 0)
+    go true true p q = absurd (h (omega (arith, leb-true a _ p, leb-true n _ q)))
+    go true false p q = (refl, refl)
+    go false d p q = (refl, refl)
 
 pub part_is : (img : List ℕ) (x : Place) → slice img (read_of img x).start (read_of img x).len ≡ part_of img (read_of img x)
 part_is img x = inside_slice img (read_of img x).start (read_of img x).len (part_inside img x)

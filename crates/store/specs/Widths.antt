@@ -11,6 +11,8 @@ use Rattle.model.specs.Row.{Row, Config, count}
 use Rattle.model.specs.Reading.{length_ok, config_on, page_of, kind_at, Reads}
 use Rattle.model.specs.BeforeWalk.{before_walk}
 use Rattle.model.specs.WalkTests.{tail_zero, record_of}
+use Rattle.base_ranges.specs.Tables.{few_pages, tables_for, tables_fit}
+use Rattle.base_ranges.specs.declared.Tables.TheVariants.{Few, Many}
 use Rattle.theory_decoding.specs.Valid as valid
 use Rattle.theory_decoding.specs.Reading.{reads_length, reads_length_ok, unique}
 use Rattle.theory_check.specs.Facts.{not_else}
@@ -28,6 +30,17 @@ use Rattle.theory_layout.specs.Widths.{Widths, widths}
 -- An entry for each page of an image of an allowed length.
 abbrev pub Enough : (img table : List ℕ) → Type 0
 Enough img c = length_ok (length img) ≡ true → length img ≤ page_size * length c
+
+-- Tables of n entries are enough for an image, and no longer than the longest one takes.
+abbrev pub Serves : (img : List ℕ) → (n : ℕ) → Type 0
+Serves img n = (length_ok (length img) ≡ true → length img ≤ page_size * n) × (n ≤ most_pages)
+
+-- The size chosen for an image serves it.
+pub few_serve : (img : List ℕ) → Few ≡ tables_for (length img) → Serves img few_pages
+few_serve img e = (tables_fit (length img) Few e, omega arith)
+
+pub many_serve : (img : List ℕ) → Many ≡ tables_for (length img) → Serves img most_pages
+many_serve img e = (tables_fit (length img) Many e, omega arith)
 
 -- The marks are those of the pages that the store's records name.
 abbrev pub Named : (img marks : List ℕ) → Type 0

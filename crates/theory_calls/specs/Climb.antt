@@ -12,7 +12,7 @@ use Rattle.theory_calls.specs.Asking.{asked}
 use Rattle.model.specs.Common.{path_bytes}
 use Rattle.model.specs.Calls.Climb.{climb_from, climb_in, climb_of, climb_call}
 use Rattle.model.specs.declared.Place.{Place}
-use Rattle.model.specs.declared.WriteAnswer.{WriteAnswer}
+use Rattle.model.specs.Answers.{WriteAnswer}
 use Rattle.theory_calls.specs.FirstRefusal.{write_number}
 
 module _ (order : (img buffer : List ℕ) → List ℕ) (img : List ℕ) (st : Config) (root : Row) (r : Reads img st root) where

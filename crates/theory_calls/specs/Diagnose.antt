@@ -6,7 +6,7 @@ use Rattle.model.specs.Tree.{shown}
 use Rattle.model.specs.Reading.{Reads}
 use Rattle.model.specs.Claims.{CallHolds}
 use Rattle.model.specs.Calls.Diagnose.{no_fault, diagnosis, diagnose_of, diagnose_call}
-use Rattle.model.specs.declared.Diagnosis.{Diagnosis}
+use Rattle.model.specs.Calls.Diagnose.{Diagnosis}
 use Rattle.theory_calls.specs.Open.{passes}
 use Rattle.theory_calls.specs.Asking.{asked}
 

@@ -12,7 +12,7 @@ use Rattle.theory_calls.specs.Asking.{asked}
 use Rattle.model.specs.Limits.{longest_path}
 use Rattle.model.specs.Common.{named_by, is_none}
 use Rattle.model.specs.Calls.Find.{find_in, find_of, find_call}
-use Rattle.model.specs.declared.FindAnswer.{FindAnswer}
+use Rattle.model.specs.Answers.{FindAnswer}
 use Rattle.theory_calls.specs.FirstRefusal.{accept_number, first_given}
 
 module _ (order : (img buffer : List ℕ) → List ℕ) (img : List ℕ) (st : Config) (root : Row) (r : Reads img st root) where

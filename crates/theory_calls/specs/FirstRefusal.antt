@@ -4,7 +4,7 @@ use Rattle.std.proofs.Common.{sym, ◌∙◌, arith, eqb-true}
 use Rattle.std.proofs.lemmas.Bool.{false≢true}
 use Rattle.model.specs.Answers.{first_refusal}
 use Rattle.model.specs.Common.{accept, write}
-use Rattle.model.specs.declared.WriteAnswer.{WriteAnswer}
+use Rattle.model.specs.Answers.{WriteAnswer}
 use Rattle.theory_rows.specs.Laws.{cond_case}
 
 -- The number of an answer that is accepted or refused.

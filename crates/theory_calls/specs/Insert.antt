@@ -13,7 +13,7 @@ use Rattle.model.specs.Answers.{insert_refused}
 use Rattle.model.specs.Common.{accept, path_of, place_or, places_on}
 use Rattle.model.specs.Claims.{Matches, CallHolds}
 use Rattle.model.specs.Calls.Insert.{insert_number, new_of, grown, insert_of, insert_work, insert_call}
-use Rattle.model.specs.declared.InsertAnswer.{InsertAnswer}
+use Rattle.model.specs.Answers.{InsertAnswer}
 use Rattle.theory_growth.specs.Store.{NewFits, grow_shows, grow_valid}
 use Rattle.theory_decoding.specs.Valid.{bytes_say, valid_holds}
 use Rattle.theory_decoding.specs.Reading.{reads_valid}

@@ -13,6 +13,7 @@ pub mod Remove
 pub mod Find
 pub mod Climb
 pub mod Read
+pub mod Refusals
 pub mod Next
 pub mod Records
 pub mod Walk

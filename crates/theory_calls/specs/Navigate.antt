@@ -19,8 +19,8 @@ use Rattle.model.specs.Calls.Next.{kind_of, origin_of, as_next, next_in, next_fr
 use Rattle.model.specs.Calls.Records.{page_bytes, times, IsOrder, records_of}
 use Rattle.model.specs.declared.Place.{Place}
 use Rattle.model.specs.declared.Next.TheVariants as next_is
-use Rattle.model.specs.declared.NextAnswer.{NextAnswer}
-use Rattle.model.specs.declared.WriteAnswer.{WriteAnswer}
+use Rattle.model.specs.Answers.{NextAnswer}
+use Rattle.model.specs.Answers.{WriteAnswer}
 use Rattle.theory_rows.specs.Fits.{Valid}
 use Rattle.theory_rows.specs.Laws.{cond_case}
 use Rattle.theory_decoding.specs.Reading.{reads_valid}

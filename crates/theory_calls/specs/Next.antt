@@ -11,7 +11,7 @@ use Rattle.theory_calls.specs.Open.{opens}
 use Rattle.theory_calls.specs.Asking.{asked}
 use Rattle.model.specs.Calls.Next.{next_from, next_in, next_of, next_call}
 use Rattle.model.specs.declared.Place.{Place}
-use Rattle.model.specs.declared.NextAnswer.{NextAnswer}
+use Rattle.model.specs.Answers.{NextAnswer}
 
 module _ (order : (img buffer : List ℕ) → List ℕ) (img : List ℕ) (st : Config) (root : Row) (r : Reads img st root) where
   module _ (x : Place) where

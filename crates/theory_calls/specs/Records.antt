@@ -10,7 +10,7 @@ use Rattle.theory_calls.specs.Open.{opens}
 use Rattle.theory_calls.specs.Asking.{asked}
 use Rattle.model.specs.Common.{record_pages}
 use Rattle.model.specs.Calls.Records.{page_bytes, records_of, records_call}
-use Rattle.model.specs.declared.WriteAnswer.{WriteAnswer}
+use Rattle.model.specs.Answers.{WriteAnswer}
 use Rattle.theory_calls.specs.FirstRefusal.{write_number}
 use Rattle.theory_calls.specs.Pieces.{same_length}
 

@@ -11,7 +11,7 @@ use Rattle.model.specs.Calls.Insert.{insert_number, new_of, insert_of, insert_ca
 use Rattle.model.specs.Calls.Remove.{remove_number, remove_of, remove_call}
 use Rattle.model.specs.Claims.{Put, put_below, PutInTakenOut, Matches, Calls, Orders, image_after, Between, changes_nothing, puts_below, AllBetween}
 use Rattle.model.specs.Claims.{TakenOut}
-use Rattle.model.specs.declared.InsertAnswer.{InsertAnswer}
+use Rattle.model.specs.Answers.{InsertAnswer}
 use Rattle.theory_rows.specs.Laws.{cond_case}
 use Rattle.theory_calls.specs.Open.{passing}
 use Rattle.theory_calls.specs.Paths.{entries_more, whole_path}

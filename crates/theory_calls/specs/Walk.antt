@@ -14,7 +14,7 @@ use Rattle.model.specs.Reading.{Reads}
 use Rattle.model.specs.Claims.{CallHolds}
 use Rattle.model.specs.Calls.Walk.{entries_of, walk_answer, walk_from, walk_in, walk_of, parts_in, contents_of, walk_call}
 use Rattle.model.specs.declared.Place.{Place}
-use Rattle.model.specs.declared.WalkAnswer.{WalkAnswer}
+use Rattle.model.specs.Answers.{WalkAnswer}
 use Rattle.theory_decoding.specs.Reading.{reads_valid}
 use Rattle.theory_places.specs.Member.{Mem}
 use Rattle.theory_places.specs.Named.{in_place}

@@ -14,7 +14,7 @@ use Rattle.model.specs.Calls.Check.{check_of}
 use Rattle.model.specs.Calls.Walk.{entry_of, joined, entries_of, walk_answer, walk_from, walk_in, walk_of}
 use Rattle.model.specs.Claims.{WalkSteps}
 use Rattle.model.specs.declared.Place.{Place}
-use Rattle.model.specs.declared.WalkAnswer.{WalkAnswer}
+use Rattle.model.specs.Answers.{WalkAnswer}
 use Rattle.theory_decoding.specs.Reading.{reads_valid}
 use Rattle.theory_places.specs.Named.{in_place}
 use Rattle.theory_places.specs.From.{from_split}

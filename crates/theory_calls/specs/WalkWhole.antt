@@ -14,7 +14,7 @@ use Rattle.model.specs.Calls.Read.{read_in, read_of}
 use Rattle.model.specs.Calls.Walk.{entry_of, joined, entries_of, walk_from, walk_in, walk_of}
 use Rattle.model.specs.Claims.{entry_by, WalkWhole}
 use Rattle.model.specs.declared.Place.{Place}
-use Rattle.model.specs.declared.WalkAnswer.{WalkAnswer}
+use Rattle.model.specs.Answers.{WalkAnswer}
 use Rattle.theory_rows.specs.Population.{tree_population, population_shown}
 use Rattle.theory_decoding.specs.Steps.{few_nodes}
 use Rattle.theory_decoding.specs.Reading.{reads_valid}

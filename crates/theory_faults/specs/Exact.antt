@@ -11,7 +11,7 @@ use Rattle.model.specs.BeforeWalk.{before_walk}
 use Rattle.model.specs.Answers.{not_passed}
 use Rattle.model.specs.Calls.Check.{check_of}
 use Rattle.model.specs.Calls.Diagnose.{no_fault, fault_of, diagnosis, diagnose_of}
-use Rattle.model.specs.declared.Diagnosis.{Diagnosis}
+use Rattle.model.specs.Calls.Diagnose.{Diagnosis}
 use Rattle.model.specs.Claims.{FirstAgainst, DiagnoseExact}
 use Rattle.theory_calls.specs.Open.{check_exact}
 use Rattle.theory_check.specs.Check.{trailers_of, walk_ok, check_by}

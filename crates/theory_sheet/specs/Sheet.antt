@@ -14,7 +14,7 @@ use Rattle.model.specs.Common.{accept, place_or, on_store, opened}
 use Rattle.model.specs.Calls.Format.{config, format_number, format_of}
 use Rattle.model.specs.Calls.Insert.{new_of, insert_number, insert_of}
 use Rattle.model.specs.Calls.Find.{find_in, find_of}
-use Rattle.model.specs.declared.InsertAnswer.{InsertAnswer}
+use Rattle.model.specs.Answers.{InsertAnswer}
 
 -- An image of n pages with the usual settings, formatted with root label 7.
 abbrev fresh : (pages : ℕ) → List ℕ

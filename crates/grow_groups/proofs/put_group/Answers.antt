@@ -18,8 +18,8 @@ returns-then-stays c w =
     let h = sym c.if-stays.true ∙ c.stays.ensures w.row w.is in
     group_kept c.requires.0 w h _ _ _ c.copy_in.ensures
 
-pub set_used-requires : goal.set_used-requires
-set_used-requires c =
+pub set_mark-requires : goal.set_mark-requires
+set_mark-requires c =
     let v = c.requires.0 in
     omega (arith, v.holds.map, found_inside v _ c.first_free-q.ensures)
 
@@ -49,4 +49,4 @@ returns c =
     λ w.
     let h = sym c.if-stays.false ∙ c.stays.ensures w.row w.is in
     let r = group_record c.requires.0 w h in
-    group_moved c.requires.0 w h _ _ _ _ _ _ _ c.first_free-q.ensures c.set_used.ensures (c.put_new.ensures.widths r) (c.put_new.ensures.image r) c.put_proxy.ensures
+    group_moved c.requires.0 w h _ _ _ _ _ _ _ c.first_free-q.ensures c.set_mark.ensures (c.put_new.ensures.widths r) (c.put_new.ensures.image r) c.put_proxy.ensures

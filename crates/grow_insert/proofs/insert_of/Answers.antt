@@ -14,8 +14,13 @@ use Rattle.model.specs.Row.{nil, size, bytes}
 use Rattle.model.specs.Reading.{Reads}
 use Rattle.model.specs.Growth.{as_row, at_rest}
 use Rattle.model.specs.Calls.Find.{find_of}
-use Rattle.model.specs.declared.FindAnswer.{FindAnswer}
-use Rattle.model.specs.declared.InsertAnswer.{InsertAnswer}
+use Rattle.model.specs.Answers.{FindAnswer, InsertAnswer, find_result}
+use Rattle.model.specs.declared.Refusal.{Refusal}
+use Rattle.model.specs.declared.Place.{Place}
+use Rattle.theory_calls.specs.Refusals.{some_number}
+use Rattle.std.specs.Prelude.{Result, Ok, Err, IsOk}
+use Rattle.std.proofs.Common.{rules}
+use Rattle.std.proofs.lemmas.Result.{err_from_is_err_and}
 use Rattle.theory_rows.specs.Laws.{length_bytes}
 use Rattle.theory_decoding.specs.Reading.{reads_valid, reads_length}
 use Rattle.base_numbers.specs.Over.{take_over}
@@ -30,78 +35,78 @@ use Rattle.grow_groups.specs.Used.{Tables, tables, InUse, Holds, holds_still}
 use Rattle.grow_widths.specs.Raised.{Raising, changed_long}
 use Rattle.grow_split_point.specs.Lean.{lean_signed}
 use Rattle.grow_run.specs.Begin.{Begin, node_most, new_lean}
-use Rattle.grow_insert.specs.Answer.{refused_early, Passed, X, made, refused_full, tests, sound, new_fits, spot, reads_as, begin, new_reads, new_tally}
+use Rattle.grow_insert.specs.Answer.{refused_early, Passed, X, made, refused_full, tests, sound, new_fits, spot, reads_as, begin, new_reads, new_tally, finds}
 use Rattle.grow_insert.specs.Answer.{accepted_is}
 use Rattle.grow_insert.specs.Table.{raising, awaits, left_table, left_map_lem}
 use Rattle.grow_insert.proofs.insert_of.Goals as goal
-use Rattle.grow_insert.proofs.insert_of.Goals.{After-is_full, After-once-made, After-one_more, After-put_node-n, Else-a-ne0}
+use Rattle.grow_insert.proofs.insert_of.Goals.{After-is_full, After-once-made, After-one_more, After-put_node-n, In_ok-a}
 
-pub admit-a-requires : goal.admit-a-requires
-admit-a-requires c = (c.requires.0, c.requires.1)
+pub admit-requires : goal.admit-requires
+admit-requires c = (c.requires.0, c.requires.1)
 
-pub returns-then-a-ne0 : goal.returns-then-a-ne0
-returns-then-a-ne0 c =
+pub returns-in_err-a : goal.returns-in_err-a
+returns-in_err-a c =
     let v = c.args in
     let r = (passing v.image.now c.requires.0).1 in
-    let n = c.admit-a.ensures.number _ _ r v.label in
-    let e = refused_early r v.path.now v.child v.kind v.origin v.label v.content.now _ n c.if-a-ne0.true in
+    let n = c.in_err-a.ensures.number _ _ r v.label in
+    let e = refused_early r v.path.now v.child v.kind v.origin v.label v.content.now _ n (some_number _) in
+    let p = err_from_is_err_and c.from_residual.result c.from_residual.ensures.1 in
     record {
-      answer = c.refused.ensures ∙ ap (λ (z : InsertAnswer × List ℕ). z.0) e;
+      answer = rw (p.1, p.2) (ap (λ (z : InsertAnswer × List ℕ). z.0) e);
       image = ap (λ (z : InsertAnswer × List ℕ). z.1) e;
       table = c.requires.1;
       map = c.requires.2;
     }
 
-passed : (c : Else-a-ne0) → let v = c.args in
-    Passed v.image.now v.path.now v.child v.kind v.origin v.label v.content.now c.admit-a.result
+passed : (c : In_ok-a) → let v = c.args in
+    Passed v.image.now v.path.now v.child v.kind v.origin v.label v.content.now c.in_ok-a.a
 passed c =
     let v = c.args in
     let (z, r) = passing v.image.now c.requires.0 in
-    let d = c.admit-a.ensures in
-    let n = c.if-a-ne0.false in
+    let d = c.in_ok-a.ensures in
     record {
       st = z.0;
       root = z.1;
       reads = r;
-      zero = sym n ∙ d.number _ _ r v.label;
+      zero = d.number _ _ r v.label;
       small = omega arith;
       byte = is_byte_lem v.content.now (λ i. omega (arith, c.type_inv.content i));
-      parent = d.parent n;
-      takes = d.receiver n;
+      parent = d.parent;
+      takes = d.receiver;
     }
 
 -- the table and the map at the start
-abbrev given : (c : Else-a-ne0) → Tables
+abbrev given : (c : In_ok-a) → Tables
 given c =
     let v = c.args in tables v.widths.now v.map.now
 
-table_of : (c : Else-a-ne0) → let p = passed c in Table p.st p.root (given c).widths
+table_of : (c : In_ok-a) → let p = passed c in Table p.st p.root (given c).widths
 table_of c =
     c.requires.1.store _ _ (passed c).reads
 
-holds_of : (c : Else-a-ne0) → Holds (passed c).st.pages (given c)
+holds_of : (c : In_ok-a) → Holds (passed c).st.pages (given c)
 holds_of c =
     let m = c.requires.2 in
     record { widths = (table_of c).long; map = omega (arith, m.long, reads_length _ _ _ (passed c).reads); small = m.small }
 
-in_use_lem : (c : Else-a-ne0) → (v : List ℕ) → let p = passed c in InUse (tables v (given c).map) (at_rest p.st p.root)
+in_use_lem : (c : In_ok-a) → (v : List ℕ) → let p = passed c in InUse (tables v (given c).map) (at_rest p.st p.root)
 in_use_lem c v =
     record { same = c.requires.2.store _ _ (passed c).reads }
 
 pub child_path-end-requires : goal.child_path-end-requires
-child_path-end-requires c = ((tests (passed (goal.at.child_path-end-requires c).Else-a-ne0)).short, refl)
+child_path-end-requires c = ((tests (passed (goal.at.child_path-end-requires c).In_ok-a)).short, refl)
 
 pub put_node-n-requires : goal.put_node-n-requires
-put_node-n-requires c = let z = sound (passed (goal.at.put_node-n-requires c).Else-a-ne0) in (z, omega (arith, z.small))
+put_node-n-requires c = let z = sound (passed (goal.at.put_node-n-requires c).In_ok-a) in (z, omega (arith, z.small))
 
 pub setup_on-setup-requires : goal.setup_on-setup-requires
 setup_on-setup-requires c =
-    let r = (passed (goal.at.setup_on-setup-requires c).Else-a-ne0).reads in
+    let r = (passed (goal.at.setup_on-setup-requires c).In_ok-a).reads in
     omega (arith, reads_length _ _ _ r, (reads_valid _ _ _ r).ranges.few)
 
-node_is : (c : After-put_node-n) → let p = passed (goal.at.After-put_node-n c).Else-a-ne0 in take c.put_node-n.result c.put_node-n.new.out ≡ bytes (as_row p.st (X p) nil)
+node_is : (c : After-put_node-n) → let p = passed (goal.at.After-put_node-n c).In_ok-a in take c.put_node-n.result c.put_node-n.new.out ≡ bytes (as_row p.st (X p) nil)
 node_is c =
-    let p = passed (goal.at.After-put_node-n c).Else-a-ne0 in
+    let p = passed (goal.at.After-put_node-n c).In_ok-a in
     let row = as_row p.st (X p) nil in
     let n = c.put_node-n.ensures.size in
     let b = c.put_node-n.ensures.bytes in
@@ -109,13 +114,13 @@ node_is c =
 
 node_fits : (c : After-put_node-n) → c.put_node-n.result ≤ length c.put_node-n.new.out
 node_fits c =
-    let p = passed (goal.at.After-put_node-n c).Else-a-ne0 in
+    let p = passed (goal.at.After-put_node-n c).In_ok-a in
     omega (arith, c.put_node-n.ensures.size p.st, node_most p.st _ (new_fits p), c.put_node-n.auto.out)
 
 -- what a run requires, on the image i with the tables u
 abbrev Given : (dry : Bool) (i : List ℕ) (u : Tables) → (c : After-put_node-n) → Type 0
 Given dry i u c =
-    let d = c.admit-a.result in
+    let d = c.in_ok-a.a in
     Begin dry i u d.parent d.receiver c.args.label (take c.put_node-n.result c.put_node-n.new.out)
 
 pub slice_bounds-node-end : goal.slice_bounds-node-end
@@ -125,9 +130,9 @@ pub slice_bounds-is_full-end : goal.slice_bounds-is_full-end
 slice_bounds-is_full-end c = sym (length-take-le _ _ (node_fits (goal.at.slice_bounds-is_full-end c).After-put_node-n))
 
 -- whether a page is missing
-abbrev asked : (c : After-put_node-n) → Given true c.args.image.now (given (goal.at.After-put_node-n c).Else-a-ne0) c
+abbrev asked : (c : After-put_node-n) → Given true c.args.image.now (given (goal.at.After-put_node-n c).In_ok-a) c
 asked c =
-    begin (passed (goal.at.After-put_node-n c).Else-a-ne0) true refl (holds_of (goal.at.After-put_node-n c).Else-a-ne0) (in_use_lem (goal.at.After-put_node-n c).Else-a-ne0 _) (λ e. absurd (true≢false e)) (node_is c) (λ e. absurd (true≢false e))
+    begin (passed (goal.at.After-put_node-n c).In_ok-a) true refl (holds_of (goal.at.After-put_node-n c).In_ok-a) (in_use_lem (goal.at.After-put_node-n c).In_ok-a _) (λ e. absurd (true≢false e)) (node_is c) (λ e. absurd (true≢false e))
 
 pub is_full-requires : goal.is_full-requires
 is_full-requires c = (asked (goal.at.is_full-requires c).After-put_node-n, c.setup_on-setup.ensures)
@@ -140,36 +145,36 @@ kept_is : (c : After-is_full) → c.is_full.new.widths ≡ c.args.widths.now
 kept_is c =
     c.is_full.ensures.widths
 
-table_at : (c : After-is_full) → let p = passed (goal.at.After-is_full c).Else-a-ne0 in Table p.st p.root c.is_full.new.widths
+table_at : (c : After-is_full) → let p = passed (goal.at.After-is_full c).In_ok-a in Table p.st p.root c.is_full.new.widths
 table_at c =
-    let p = passed (goal.at.After-is_full c).Else-a-ne0 in subst (Table p.st p.root) (sym (kept_is c)) (table_of (goal.at.After-is_full c).Else-a-ne0)
+    let p = passed (goal.at.After-is_full c).In_ok-a in subst (Table p.st p.root) (sym (kept_is c)) (table_of (goal.at.After-is_full c).In_ok-a)
 
 pub returns-then-is_full : goal.returns-then-is_full
 returns-then-is_full c =
-    let p = passed (goal.at.returns-then-is_full c).Else-a-ne0 in
+    let p = passed (goal.at.returns-then-is_full c).In_ok-a in
     let e = refused_full p (sym c.if-is_full.true ∙ c.is_full.ensures.full (asked (goal.at.returns-then-is_full c).After-put_node-n)) in
     let i = still_is (goal.at.returns-then-is_full c).After-is_full in
     let r = reads_as p i in
-    let h = holds_of (goal.at.returns-then-is_full c).Else-a-ne0 in
+    let h = holds_of (goal.at.returns-then-is_full c).In_ok-a in
     record {
-      answer = c.refused-then-is_full.ensures ∙ ap (λ (z : InsertAnswer × List ℕ). z.0) e;
+      answer = ap (λ (z : InsertAnswer × List ℕ). z.0) e;
       image = i ∙ ap (λ (z : InsertAnswer × List ℕ). z.1) e;
       table = widths _ _ _ _ r (table_at (goal.at.returns-then-is_full c).After-is_full);
       map =
           mapped _ _ _ _ r h.map h.small
-          (in_use_lem (goal.at.returns-then-is_full c).Else-a-ne0 (given (goal.at.returns-then-is_full c).Else-a-ne0).widths).same;
+          (in_use_lem (goal.at.returns-then-is_full c).In_ok-a (given (goal.at.returns-then-is_full c).In_ok-a).widths).same;
     }
 
 -- one node more
-abbrev ready : (c : After-is_full) → let r = c.admit-a.result.receiver in
+abbrev ready : (c : After-is_full) → let r = c.in_ok-a.a.receiver in
     Raising c.is_full.new.image c.is_full.new.widths r.page r.deep
 ready c =
-    raising (passed (goal.at.After-is_full c).Else-a-ne0) (table_at c) (still_is c)
+    raising (passed (goal.at.After-is_full c).In_ok-a) (table_at c) (still_is c)
 
 pub one_more-requires : goal.one_more-requires
 one_more-requires c = ready (goal.at.one_more-requires c).After-is_full
 
-room_is : (c : After-one_more) → (made (passed (goal.at.After-one_more c).Else-a-ne0)).1.full ≡ false
+room_is : (c : After-one_more) → (made (passed (goal.at.After-one_more c).In_ok-a)).1.full ≡ false
 room_is c =
     sym (c.is_full.ensures.full (asked (goal.at.After-one_more c).After-put_node-n)) ∙ c.if-is_full.false
 
@@ -182,11 +187,11 @@ slice_bounds-once-end c = sym (length-take-le _ _ (node_fits (goal.at.slice_boun
 -- the tables of the run
 abbrev more_tables : (c : After-one_more) → Tables
 more_tables c =
-    tables c.one_more.new.widths (given (goal.at.After-one_more c).Else-a-ne0).map
+    tables c.one_more.new.widths (given (goal.at.After-one_more c).In_ok-a).map
 
-more_holds : (c : After-one_more) → Holds (passed (goal.at.After-one_more c).Else-a-ne0).st.pages (more_tables c)
+more_holds : (c : After-one_more) → Holds (passed (goal.at.After-one_more c).In_ok-a).st.pages (more_tables c)
 more_holds c =
-    holds_still (holds_of (goal.at.After-one_more c).Else-a-ne0) (record {
+    holds_still (holds_of (goal.at.After-one_more c).In_ok-a) (record {
       widths = ap length (c.one_more.ensures (ready (goal.at.After-one_more c).After-is_full)) ∙ changed_long _ _ _ _ ∙ ap length (kept_is (goal.at.After-one_more c).After-is_full);
       map = refl;
     })
@@ -194,20 +199,20 @@ more_holds c =
 -- the run, on the image as it was
 abbrev told : (c : After-one_more) → Given false c.is_full.new.image (more_tables c) (goal.at.After-one_more c).After-put_node-n
 told c =
-    let p = passed (goal.at.After-one_more c).Else-a-ne0 in
+    let p = passed (goal.at.After-one_more c).In_ok-a in
     let e = sym (c.one_more.ensures (ready (goal.at.After-one_more c).After-is_full)) in
-    begin p false (still_is (goal.at.After-one_more c).After-is_full) (more_holds c) (in_use_lem (goal.at.After-one_more c).Else-a-ne0 _) (λ _. subst (λ (u : List ℕ). Awaits u (spot p).0) e (awaits p (table_at (goal.at.After-one_more c).After-is_full)))
+    begin p false (still_is (goal.at.After-one_more c).After-is_full) (more_holds c) (in_use_lem (goal.at.After-one_more c).In_ok-a _) (λ _. subst (λ (u : List ℕ). Awaits u (spot p).0) e (awaits p (table_at (goal.at.After-one_more c).After-is_full)))
     (node_is (goal.at.After-one_more c).After-put_node-n) (λ _. room_is c)
 
 pub once-made-requires : goal.once-made-requires
 once-made-requires c =
     (told (goal.at.once-made-requires c).After-one_more, c.setup_on-setup.ensures ∙ ap setup_on (sym (still_is (goal.at.once-made-requires c).After-is_full)))
 
-reads_new : (c : After-once-made) → let w = passed (goal.at.After-once-made c).Else-a-ne0 in Reads c.once-made.new.image w.st (made w).0
+reads_new : (c : After-once-made) → let w = passed (goal.at.After-once-made c).In_ok-a in Reads c.once-made.new.image w.st (made w).0
 reads_new c =
-    new_reads (passed (goal.at.After-once-made c).Else-a-ne0) (room_is (goal.at.After-once-made c).After-one_more) ((c.once-made.ensures (told (goal.at.After-once-made c).After-one_more)).writes refl)
+    new_reads (passed (goal.at.After-once-made c).In_ok-a) (room_is (goal.at.After-once-made c).After-one_more) ((c.once-made.ensures (told (goal.at.After-once-made c).After-one_more)).writes refl)
 
-holds_new : (c : After-once-made) → Holds (passed (goal.at.After-once-made c).Else-a-ne0).st.pages (tables c.once-made.new.widths c.once-made.new.map)
+holds_new : (c : After-once-made) → Holds (passed (goal.at.After-once-made c).In_ok-a).st.pages (tables c.once-made.new.widths c.once-made.new.map)
 holds_new c =
     holds_still (more_holds (goal.at.After-once-made c).After-one_more) (c.once-made.ensures (told (goal.at.After-once-made c).After-one_more)).as_long
 
@@ -218,13 +223,13 @@ widths_new c =
 
 map_new : (c : After-once-made) → Mapped c.once-made.new.image c.once-made.new.map
 map_new c =
-    let n = new_tally (passed (goal.at.After-once-made c).Else-a-ne0) (room_is (goal.at.After-once-made c).After-one_more) in
+    let n = new_tally (passed (goal.at.After-once-made c).In_ok-a) (room_is (goal.at.After-once-made c).After-one_more) in
     let h = holds_new c in
-    mapped _ _ _ _ (reads_new c) h.map h.small (left_map_lem (passed (goal.at.After-once-made c).Else-a-ne0).st (made (passed (goal.at.After-once-made c).Else-a-ne0)) n ((c.once-made.ensures (told (goal.at.After-once-made c).After-one_more)).table refl))
+    mapped _ _ _ _ (reads_new c) h.map h.small (left_map_lem (passed (goal.at.After-once-made c).In_ok-a).st (made (passed (goal.at.After-once-made c).In_ok-a)) n ((c.once-made.ensures (told (goal.at.After-once-made c).After-one_more)).table refl))
 
 path_fits : (c : After-once-made) → c.child_path-end.result ≤ length c.child_path-end.new.out
 path_fits c =
-    omega (arith, c.child_path-end.ensures.0, c.child_path-end.auto.out, (tests (passed (goal.at.After-once-made c).Else-a-ne0)).short)
+    omega (arith, c.child_path-end.ensures.0, c.child_path-end.auto.out, (tests (passed (goal.at.After-once-made c).In_ok-a)).short)
 
 pub slice_bounds-whole-end : goal.slice_bounds-whole-end
 slice_bounds-whole-end c = path_fits (goal.at.slice_bounds-whole-end c).After-once-made
@@ -234,6 +239,18 @@ slice_bounds-find_in-end c = sym (length-take-le _ _ (path_fits (goal.at.slice_b
 
 pub find_in-requires : goal.find_in-requires
 find_in-requires c = (passes _ _ _ (reads_new (goal.at.find_in-requires c).After-once-made), widths_new (goal.at.find_in-requires c).After-once-made)
+
+-- the new node stands in its image, so it is found
+some_place : (r : Result Place Refusal) → (find_result r).number ≡ 0 → IsOk r
+some_place (Ok x) e = search rules
+some_place (Err r) e = absurd (some_number r e)
+
+pub unwrap-place-requires : goal.unwrap-place-requires
+unwrap-place-requires c =
+    let o = (goal.at.unwrap-place-requires c).After-one_more in
+    let g = c.once-made.ensures (told o) in
+    let f = finds (passed (goal.at.unwrap-place-requires c).In_ok-a) (room_is o) (omega arith) (g.writes refl) in
+    some_place c.find_in.result (ap (λ (a : FindAnswer). a.number) (c.find_in.ensures ∙ ap (find_of c.once-made.new.image) c.child_path-end.ensures.1 ∙ f))
 
 pub shape_of-image : goal.shape_of-image
 shape_of-image c = c.once-made.auto.image ∙ c.is_full.auto.image
@@ -249,8 +266,8 @@ pub returns : goal.returns
 returns c =
     let g = c.once-made.ensures (told (goal.at.returns c).After-one_more) in
     let lean = to_z-of_z {w = w32} (lean_signed c.once-made.result.lean (rw g.lean (new_lean (told (goal.at.returns c).After-one_more)))) ∙ g.lean in
-    let place = ap (λ (r : FindAnswer). r.place) (c.find_in.ensures ∙ ap (find_of c.once-made.new.image) c.child_path-end.ensures.1) in
-    let e = accepted_is (passed (goal.at.returns c).Else-a-ne0) (room_is (goal.at.returns c).After-one_more) (omega arith) (g.writes refl) place g.splits lean in
+    let place = ap (λ (r : FindAnswer). r.place) (sym (ap find_result c.unwrap-place.ensures) ∙ c.find_in.ensures ∙ ap (find_of c.once-made.new.image) c.child_path-end.ensures.1) in
+    let e = accepted_is (passed (goal.at.returns c).In_ok-a) (room_is (goal.at.returns c).After-one_more) (omega arith) (g.writes refl) place g.splits lean in
     record {
       answer = ap (λ (z : InsertAnswer × List ℕ). z.0) e;
       image = ap (λ (z : InsertAnswer × List ℕ). z.1) e;

@@ -1,3 +1,4 @@
+use Rattle.std.specs.Prelude.{Option, Some}
 use mathlib.Core.Path.{◌≡◌, refl, sym, ap, subst, ◌∙◌}
 use mathlib.Core.Bool.{true}
 use mathlib.Core.List.{List}
@@ -8,7 +9,7 @@ use Rattle.model.specs.Reading.{size_at, name_at}
 use Rattle.read_find.specs.Rowed.{Rowed, Entered, short, room}
 use Rattle.grow_locate.specs.declared.Located.{Located}
 use Rattle.grow_locate.specs.declared.Span.{Span}
-use Rattle.grow_locate.specs.Seek.{helper_first, SomeRow, first_long, helper_first_lem, proxy_first, located_at, seek_span}
+use Rattle.grow_locate.specs.Seek.{helper_first, SomeRow, first_long, first_counts, first_shown, helper_first_lem, proxy_first, located_at, seek_span}
 use Rattle.grow_locate.specs.Seek.{past_span, inside_span, empty_span, closer_of, closer_deep}
 use Rattle.grow_locate.specs.Walk.{Follows, Seeking, seeking, seek_deep, seek_end, seek_past, seek_here, seek_inside}
 use Rattle.grow_locate.proofs.seek.Goals as goal
@@ -17,7 +18,7 @@ use Rattle.grow_locate.proofs.seek.Goals.{In-loop-span, After-closer-after, Else
 -- The invariant as it stands along the way.
 abbrev Walks : List ℕ → ℕ → Span → ℕ → Span → Span → Type 0
 Walks image k from left span after =
-    ((t u : Located) → Seeking image from (empty_span from) most_pages k t u → Seeking image span after (most_pages - (span.deep - from.deep)) left t u)
+    ((t u : Option Located) → Seeking image from (empty_span from) most_pages k t u → Seeking image span after (most_pages - (span.deep - from.deep)) left t u)
     × (from.deep ≤ span.deep) × (span.deep ≤ from.deep + most_pages) × (after.deep ≤ from.deep + most_pages)
 
 -- The row that is left in the loop is not empty, and has room.
@@ -36,8 +37,8 @@ loop-span-init c = (λ t u s. seek_deep (omega arith) s, omega arith, omega arit
 pub past_first-next-requires : goal.past_first-next-requires
 past_first-next-requires c = omega (arith, room _ _ _ _ (seen (goal.at.past_first-next-requires c).In-loop-span), c.loop-span-test.true)
 
-pub shown_by-n-requires : goal.shown_by-n-requires
-shown_by-n-requires c = let i = (goal.at.shown_by-n-requires c).In-loop-span in (some i (seen i), c.requires.1)
+pub nodes_shown-n-requires : goal.nodes_shown-n-requires
+nodes_shown-n-requires c = let i = (goal.at.nodes_shown-n-requires c).In-loop-span in first_counts (some i (seen i)) _ c.requires.1
 
 pub loop-span-smaller-then-n-to_pass : goal.loop-span-smaller-then-n-to_pass
 loop-span-smaller-then-n-to_pass c =
@@ -52,12 +53,12 @@ pub loop-span-preserved-then-n-to_pass : goal.loop-span-preserved-then-n-to_pass
 loop-span-preserved-then-n-to_pass c =
     let i = (goal.at.loop-span-preserved-then-n-to_pass c).In-loop-span in
     let a = c.args in
-    let left = c.loop-span.to_pass - c.shown_by-n.result in
+    let left = c.loop-span.to_pass - c.nodes_shown-n.result in
     let P : Span → Type 0 = λ r. Walks a.image.now a.k a.from left r c.loop-span.after in
     subst P (sym c.past_first-next.ensures) (
       λ t u s.
           let w = c.loop-span.invariant.0 t u s in
-          seek_past w c.loop-span-test.true (c.shown_by-n.ensures (some i w.rest)) c.if-n-to_pass.true,
+          seek_past w c.loop-span-test.true (c.nodes_shown-n.ensures.0 ∙ first_shown (some i w.rest) _ c.requires.1) c.if-n-to_pass.true,
       c.loop-span.invariant.1,
       c.loop-span.invariant.2,
       c.loop-span.invariant.3,
@@ -84,11 +85,11 @@ returns-then-not-leads_on c =
     λ w.
     let s = c.loop-span.invariant.0 _ _ (seeking w) in
     let o = some i s.rest in
-    let h = seek_here s c.loop-span-test.true (c.shown_by-n.ensures o) (omega arith) c.if-n-to_pass.false
+    let h = seek_here s c.loop-span-test.true (c.nodes_shown-n.ensures.0 ∙ first_shown o _ c.requires.1) (omega arith) c.if-n-to_pass.false
     (sym (c.leads_on.ensures o) ∙ c.if-not-leads_on.true) in
     let span = c.loop-span.span in
     let a = c.args in (
-      c.first_node.ensures ∙ ap (λ (r : Span). located_at span.pos r.pos span.par span.deep) c.past_first-next.ensures ∙ h.0,
+      ap Some (c.first_node.ensures ∙ ap (λ (r : Span). located_at span.pos r.pos span.par span.deep) c.past_first-next.ensures) ∙ h.0,
       subst (λ (r : Span). Follows a.image.now r (seek_span a.from w.row (suc a.k))) (sym (closes z)) h.1,
       closes_deep z,
     )
@@ -140,7 +141,7 @@ loop-span-preserved c =
           let o = some i w.rest in
           seek_deep deep
           (subst (λ (r : Span). Seeking img (inside_span img c.loop-span.span) r (depth i - 1) c.loop-span.to_pass t u) (sym z)
-          (seek_inside w c.loop-span-test.true (c.shown_by-n.ensures o) (omega arith) c.if-n-to_pass.false (leads x w.rest))),
+          (seek_inside w c.loop-span-test.true (c.nodes_shown-n.ensures.0 ∙ first_shown o _ c.requires.1) (omega arith) c.if-n-to_pass.false (leads x w.rest))),
       omega (arith, c.loop-span.invariant.1),
       omega (arith, c.loop-span.invariant.1, (under x).below),
       closes_deep y,
@@ -150,4 +151,4 @@ pub returns : goal.returns
 returns c =
     λ w.
     let e = seek_end (c.loop-span.invariant.0 _ _ (seeking w)) c.loop-span-test.false in
-    (c.nowhere.ensures ∙ e.0, e.1, c.loop-span.invariant.3)
+    (e.0, e.1, c.loop-span.invariant.3)

@@ -1,38 +1,25 @@
--- `grow_map::full_bytes`: eight bytes of which each is at most 255 and that sum up to 8 times 255 are 255 each.
-use mathlib.Core.Path.{◌≡◌, ap, ◌∙◌}
-use mathlib.Core.List.{List}
-use Prim.Native.Nat.{ℕ, zero, suc, ◌+◌, ◌<◌}
-use native.Mathlib.Omega.{arith}
-use lib.ListN.{get_or}
+-- `grow_map::full_bytes`: what starts with eight bytes of 255 has 255 at each of the eight.
+use Rattle.std.specs.Prelude.{◌≡◌, List, ℕ, Bool, true, ◌+◌, ◌-◌, ◌<◌, ◌≤◌, length, get_or}
+use Rattle.std.specs.List.{starts_with}
+use Rattle.std.proofs.Common.{arith, sym, ap, ◌∙◌, eqb}
+use Rattle.std.proofs.Math.ListN.{take, drop, replicate, get_or-append}
+use Rattle.std.proofs.lemmas.Bool.Decides.{Decides-eqb}
+use Rattle.std.proofs.lemmas.List.{get_or-drop, get_or-take, get_or-replicate}
+use Rattle.std.proofs.lemmas.Slice.Eq.{starts_is}
 use Rattle.grow_map.proofs.full_bytes.Goals as goal
 
--- A byte, and eight of them.
-one : (m : List ℕ) (i : ℕ) → get_or m i 0 ≡ 255 → (k : ℕ) → k < 1 → get_or m (i + k) 0 ≡ 255
-one m i e k h = let z : i + k ≡ i = omega arith in ap (λ (n : ℕ). get_or m n 0) z ∙ e
+eight : (m : List ℕ) (i n : ℕ) (r : Bool) → r ≡ starts_with eqb (take n (drop i m)) (replicate 8 255) → r ≡ true → 8 ≤ n
+    → (k : ℕ) → k < 8 → get_or m (i + k) 0 ≡ 255
+eight m i n r v e h k b =
+    sym (get_or-drop i m k 0) ∙ sym (get_or-take n (drop i m) k 0 (omega arith))
+    ∙ ap (λ (l : List ℕ). get_or l k 0) ((starts_is Decides-eqb (take n (drop i m)) (replicate 8 255) r v).0 e)
+    ∙ get_or-append (replicate 8 255) _ 0 k b
+    ∙ get_or-replicate 8 k 255 0 b
 
-eight : (m : List ℕ) (i : ℕ) → get_or m i 0 ≡ 255 → get_or m (i + 1) 0 ≡ 255 → get_or m (i + 2) 0 ≡ 255 → get_or m (i + 3) 0 ≡ 255 → get_or m (i + 4) 0 ≡ 255
-    → get_or m (i + 5) 0 ≡ 255 → get_or m (i + 6) 0 ≡ 255 → get_or m (i + 7) 0 ≡ 255 → (k : ℕ) → k < 8 → get_or m (i + k) 0 ≡ 255
-eight m i a b c d e f g h zero l = one m i a 0 (omega arith)
-eight m i a b c d e f g h (suc zero) l = b
-eight m i a b c d e f g h (suc (suc zero)) l = c
-eight m i a b c d e f g h (suc (suc (suc zero))) l = d
-eight m i a b c d e f g h (suc (suc (suc (suc zero)))) l = e
-eight m i a b c d e f g h (suc (suc (suc (suc (suc zero))))) l = f
-eight m i a b c d e f g h (suc (suc (suc (suc (suc (suc zero)))))) l = g
-eight m i a b c d e f g h (suc (suc (suc (suc (suc (suc (suc zero))))))) l = h
-eight m i a b c d e f g h (suc (suc (suc (suc (suc (suc (suc (suc k)))))))) l = absurd (omega arith)
-
-pub returns-then-map-i-2 : goal.returns-then-map-i-2
-returns-then-map-i-2 c =
-    let v = c.args in
-    (omega arith, one v.map.now v.i c.if-map-i.false)
-
-pub returns-then-low-high : goal.returns-then-low-high
-returns-then-low-high c =
-    let v = c.args in
-    (omega arith, eight v.map.now v.i (omega arith) (omega arith) (omega arith) (omega arith) (omega arith) (omega arith) (omega arith) (omega arith))
-
-pub returns-else-low-high : goal.returns-else-low-high
-returns-else-low-high c =
-    let v = c.args in
-    (omega arith, one v.map.now v.i c.if-map-i.false)
+pub returns-then-starts_with : goal.returns-then-starts_with
+returns-then-starts_with c =
+    let e = c.if-starts_with.true in
+    let n = c.starts_with.ensures.bound e in (
+      omega (arith, n),
+      eight c.args.map.now c.args.i (length c.args.map.now - c.args.i) _ c.starts_with.ensures.value e (omega (arith, n)),
+    )

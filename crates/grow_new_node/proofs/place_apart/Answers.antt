@@ -11,8 +11,8 @@ inside : (c : After-first_free-q) → c.first_free-q.result < c.args.g.setup.pag
 inside c =
     found_inside c.requires.0 _ c.first_free-q.ensures
 
-pub set_used-requires : goal.set_used-requires
-set_used-requires c = let v = c.requires.0 in omega (arith, v.holds.map, inside (goal.at.set_used-requires c).After-first_free-q)
+pub set_mark-requires : goal.set_mark-requires
+set_mark-requires c = let v = c.requires.0 in omega (arith, v.holds.map, inside (goal.at.set_mark-requires c).After-first_free-q)
 
 pub put_own-requires : goal.put_own-requires
 put_own-requires c =
@@ -30,7 +30,7 @@ returns c row l b =
     record {
       page = c.first_free-q.result;
       found = c.first_free-q.ensures;
-      map = c.set_used.ensures;
+      map = c.set_mark.ensures;
       widths = e.widths;
       image = e.image ∙ rw (l, b);
       out = c.put_proxy.ensures;

@@ -1,15 +1,19 @@
 -- `grow_refusals::admit`: each test in the order of the refusal table, with the tests before it passed.
-use mathlib.Core.Path.{◌≡◌, refl, sym, ◌∙◌}
-use Prim.Native.Nat.{◌+◌, ◌*◌}
-use native.Mathlib.Omega.{arith}
+use Rattle.std.specs.Prelude.{Ok}
+use Rattle.std.proofs.lemmas.Result.{err_from_is_err_and}
+use Rattle.std.proofs.Common.{◌≡◌, refl, sym, ◌∙◌, ◌+◌, ◌*◌, arith}
 use Rattle.model.specs.Limits.{page_size}
 use Rattle.model.specs.Tree.{Node}
+use Rattle.model.specs.Answers.{find_result, refusal_number}
+use Rattle.model.specs.Calls.Find.{find_of}
+use Rattle.model.specs.declared.Place.{Place}
 use Rattle.theory_layout.specs.Nodes.{ReadAt}
 use Rattle.theory_calls.specs.Open.{passing}
-use Rattle.grow_refusals.specs.Admit.{read_room, Formed, found_at, refuses, too_long, wrong_kind_lem, wrong_origin_lem, long_content_lem, no_node_lem}
+use Rattle.theory_calls.specs.Refusals.{some_number}
+use Rattle.grow_refusals.specs.Admit.{read_room, Formed, found_at, too_long, wrong_kind_lem, wrong_origin_lem, long_content_lem, not_found}
 use Rattle.grow_refusals.specs.Admit.{parent_is, parent_read, by_parent}
 use Rattle.grow_refusals.proofs.admit.Goals as goal
-use Rattle.grow_refusals.proofs.admit.Goals.{After-find_in-found, Else-content-gt-CONTENT}
+use Rattle.grow_refusals.proofs.admit.Goals.{Else-content-gt-CONTENT}
 
 -- The arguments alone pass.
 formed : (c : Else-content-gt-CONTENT) → Formed c.args.path.now c.args.kind c.args.origin c.args.content.now
@@ -21,69 +25,60 @@ formed c =
       small = c.if-content-gt-CONTENT.false;
     }
 
-pub returns-then-path-gt-PARENT_PATH : goal.returns-then-path-gt-PARENT_PATH
-returns-then-path-gt-PARENT_PATH c =
+pub returns-then-path-gt-PARENT_PATH-clause-number : goal.returns-then-path-gt-PARENT_PATH-clause-number
+returns-then-path-gt-PARENT_PATH-clause-number c =
+    let a = c.args in too_long a.image.now a.path.now a.child a.kind a.origin a.content.now c.if-path-gt-PARENT_PATH.true
+
+pub returns-then-kind_bad-clause-number : goal.returns-then-kind_bad-clause-number
+returns-then-kind_bad-clause-number c =
     let a = c.args in
-    let h = refuses a.image.now a.path.now a.child a.kind a.origin a.content.now c.refused.result 4 (omega arith) c.refused.ensures (too_long _ _ _ _ _ _ c.if-path-gt-PARENT_PATH.true) in
-    record { number = h.0; parent = h.1.0; receiver = h.1.1 }
+    wrong_kind_lem a.image.now a.path.now a.child a.kind a.origin a.content.now c.if-path-gt-PARENT_PATH.false (sym c.kind_bad.ensures ∙ c.if-kind_bad.true)
 
-pub returns-then-kind_bad : goal.returns-then-kind_bad
-returns-then-kind_bad c =
+pub returns-then-origin-gt-MOST_ORIGIN-clause-number : goal.returns-then-origin-gt-MOST_ORIGIN-clause-number
+returns-then-origin-gt-MOST_ORIGIN-clause-number c =
     let a = c.args in
-    let h = refuses a.image.now a.path.now a.child a.kind a.origin a.content.now c.refused-then-kind_bad.result 5 (omega arith) c.refused-then-kind_bad.ensures
-    (wrong_kind_lem _ _ _ _ _ _ c.if-path-gt-PARENT_PATH.false (sym c.kind_bad.ensures ∙ c.if-kind_bad.true)) in
-    record { number = h.0; parent = h.1.0; receiver = h.1.1 }
+    wrong_origin_lem a.image.now a.path.now a.child a.kind a.origin a.content.now c.if-path-gt-PARENT_PATH.false
+    (sym c.kind_bad.ensures ∙ c.if-kind_bad.false) c.if-origin-gt-MOST_ORIGIN.true
 
-pub returns-then-origin-gt-MOST_ORIGIN : goal.returns-then-origin-gt-MOST_ORIGIN
-returns-then-origin-gt-MOST_ORIGIN c =
+pub returns-then-content-gt-CONTENT-clause-number : goal.returns-then-content-gt-CONTENT-clause-number
+returns-then-content-gt-CONTENT-clause-number c =
     let a = c.args in
-    let h = refuses a.image.now a.path.now a.child a.kind a.origin a.content.now c.refused-then-origin-gt-MOST_ORIGIN.result 13 (omega arith) c.refused-then-origin-gt-MOST_ORIGIN.ensures
-    (wrong_origin_lem _ _ _ _ _ _ c.if-path-gt-PARENT_PATH.false (sym c.kind_bad.ensures ∙ c.if-kind_bad.false) c.if-origin-gt-MOST_ORIGIN.true) in
-    record { number = h.0; parent = h.1.0; receiver = h.1.1 }
+    long_content_lem a.image.now a.path.now a.child a.kind a.origin a.content.now c.if-path-gt-PARENT_PATH.false
+    (sym c.kind_bad.ensures ∙ c.if-kind_bad.false) c.if-origin-gt-MOST_ORIGIN.false c.if-content-gt-CONTENT.true
 
-pub returns-then-content-gt-CONTENT : goal.returns-then-content-gt-CONTENT
-returns-then-content-gt-CONTENT c =
+pub returns-in_err-place-clause-number : goal.returns-in_err-place-clause-number
+returns-in_err-place-clause-number c =
     let a = c.args in
-    let h = refuses a.image.now a.path.now a.child a.kind a.origin a.content.now c.refused-then-content-gt-CONTENT.result 6 (omega arith) c.refused-then-content-gt-CONTENT.ensures
-    (long_content_lem _ _ _ _ _ _ c.if-path-gt-PARENT_PATH.false (sym c.kind_bad.ensures ∙ c.if-kind_bad.false) c.if-origin-gt-MOST_ORIGIN.false
-    c.if-content-gt-CONTENT.true) in
-    record { number = h.0; parent = h.1.0; receiver = h.1.1 }
+    let r = c.in_err-place.field-0.0 in
+    let p = err_from_is_err_and c.from_residual.result c.from_residual.ensures.1 in
+    rw (p.1, p.2) (not_found a.image.now _ a.child _ _ _ (formed (goal.at.returns-in_err-place-clause-number c).Else-content-gt-CONTENT) _ c.in_err-place.ensures
+    (refusal_number r) refl (some_number r))
 
-pub returns-then-found-ne0 : goal.returns-then-found-ne0
-returns-then-found-ne0 c =
-    let a = c.args in
-    let h = refuses a.image.now a.path.now a.child a.kind a.origin a.content.now c.refused-then-found-ne0.result 7 (omega arith) c.refused-then-found-ne0.ensures
-    (no_node_lem _ _ _ _ _ _ (formed (goal.at.returns-then-found-ne0 c).Else-content-gt-CONTENT) _ c.find_in-found.ensures c.if-found-ne0.true) in
-    record { number = h.0; parent = h.1.0; receiver = h.1.1 }
+-- The place that find gives is the parent's,
+parent_at : (c : Else-content-gt-CONTENT) (x : Place) → find_result (Ok x) ≡ find_of c.args.image.now c.args.path.now
+    → page_size * x.page + x.offset ≡ found_at c.args.image.now c.args.path.now
+parent_at c x is = parent_is _ _ c.args.child _ _ _ (formed c) _ is refl refl
 
--- The parent's byte.
-parent_at : (c : After-find_in-found) → (c.find_in-found.result.number ≡ 0) → page_size * c.find_in-found.result.place.page + c.find_in-found.result.place.offset ≡ found_at c.args.image.now c.args.path.now
-parent_at c z =
-    parent_is _ _ c.args.child _ _ _ (formed (goal.at.After-find_in-found c).Else-content-gt-CONTENT) _ c.find_in-found.ensures z refl
-
--- What is read there.
-parent_node : (c : After-find_in-found) → (c.find_in-found.result.number ≡ 0) → (n : Node) × ReadAt c.args.image.now n (page_size * c.find_in-found.result.place.page + c.find_in-found.result.place.offset)
-parent_node c z =
+-- and there is a node there.
+parent_node : (c : Else-content-gt-CONTENT) (x : Place) → find_result (Ok x) ≡ find_of c.args.image.now c.args.path.now
+    → (n : Node) × ReadAt c.args.image.now n (page_size * x.page + x.offset)
+parent_node c x is =
     let (t, r) = passing c.args.image.now c.requires.0 in
-    parent_read _ _ c.args.child _ _ _ (formed (goal.at.After-find_in-found c).Else-content-gt-CONTENT) _ c.find_in-found.ensures z t.0 t.1 r (parent_at c z)
+    parent_read _ _ c.args.child _ _ _ (formed c) _ is refl t.0 t.1 r (parent_at c x is)
 
 pub overflow_mul-parent : goal.overflow_mul-parent
-overflow_mul-parent c = omega (arith, read_room (parent_node (goal.at.overflow_mul-parent c).After-find_in-found c.if-found-ne0.false).1)
+overflow_mul-parent c =
+    omega (arith, read_room (parent_node (goal.at.overflow_mul-parent c).Else-content-gt-CONTENT c.in_ok-place.place c.in_ok-place.ensures).1)
 
 pub overflow_add-parent : goal.overflow_add-parent
-overflow_add-parent c = omega (arith, read_room (parent_node (goal.at.overflow_add-parent c).After-find_in-found c.if-found-ne0.false).1)
+overflow_add-parent c =
+    omega (arith, read_room (parent_node (goal.at.overflow_add-parent c).Else-content-gt-CONTENT c.in_ok-place.place c.in_ok-place.ensures).1)
 
 pub try_parent-requires : goal.try_parent-requires
-try_parent-requires c =
-    (parent_node (goal.at.try_parent-requires c).After-find_in-found c.if-found-ne0.false, c.requires.1)
+try_parent-requires c = (parent_node (goal.at.try_parent-requires c).Else-content-gt-CONTENT c.in_ok-place.place c.in_ok-place.ensures, c.requires.1)
 
-pub returns : goal.returns
-returns c =
-    let z = c.if-found-ne0.false in
-    let at = parent_at (goal.at.returns c).After-find_in-found z in
-    record {
-      number =
-          by_parent _ _ _ _ _ _ (formed (goal.at.returns c).Else-content-gt-CONTENT) _ c.find_in-found.ensures z _ at c.try_parent.ensures.number;
-      parent = λ y. c.try_parent.ensures.parent y ∙ at;
-      receiver = c.try_parent.ensures.receiver;
-    }
+pub returns-clause-number : goal.returns-clause-number
+returns-clause-number c =
+    let a = c.args in
+    let i = (goal.at.returns-clause-number c).Else-content-gt-CONTENT in
+    by_parent a.image.now _ a.child _ _ _ (formed i) _ c.in_ok-place.ensures refl _ (parent_at i c.in_ok-place.place c.in_ok-place.ensures) c.try_parent.ensures.number

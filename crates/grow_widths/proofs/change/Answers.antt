@@ -1,45 +1,41 @@
-use native.Mathlib.Omega.{arith}
-use lib.ListN.{length}
-use mathlib.Core.Path.{refl, ap, ◌∙◌}
-use Rattle.grow_widths.specs.Raised.{page_of_lem, change_step, changed_long, change_end}
+use Rattle.std.specs.Prelude.{List, ◌≡◌, ℕ, ◌+◌, ◌-◌, ◌*◌, ◌<◌, ◌≤◌, length}
+use Rattle.std.proofs.Common.{arith, refl}
+use Rattle.model.specs.Limits.{most_pages, page_size}
+use Rattle.grow_widths.specs.Raised.{Raising, page_of_lem, change_step, change_end}
 use Rattle.grow_widths.proofs.change.Goals as goal
 
-pub loop-left-init : goal.loop-left-init
-loop-left-init c = λ w. record { now = w; goes = refl }
+-- The page is the table's and the image's.
+fits : {img u : List ℕ} {page deep : ℕ} → Raising img u page deep → (page < most_pages) × ((page < length u) × (page_size * page + page_size ≤ length img))
+fits r = let o = (page_of_lem r).here.on in omega (arith, r.last, o.high, o.inside, r.long)
+
+pub loop-init : goal.loop-init
+loop-init g c = λ w m.
+    let e : c.args.deep - 0 ≡ c.args.deep = omega arith in
+    rw e (record { now = w; goes = refl })
 
 pub offset_bounds-widths-q : goal.offset_bounds-widths-q
-offset_bounds-widths-q c = let r = ((c.loop-left.invariant c.requires)).now in let o = (page_of_lem r).here.on in omega (arith, r.last, o.high, o.inside, r.long)
+offset_bounds-widths-q g c = omega (arith, fits (c.loop.invariant c.requires.way c.requires.makes).now)
 
 pub bounds-widths-q : goal.bounds-widths-q
-bounds-widths-q c = let r = ((c.loop-left.invariant c.requires)).now in let o = (page_of_lem r).here.on in omega (arith, r.last, o.high, o.inside, r.long)
+bounds-widths-q g c = (fits (c.loop.invariant c.requires.way c.requires.makes).now).1.0
 
-pub offset_bounds-widths-q-in-loop-left : goal.offset_bounds-widths-q-in-loop-left
-offset_bounds-widths-q-in-loop-left c = let r = ((c.loop-left.invariant c.requires)).now in let o = (page_of_lem r).here.on in omega (arith, r.last, o.high, o.inside, r.long)
+pub offset_bounds-widths-q-in-loop : goal.offset_bounds-widths-q-in-loop
+offset_bounds-widths-q-in-loop g c = omega (arith, fits (c.loop.invariant c.requires.way c.requires.makes).now)
 
-pub bounds-widths-q-in-loop-left : goal.bounds-widths-q-in-loop-left
-bounds-widths-q-in-loop-left c = let r = ((c.loop-left.invariant c.requires)).now in let o = (page_of_lem r).here.on in omega (arith, r.last, o.high, o.inside, r.long)
+pub bounds-widths-q-in-loop : goal.bounds-widths-q-in-loop
+bounds-widths-q-in-loop g c = (fits (c.loop.invariant c.requires.way c.requires.makes).now).1.0
 
 pub overflow_mul-q : goal.overflow_mul-q
-overflow_mul-q c = let r = ((c.loop-left.invariant c.requires)).now in let o = (page_of_lem r).here.on in omega (arith, r.last, o.high, o.inside, r.long)
+overflow_mul-q g c = omega (arith, fits (c.loop.invariant c.requires.way c.requires.makes).now)
 
 pub back_at-q-requires : goal.back_at-q-requires
-back_at-q-requires c = let r = ((c.loop-left.invariant c.requires)).now in let o = (page_of_lem r).here.on in omega (arith, r.last, o.high, o.inside, r.long)
+back_at-q-requires g c = (fits (c.loop.invariant c.requires.way c.requires.makes).now).1.1
 
-pub overflow_sub-left : goal.overflow_sub-left
-overflow_sub-left c = omega (arith, c.loop-left-test.true)
-
-pub loop-left-smaller : goal.loop-left-smaller
-loop-left-smaller c = omega (arith, c.loop-left-test.true)
-
-pub loop-left-preserved : goal.loop-left-preserved
-loop-left-preserved c =
-    λ w.
-    change_step c.loop-left.left (c.loop-left.invariant w) c.loop-left-test.true _ _ c.back_at-q.ensures.0 c.entry_anew.ensures
-
-pub shape_of-widths : goal.shape_of-widths
-shape_of-widths c =
-    let w = c.requires in
-    ap length (change_end c.loop-left.left (c.loop-left.invariant w) (omega (arith, c.loop-left-test.false))) ∙ changed_long _ _ w.chain _
+pub loop-preserved : goal.loop-preserved
+loop-preserved g c = λ w m.
+    let n = c.args.deep - c.loop.counter in
+    let e : c.args.deep - (c.loop.counter + 1) ≡ n - 1 = omega arith in
+    rw e (change_step n (c.loop.invariant w m) (omega arith) _ _ c.back_at-q.ensures.0 (m.is _ _ c.step.ensures))
 
 pub returns : goal.returns
-returns c = λ w. change_end c.loop-left.left (c.loop-left.invariant w) (omega (arith, c.loop-left-test.false))
+returns g c = λ w m. change_end (c.args.deep - c.loop.counter) (c.loop.invariant w m) (omega arith)

@@ -1,9 +1,9 @@
 -- `grow_widths::change`: the rest of the way leads to the same table, from any chain that ends on the page.
-use Rattle.grow_widths.specs.Raised.{entry_anew, changed, Raising, Rest}
+use Rattle.std.specs.Prelude.{◌-◌}
+use Rattle.grow_widths.specs.Raised.{changed, Raising, Makes, Rest}
 use Rattle.grow_widths.proofs.change.Given as goal
 
-abbrev pub invariant-loop-left : goal.invariant-loop-left
-invariant-loop-left l = (w : Raising l.image l.initial.widths l.page l.deep) → Rest (entry_anew l.more) l.image l.widths (changed (entry_anew l.more) l.deep w.chain l.initial.widths) l.q l.left
-
-abbrev pub decreases-loop-left : goal.decreases-loop-left
-decreases-loop-left l = l.left
+abbrev pub invariant-loop : goal.invariant-loop
+invariant-loop g l =
+    ((w : Raising l.image l.initial.widths l.page l.deep) (m : Makes (goal.F-post g l.step))
+    → Rest m.of l.image l.widths (changed m.of l.deep w.chain l.initial.widths) l.q (l.deep - l.counter))

@@ -15,12 +15,12 @@ returns-then-settled-ne0 c =
 pub returns-then-dry : goal.returns-then-dry
 returns-then-dry c =
     let a = c.args in
-    λ stays e. left_marked a.settled a.g a.map.now _ a.image.now _ c.if-settled-ne0.false c.set_free.ensures
+    λ stays e. left_marked a.settled a.g a.map.now _ a.image.now _ c.if-settled-ne0.false c.clear_mark.ensures
     (still a.g.dry a.image.now a.image.now (set_page a.g.near blank a.image.now) (ap not c.if-dry.true) refl) stays e
 
 pub returns : goal.returns
 returns c =
     let a = c.args in
-    λ stays e. left_marked a.settled a.g a.map.now _ a.image.now _ c.if-settled-ne0.false c.set_free.ensures
+    λ stays e. left_marked a.settled a.g a.map.now _ a.image.now _ c.if-settled-ne0.false c.clear_mark.ensures
     (wet a.g.dry _ a.image.now (set_page a.g.near blank a.image.now) (ap not c.if-dry.false)
     c.clear_page.ensures) stays e

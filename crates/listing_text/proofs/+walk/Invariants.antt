@@ -1,6 +1,5 @@
 -- `listing_text::walk`: what is written and what is left are the whole text. The measure of the recursion is the depth.
-use mathlib.Core.List.{List}
-use Prim.Native.Nat.{ℕ, ◌-◌}
+use Rattle.std.specs.Prelude.{◌≡◌, List, ℕ, ◌-◌}
 use Rattle.listing_text.specs.Lined.{Underway}
 use Rattle.listing_text.proofs.+walk.Given as goal
 
@@ -8,7 +7,12 @@ abbrev pub decreases-walk : goal.decreases-walk
 decreases-walk l = l.depth
 
 abbrev pub invariant-loop-i : goal.invariant-loop-i
-invariant-loop-i l = (t : List ℕ) → Underway l.image l.pos l.end l.level l.depth l.at l.at l.initial.out l.initial.out t → Underway l.image l.i l.end l.level l.depth l.at l.n l.initial.out l.out t
+invariant-loop-i l =
+    let from = l.initial.writer in
+    let to = l.writer in
+    ((t : List ℕ) → Underway l.image l.row.start l.row.stop l.row.level l.depth from.at from.at from.out.now from.out.now t
+    → Underway l.image l.i l.row.stop l.row.level l.depth from.at to.at from.out.now to.out.now t)
+    × (to.out.ghost_name ≡ from.out.ghost_name)
 
 abbrev pub decreases-loop-i : goal.decreases-loop-i
-decreases-loop-i l = l.end - l.i
+decreases-loop-i l = l.row.stop - l.i

@@ -6,7 +6,7 @@ use Rattle.model.specs.Answers.{no_place_there, write_refused}
 use Rattle.model.specs.Common.{path_bytes, write, opened, on_store}
 use Rattle.model.specs.Effect.{Effect, asking}
 use Rattle.model.specs.declared.Place.{Place}
-use Rattle.model.specs.declared.WriteAnswer.{WriteAnswer}
+use Rattle.model.specs.Answers.{WriteAnswer}
 
 -- From the nodes in document order, from the one at the place on; none if no node has the place.
 abbrev pub climb_from : List Node → (buffer : List ℕ) → WriteAnswer × List ℕ

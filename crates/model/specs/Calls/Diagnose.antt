@@ -8,7 +8,6 @@ use Rattle.model.specs.WalkTests.{whole_size, passing_kind, names_of, root_fits,
 use Rattle.model.specs.Answers.{not_passed}
 use Rattle.model.specs.Calls.Check.{check_of}
 use Rattle.model.specs.Effect.{Effect, asking}
-use Rattle.model.specs.declared.Diagnosis.{Diagnosis}
 
 -- ── reasons ──
 
@@ -175,6 +174,13 @@ fault_of img =
     let walk = walk_fault img in
     cond (not (settings_ok (page_of img 0) n)) (fault 1 0 (settings_reason (page_of img 0)))
     (cond (eqb pages.stage 0) walk pages)
+
+-- The answer as numbers.
+pub record Diagnosis : Type 0 where
+  pub number : ℕ
+  pub stage : ℕ
+  pub page : ℕ
+  pub reason : ℕ
 
 abbrev pub diagnosis : (number : ℕ) → Fault → Diagnosis
 diagnosis n f = record { number = n; stage = f.stage; page = f.page; reason = f.reason }

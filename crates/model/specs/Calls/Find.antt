@@ -7,7 +7,7 @@ use Rattle.model.specs.Answers.{long_path, no_node, first_refusal, find_refused}
 use Rattle.model.specs.Common.{named_by, path_of, accept, is_none, place_or, opened, on_store}
 use Rattle.model.specs.Effect.{Effect, asking}
 use Rattle.model.specs.declared.Place.{Place}
-use Rattle.model.specs.declared.FindAnswer.{FindAnswer}
+use Rattle.model.specs.Answers.{FindAnswer}
 
 -- In a tree whose nodes have places.
 unfoldable pub find_in : Tree → (place : List ℕ → Option Place) → (path : List ℕ) → FindAnswer

@@ -9,7 +9,7 @@ use Rattle.model.specs.Answers.{long_path, wrong_kind, wrong_origin, long_conten
 use Rattle.model.specs.Answers.{insert_refused}
 use Rattle.model.specs.Common.{named_by, path_of, accept, is_none, place_or, opened, on_store}
 use Rattle.model.specs.Effect.{Effect}
-use Rattle.model.specs.declared.InsertAnswer.{InsertAnswer}
+use Rattle.model.specs.Answers.{InsertAnswer}
 
 -- Kind not 1 or 2, or an aggregate with content.
 abbrev pub kind_bad : New → Bool

@@ -12,7 +12,7 @@ use Rattle.model.specs.declared.Origin.{Origin}
 use Rattle.model.specs.declared.Origin.TheVariants.{Wire, Stored, TypedIn, Derived}
 use Rattle.model.specs.declared.NextNode.{NextNode}
 use Rattle.model.specs.declared.Next.TheVariants as next_is
-use Rattle.model.specs.declared.NextAnswer.{NextAnswer}
+use Rattle.model.specs.Answers.{NextAnswer}
 
 abbrev pub kind_of : (number : ℕ) → Kind
 kind_of k = cond (eqb k 1) Aggregate Literal

@@ -7,7 +7,7 @@ use Rattle.model.specs.Answers.{no_place_there, read_refused}
 use Rattle.model.specs.Common.{opened, on_store}
 use Rattle.model.specs.Effect.{Effect, asking}
 use Rattle.model.specs.declared.Place.{Place}
-use Rattle.model.specs.declared.ReadNode.{ReadNode}
+use Rattle.model.specs.Answers.{ReadNode}
 
 -- What Read tells of a node, with its content as bytes.
 pub record ReadValue : Type 0 where

@@ -4,7 +4,7 @@ use Rattle.model.specs.Row.{Row, two}
 use Rattle.model.specs.Answers.{short_buffer, write_refused}
 use Rattle.model.specs.Common.{write, opened, on_store, record_pages}
 use Rattle.model.specs.Effect.{Effect, asking}
-use Rattle.model.specs.declared.WriteAnswer.{WriteAnswer}
+use Rattle.model.specs.Answers.{WriteAnswer}
 
 -- How often a number stands in a list.
 abbrev pub times : ℕ → List ℕ → ℕ

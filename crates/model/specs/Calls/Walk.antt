@@ -7,8 +7,8 @@ use Rattle.model.specs.Common.{place_or, opened, on_store}
 use Rattle.model.specs.Effect.{Effect, asking}
 use Rattle.model.specs.Calls.Read.{read_from, as_read}
 use Rattle.model.specs.declared.Place.{Place}
-use Rattle.model.specs.declared.ReadNode.{ReadNode}
-use Rattle.model.specs.declared.WalkAnswer.{WalkAnswer}
+use Rattle.model.specs.Answers.{ReadNode}
+use Rattle.model.specs.Answers.{WalkAnswer}
 
 -- An entry: level, page, offset, kind, origin, label, children, start of the content in the image, its length; from kind on as Read gives them.
 abbrev pub entry : (level : ℕ) → Place → ReadNode → List ℕ

@@ -17,5 +17,5 @@ overflow_cast-result-in-Node c =
 
 pub returns-in-Node : goal.returns-in-Node
 returns-in-Node c =
-    ap₂ (λ (k o : ℕ). 1 ∷ c.in-Node.n.place.page ∷ c.in-Node.n.place.offset ∷ k ∷ o ∷ []) c.number.ensures c.number-in-Node.ensures
+    ap₂ (λ (k o : ℕ). 1 ∷ c.in-Node.n.place.page ∷ c.in-Node.n.place.offset ∷ k ∷ o ∷ []) c.from.ensures c.from-in-Node.ensures
     ∙ sym (ap next_numbers c.in-Node.is)

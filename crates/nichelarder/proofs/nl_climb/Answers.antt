@@ -1,28 +1,28 @@
 -- `nichelarder::nl_climb` meets its contract: the answer is handed over as it is.
-use mathlib.Core.Path.{ap}
-use native.Mathlib.Omega.{arith}
-use Rattle.model.specs.declared.WriteAnswer.{WriteAnswer}
+use Rattle.std.proofs.Common.{ap, ◌∙◌, arith}
+use Rattle.model.specs.Answers.{WriteAnswer}
 use Rattle.nichelarder.specs.Small.{climb_small}
 use Rattle.nichelarder.proofs.nl_climb.Goals as goal
 
 pub overflow_cast-written : goal.overflow_cast-written
 overflow_cast-written c =
     let a = c.args in
-    let e = c.climb-a.ensures.answer in
-    record {
-      fits = omega (
-        arith,
-        ap (λ (r : WriteAnswer). r.written) e,
-        climb_small a.image.now (record { page = a.page; offset = a.offset })
-            a.path.now,
-      );
-    }
+    record { fits = omega (arith, ap (λ (r : WriteAnswer). r.written) c.in-Ok.ensures.answer, climb_small a.image.now (record { page = a.page; offset = a.offset }) a.path.now) }
 
-pub returns : goal.returns
-returns c =
-    let e = c.climb-a.ensures in
+pub returns-in-Ok : goal.returns-in-Ok
+returns-in-Ok c =
+    let e = c.in-Ok.ensures in
     record {
       number = ap (λ (r : WriteAnswer). r.number) e.answer;
+      written = ap (λ (r : WriteAnswer). r.written) e.answer;
+      path = e.buffer;
+    }
+
+pub returns-in-Err : goal.returns-in-Err
+returns-in-Err c =
+    let e = c.in-Err.ensures in
+    record {
+      number = c.from.ensures ∙ ap (λ (r : WriteAnswer). r.number) e.answer;
       written = ap (λ (r : WriteAnswer). r.written) e.answer;
       path = e.buffer;
     }

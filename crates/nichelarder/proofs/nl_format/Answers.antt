@@ -15,6 +15,6 @@ returns c =
     let n : length s.matrix.now ≡ matrix_entries = c.if-matrix-ne-ENTRIES.false in
     let m = c.copy_in.ensures ∙ over_all s.matrix.now (replicate matrix_entries 0) n in
     let st = settings s.pages s.target s.tolerance s.form in record {
-      number = c.format-2.ensures.number ∙ ap (λ (l : List ℕ). (format_of s.image.now st l s.label).0) m;
+      number = c.number-2.ensures ∙ c.format-2.ensures.number ∙ ap (λ (l : List ℕ). (format_of s.image.now st l s.label).0) m;
       image = c.format-2.ensures.image ∙ ap (λ (l : List ℕ). (format_of s.image.now st l s.label).1) m;
     }

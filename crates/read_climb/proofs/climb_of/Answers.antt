@@ -1,48 +1,26 @@
 -- `read_climb::climb_of`: the bytes from where the path starts are those of the node's path.
-use mathlib.Core.Path.{refl}
-use native.Mathlib.Omega.{arith}
-use Rattle.read_climb.specs.Climbed.{climb_none, some_node, room, climb_short, climb_done}
+use Rattle.std.proofs.Common.{refl, arith}
+use Rattle.read_climb.specs.Climbed.{climb_none, room, climb_short, climb_done}
 use Rattle.read_climb.proofs.climb_of.Goals as goal
 
-pub returns-then-pos-eq0 : goal.returns-then-pos-eq0
-returns-then-pos-eq0 c = climb_none _ _ _ _ c.requires.0 c.node_at-pos.ensures c.if-pos-eq0.true
+pub returns-in_default : goal.returns-in_default
+returns-in_default c = climb_none _ _ _ c.requires.0 c.in_default.ensures
 
 pub climb_path-at-requires : goal.climb_path-at-requires
-climb_path-at-requires c =
-    ((some_node _ _ _ _ c.node_at-pos.ensures c.if-pos-eq0.false).node, c.requires.1, refl)
+climb_path-at-requires c = (c.in-Some.ensures.node, c.requires.1, refl)
 
 pub overflow_sub-n : goal.overflow_sub-n
-overflow_sub-n c =
-    omega (
-      arith,
-      room _ _ _ _ (some_node _ _ _ _ c.node_at-pos.ensures c.if-pos-eq0.false).node
-          c.climb_path-at.ensures,
-    )
+overflow_sub-n c = omega (arith, room _ _ _ _ c.in-Some.ensures.node c.climb_path-at.ensures)
 
 pub returns-then-buffer-n : goal.returns-then-buffer-n
-returns-then-buffer-n c =
-    climb_short _ _ _ _ (some_node _ _ _ _ c.node_at-pos.ensures c.if-pos-eq0.false) _ _
-    c.climb_path-at.ensures c.if-buffer-n.true
+returns-then-buffer-n c = climb_short _ _ _ _ c.in-Some.ensures _ _ c.climb_path-at.ensures c.if-buffer-n.true
 
 pub slice_bounds-copy_in-count : goal.slice_bounds-copy_in-count
-slice_bounds-copy_in-count c =
-    omega (
-      arith,
-      room _ _ _ _ (some_node _ _ _ _ c.node_at-pos.ensures c.if-pos-eq0.false).node
-          c.climb_path-at.ensures,
-    )
+slice_bounds-copy_in-count c = omega (arith, room _ _ _ _ c.in-Some.ensures.node c.climb_path-at.ensures)
 
 pub slice_bounds-copy_in-start : goal.slice_bounds-copy_in-start
-slice_bounds-copy_in-start c =
-    omega (
-      arith,
-      room _ _ _ _ (some_node _ _ _ _ c.node_at-pos.ensures
-          c.if-pos-eq0.false).node c.climb_path-at.ensures,
-    )
+slice_bounds-copy_in-start c = omega (arith, room _ _ _ _ c.in-Some.ensures.node c.climb_path-at.ensures)
 
 pub returns : goal.returns
 returns c =
-    let l = c.node_at-pos.ensures in
-    climb_done _ _ _ _ (some_node _ _ _ _ l c.if-pos-eq0.false) _ _
-    c.climb_path-at.ensures _
-    c.if-buffer-n.false c.copy_in.ensures
+    climb_done _ _ _ _ c.in-Some.ensures _ _ c.climb_path-at.ensures _ c.if-buffer-n.false c.copy_in.ensures

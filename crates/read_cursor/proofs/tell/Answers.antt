@@ -1,7 +1,4 @@
-use mathlib.Core.Path.{sym, ap₂, ◌∙◌}
-use mathlib.Core.List.{List}
-use Prim.Native.Nat.{ℕ}
-use native.Mathlib.Omega.{arith}
+use Rattle.std.proofs.Common.{sym, ap₂, ◌∙◌, List, ℕ, arith}
 use Rattle.read_cursor.specs.Way.{way, told_sought, told_stopped, told_written, told_full}
 use Rattle.read_cursor.proofs.tell.Goals as goal
 
@@ -17,5 +14,5 @@ returns-then-out-here-lt9 c = sym (told_full _ _ _ _ _ (omega (arith, c.if-here-
 pub returns : goal.returns
 returns c =
     let p = c.put_node-at.ensures in
-    ap₂ (λ (k : ℕ) (o : List ℕ). way k c.args.next o) p.number p.out
+    ap₂ (λ (k : ℕ) (o : List ℕ). way k c.args.c.next o) p.number p.out
     ∙ sym (told_written _ _ _ _ _ (omega (arith, c.if-here-eq0.false)) c.if-next-ne0.false (omega (arith, c.if-out-here-lt9.false)))

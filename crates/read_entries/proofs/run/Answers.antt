@@ -1,6 +1,4 @@
-use mathlib.Core.Path.{refl, sym, ◌∙◌}
-use native.Mathlib.Omega.{arith}
-use lib.ListN.{length}
+use Rattle.std.proofs.Common.{refl, sym, ◌∙◌, arith, length}
 use Rattle.read_cursor.specs.Going.{Going, Roomy, writes_roomy, node_here}
 use Rattle.read_entries.specs.Literals.{next_literal, aggregate}
 use Rattle.read_entries.specs.Nested.{at_some, at_inner, at_node, inside}

@@ -1,7 +1,5 @@
 -- `read_entries::run`: the walk stays the same walk.
-use mathlib.Core.Path.{◌≡◌}
-use Prim.Native.Nat.{ℕ, ◌+◌, ◌*◌, ◌-◌, ◌≤◌}
-use lib.ListN.{length}
+use Rattle.std.proofs.Common.{◌≡◌, ℕ, ◌+◌, ◌*◌, ◌-◌, ◌≤◌, length}
 use Rattle.read_cursor.specs.Going.{Goal, Going}
 use Rattle.read_entries.proofs.run.Given as goal
 

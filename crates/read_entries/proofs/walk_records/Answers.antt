@@ -1,6 +1,4 @@
-use mathlib.Core.Path.{refl, ap, ◌∙◌}
-use native.Mathlib.Omega.{arith}
-use lib.ListN.{length, length-set}
+use Rattle.std.proofs.Common.{refl, ap, ◌∙◌, arith, length, length-set}
 use Rattle.read_cursor.specs.declared.Cursor.{Cursor}
 use Rattle.read_cursor.specs.Going.{going_as}
 use Rattle.read_nest.specs.declared.Nest.{Nest}

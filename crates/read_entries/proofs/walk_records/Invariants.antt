@@ -1,6 +1,5 @@
 -- `read_entries::walk_records`: what is left of the record at hand and of those around it comes to what the whole walk does.
-use mathlib.Core.Path.{◌≡◌}
-use lib.ListN.{length}
+use Rattle.std.proofs.Common.{◌≡◌, length}
 use Rattle.read_entries.specs.Records.{Rooted, turns, start, Walking}
 use Rattle.read_entries.proofs.walk_records.Given as goal
 

@@ -1,30 +1,25 @@
 -- `read_fault_nodes::proxy_row`: test by test; the page that is entered is marked.
-use mathlib.Core.Path.{sym, ◌∙◌}
-use native.Mathlib.Omega.{arith}
+use Rattle.std.proofs.Common.{arith, sym, ◌∙◌}
 use Rattle.read_fault_nodes.specs.Nodes.{leads_stop, holds, proxy_names, proxy_left, proxy_again, proxy_leads}
 use Rattle.read_fault_nodes.proofs.proxy_row.Goals as goal
+use Rattle.read_fault_nodes.proofs.proxy_row.Goals.{then-not-names-via-then-not-names, then-not-names-via-else-not-names+then-left-lt2}
+use Rattle.read_fault_nodes.proofs.proxy_row.Goals.{then-not-names-via-else-not-names+else-left-lt2+then-is_marked}
+
+pub is_marked-requires : goal.is_marked-requires
+is_marked-requires c = omega (arith, (holds _ _ _ (sym c.names.ensures ∙ c.if-not-names.false)).few)
 
 pub returns-then-not-names : goal.returns-then-not-names
 returns-then-not-names c =
-    leads_stop _ _ (omega arith) c.stops.ensures
-    (λ ps k. proxy_names _ _ _ _ _ (sym c.names.ensures ∙ c.if-not-names.true) ps)
-
-pub returns-then-left-lt2 : goal.returns-then-left-lt2
-returns-then-left-lt2 c =
-    leads_stop _ _ (omega arith) c.stops-then-left-lt2.ensures (λ ps k. proxy_left _ _ _ _ _ c.if-left-lt2.true ps)
-
-pub is_marked-requires : goal.is_marked-requires
-is_marked-requires c =
-    (holds _ _ _ (sym c.names.ensures ∙ c.if-not-names.false)).few
-
-pub returns-then-is_marked : goal.returns-then-is_marked
-returns-then-is_marked c =
-    leads_stop _ _ (omega arith) c.stops-then-is_marked.ensures
-    (proxy_again _ _ _ _ _ _ (sym c.names.ensures ∙ c.if-not-names.false) (sym c.is_marked.ensures ∙ c.if-is_marked.true))
+    leads_stop _ _ c.new.ensures
+    (elim c.then-not-names.branch [
+      | then-not-names-via-then-not-names w ↦ λ ps k. proxy_names _ _ _ _ _ (sym c.names.ensures ∙ w.if-not-names.true) ps
+      | then-not-names-via-else-not-names+then-left-lt2 w ↦ λ ps k. proxy_left _ _ _ _ _ w.if-left-lt2.true ps
+      | then-not-names-via-else-not-names+else-left-lt2+then-is_marked w ↦
+          proxy_again _ _ _ _ _ _ (sym c.names.ensures ∙ w.if-not-names.false) (sym w.is_marked.ensures ∙ w.if-is_marked.true)
+    ])
 
 pub set_mark-requires : goal.set_mark-requires
-set_mark-requires c =
-    (holds _ _ _ (sym c.names.ensures ∙ c.if-not-names.false)).few
+set_mark-requires c = omega (arith, (holds _ _ _ (sym c.names.ensures ∙ c.if-not-names.false)).few)
 
 pub root_fits-requires : goal.root_fits-requires
 root_fits-requires c =

@@ -1,24 +1,23 @@
-use mathlib.Core.Path.{refl}
-use native.Mathlib.Omega.{arith}
-use borrow.Author.Tests.{eq-eqb, ne_eqb}
-use borrow.Author.Rules.{rules}
-use Rattle.base_ranges.specs.Every.{keeps, fails, done}
-use Rattle.read_faults.proofs.erased.Invariants.{high}
+use Rattle.std.specs.Prelude.{◌≡◌, refl, List, [], ◌∷◌, Bool, true, false, ◌&&◌, ℕ, eqb, IsTrue, ◌↔◌}
+use Rattle.std.specs.List.{AllPass, list_all}
+use Rattle.std.proofs.Common.{rules, sym, ap, ◌∙◌}
+use Rattle.std.proofs.lemmas.List.Sums.{AllPass-from_list_all, list_all-from_AllPass}
+use Rattle.model.specs.Row.{every}
 use Rattle.read_faults.proofs.erased.Goals as goal
-use Rattle.read_faults.proofs.erased.Goals.{else-s-i, then-s-i}
 
-pub loop-i-init : goal.loop-i-init
-loop-i-init c = (search rules, refl)
+every_is : (f : ℕ → Bool) (xs : List ℕ) → list_all f xs ≡ every f xs
+every_is f [] = refl
+every_is f (x ∷ xs) = ap (λ (b : Bool). f x && b) (every_is f xs)
 
-pub loop-i-preserved : goal.loop-i-preserved
-loop-i-preserved c =
-    let l = c.loop-i in
-    let s = c.args.s.now in
-    let h = c.loop-i-test.true in
-    elim c.if-s-i.branch [
-      | then-s-i w ↦ (omega arith, rw w.ok-is (fails high s l.i l.ok h (ne_eqb _ _ w.if-s-i.true) l.invariant.1))
-      | else-s-i w ↦ (omega arith, rw w.ok-is (keeps high s l.i l.ok h (eq-eqb _ _ w.if-s-i.false) l.invariant.1))
-    ]
+tested : (f : ℕ → Bool) (xs : List ℕ) (r : Bool) → (IsTrue r ↔ AllPass f xs) → r ≡ list_all f xs
+tested f xs r h = go r (list_all f xs) refl refl
+  where
+    go : (a b : Bool) → r ≡ a → list_all f xs ≡ b → r ≡ list_all f xs
+    go true b p q = p ∙ sym (list_all-from_AllPass f xs (h.0 p))
+    go false true p q = h.1 (AllPass-from_list_all f xs q) ∙ sym q
+    go false false p q = p ∙ sym q
 
 pub returns : goal.returns
-returns c = done high c.args.s.now c.loop-i.i c.loop-i.ok (omega arith) c.loop-i.invariant.1
+returns c =
+    let f : ℕ → Bool = (λ x. eqb x 255) in
+    tested f c.args.s.now c.all.result (search rules) ∙ every_is f c.args.s.now

@@ -1,5 +1,5 @@
--- `read_find::width`: the loop goes along the row; what is left of it brings the count to the whole. A record counts as many nodes as the table has for it.
-use Prim.Native.Nat.{ℕ, ◌-◌}
+-- `read_find::width`: the loop goes along the row; what is left of it brings the count to the whole.
+use Rattle.std.proofs.Common.{ℕ, ◌-◌}
 use Rattle.model.specs.Limits.{most_pages}
 use Rattle.read_find.specs.Rowed.{Counted}
 use Rattle.read_find.proofs.width.Given as goal

@@ -14,7 +14,7 @@ empty_passed : (c : Then-aggregate) → let a = c.args in
     Passed a.part.now a.level (c.loop-at.at + 6) × (6 ≤ 6) × (c.loop-at.at + 6 ≤ length a.part.now)
 empty_passed c = let a = c.args in
     passed_empty a.part.now a.level c.loop-at.at c.loop-at.invariant
-    (sym (aggregate_by _ 6 1 a.level _ c.in_aggregate-may.ensures _ c.aggregate.ensures) ∙ c.if-aggregate.true)
+    (sym (aggregate_by _ 6 1 a.level _ c.kinds_in-may.ensures _ c.aggregate.ensures) ∙ c.if-aggregate.true)
 
 -- After the turn that passes a literal.
 literal_passed : (c : Else-not-literal) → let a = c.args in
@@ -23,7 +23,7 @@ literal_passed : (c : Else-not-literal) → let a = c.args in
 literal_passed c = let a = c.args in
     let n = c.size_of-size in
     passed_literal a.part.now a.level c.loop-at.at c.loop-at.invariant n.result n.ensures c.if-size-eq0.false
-    (sym (literal_by _ n.result 1 a.level _ c.in_aggregate-may.ensures _ c.literal.ensures) ∙ c.if-not-literal.false)
+    (sym (literal_by _ n.result 1 a.level _ c.kinds_in-may.ensures _ c.literal.ensures) ∙ c.if-not-literal.false)
 
 pub loop-at-init : goal.loop-at-init
 loop-at-init c = passed_none _ _

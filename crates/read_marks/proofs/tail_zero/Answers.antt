@@ -5,6 +5,7 @@ use native.Mathlib.Omega.{arith}
 use lib.ListN.{take, drop}
 use Rattle.model.specs.Limits.{page_size, capacity}
 use Rattle.model.specs.BeforeWalk.{all_zero}
+use Rattle.model.specs.Reading.{used_at}
 use Rattle.model.specs.WalkTests.{tail_zero}
 use Rattle.read_marks.proofs.tail_zero.Goals as goal
 
@@ -14,7 +15,4 @@ tail_is img a u = let n : a + capacity - (a + u) ≡ capacity - u = omega arith 
 
 pub returns : goal.returns
 unfolding tail_zero
-returns c =
-    let a = c.args in
-    let used = c.used_at in
-    rw (← used.ensures.0) (c.zeros.ensures ∙ tail_is a.image.now (page_size * a.p) used.result)
+returns c = c.zeros.ensures ∙ rw c.record_end-end.ensures (tail_is c.args.image.now (page_size * c.args.p) (used_at c.args.image.now (page_size * c.args.p)))

@@ -3,5 +3,5 @@ use Rattle.read_nest.proofs.first.Goals as goal
 
 pub returns : goal.returns
 returns c =
-    let a = c.args in
-    λ j. cursor (c.row_start.ensures j) (c.row_end.ensures j) a.level a.n a.at a.next
+    let a = c.args.c in
+    λ j. cursor (c.row_start.ensures j) (c.record_end.ensures j) a.level a.n a.at a.next

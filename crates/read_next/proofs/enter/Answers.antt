@@ -1,4 +1,4 @@
-use Rattle.read_next.specs.Follow.{ahead_head, ahead_low, ahead_node, enter_page, enter_some, enter_down}
+use Rattle.read_next.specs.Follow.{ahead_head, ahead_node, enter_page, enter_some, enter_down}
 use native.Mathlib.Omega.{arith}
 use mathlib.Core.Path.{refl}
 use Rattle.read_next.proofs.enter.Goals as goal
@@ -35,4 +35,4 @@ loop-at-preserved c =
     c.row_start-at.ensures refl
 
 pub returns : goal.returns
-returns c = λ pos a. let b = (c.loop-at.invariant pos a).ahead in (ahead_node b c.loop-at-test.false, ahead_low b)
+returns c = λ pos a. let b = (c.loop-at.invariant pos a).ahead in ahead_node b c.loop-at-test.false

@@ -1,4 +1,4 @@
-use Rattle.read_next.specs.Follow.{node_head, upward_start, upward_last, upward_ahead, ahead_low, upward_held, upward_small, upward_some}
+use Rattle.read_next.specs.Follow.{node_head, upward_start, upward_last, upward_ahead, upward_held, upward_small, upward_some}
 use Rattle.read_next.specs.Follow.{upward_on}
 use Rattle.read_next.specs.Scan.{known}
 use native.Mathlib.Omega.{arith}
@@ -11,13 +11,12 @@ flat-at-requires c = let h = node_head c.requires in (omega (arith, h.inside), h
 pub loop-at-init : goal.loop-at-init
 loop-at-init c = upward_start c.requires _ _ refl c.flat-at.ensures
 
-pub row_end-requires : goal.row_end-requires
-row_end-requires c = (known c.loop-at.invariant.from.on).on
+pub record_end-requires : goal.record_end-requires
+record_end-requires c = let g = (known c.loop-at.invariant.from.on).on in (g.high, g.inside)
 
 pub returns-then-page-eq1 : goal.returns-then-page-eq1
 returns-then-page-eq1 c =
-    let l = upward_last c.loop-at.invariant (c.loop-at-test.true ∙ c.row_end.ensures) (omega arith) in
-    record { stop = λ _. l; more = λ h. absurd (omega arith) }
+    upward_last c.loop-at.invariant (c.loop-at-test.true ∙ c.record_end.ensures) (omega arith)
 
 pub overflow_mul-page : goal.overflow_mul-page
 overflow_mul-page c = let k = (known c.loop-at.invariant.from.on).on in omega (arith, k.high)
@@ -27,36 +26,35 @@ back_at-holder-requires c = let k = (known c.loop-at.invariant.from.on).on in om
 
 pub find_proxy-at-requires : goal.find_proxy-at-requires
 find_proxy-at-requires c =
-    upward_held c.loop-at.invariant (c.loop-at-test.true ∙ c.row_end.ensures) (omega arith) _
+    upward_held c.loop-at.invariant (c.loop-at-test.true ∙ c.record_end.ensures) (omega arith) _
     c.back_at-holder.ensures.0
 
 pub overflow_add-at : goal.overflow_add-at
 overflow_add-at c =
     let s =
     upward_small c.loop-at.invariant
-    (c.loop-at-test.true ∙ c.row_end.ensures) (omega arith) _ c.back_at-holder.ensures.0 _
+    (c.loop-at-test.true ∙ c.record_end.ensures) (omega arith) _ c.back_at-holder.ensures.0 _
     c.find_proxy-at.ensures in
     omega arith
 
 pub overflow_sub-left : goal.overflow_sub-left
 overflow_sub-left c =
     upward_some c.loop-at.invariant
-    (c.loop-at-test.true ∙ c.row_end.ensures) (omega arith) _ c.back_at-holder.ensures.0
+    (c.loop-at-test.true ∙ c.record_end.ensures) (omega arith) _ c.back_at-holder.ensures.0
 
 pub loop-at-smaller : goal.loop-at-smaller
 loop-at-smaller c =
     let s =
     upward_some c.loop-at.invariant
-    (c.loop-at-test.true ∙ c.row_end.ensures) (omega arith) _ c.back_at-holder.ensures.0 in
+    (c.loop-at-test.true ∙ c.record_end.ensures) (omega arith) _ c.back_at-holder.ensures.0 in
     omega arith
 
 pub loop-at-preserved : goal.loop-at-preserved
 loop-at-preserved c =
     upward_on c.loop-at.invariant
-    (c.loop-at-test.true ∙ c.row_end.ensures) (omega arith) _ c.back_at-holder.ensures.0 _
+    (c.loop-at-test.true ∙ c.record_end.ensures) (omega arith) _ c.back_at-holder.ensures.0 _
     c.find_proxy-at.ensures _ _ refl refl
 
 pub returns : goal.returns
 returns c =
-    let a = upward_ahead c.loop-at.invariant (λ e. c.loop-at-test.false (e ∙ sym c.row_end.ensures)) in
-    record { stop = λ e. absurd (omega (arith, ahead_low a)); more = λ _. a }
+    upward_ahead c.loop-at.invariant (λ e. c.loop-at-test.false (e ∙ sym c.record_end.ensures))

@@ -1,25 +1,19 @@
+use Rattle.std.proofs.Common.{sym, arith}
 use Rattle.read_next.specs.Follow.{answer_stray, answer_end, answer_read, follows_inside}
-use mathlib.Core.Path.{sym}
-use native.Mathlib.Omega.{arith}
 use Rattle.read_next.proofs.next_of.Goals as goal
 
-pub returns-then-pos-eq0 : goal.returns-then-pos-eq0
-returns-then-pos-eq0 c =
-    sym (answer_stray c.args.image.now _ _ c.requires c.node_at-pos.ensures c.if-pos-eq0.true)
+pub returns-in_default : goal.returns-in_default
+returns-in_default c = sym (answer_stray c.args.image.now _ c.requires c.in_default.ensures)
 
-pub next_in-at-requires : goal.next_in-at-requires
-next_in-at-requires c = (c.node_at-pos.ensures.found (omega arith)).node
+pub returns-in_default-next_in : goal.returns-in_default-next_in
+returns-in_default-next_in c = sym (answer_end _ _ _ c.in-Some.ensures c.in_default-next_in.ensures)
 
-pub returns-then-at-eq0 : goal.returns-then-at-eq0
-returns-then-at-eq0 c = sym (answer_end _ _ _ (c.node_at-pos.ensures.found (omega arith)) (c.next_in-at.ensures.stop c.if-at-eq0.true))
+pub kind_at-requires : goal.kind_at-requires
+kind_at-requires c = omega (arith, follows_inside c.in-Some-next_in.ensures)
 
-pub kind_at-kind-requires : goal.kind_at-kind-requires
-kind_at-kind-requires c = omega (arith, follows_inside (c.next_in-at.ensures.more (omega arith)))
-
-pub origin_of-origin-requires : goal.origin_of-origin-requires
-origin_of-origin-requires c = follows_inside (c.next_in-at.ensures.more (omega arith))
+pub origin_of-requires : goal.origin_of-requires
+origin_of-requires c = follows_inside c.in-Some-next_in.ensures
 
 pub returns : goal.returns
 returns c =
-    answer_read _ _ _ _ _ _ (c.node_at-pos.ensures.found (omega arith)) (c.next_in-at.ensures.more (omega arith))
-    c.kind_at-kind.ensures c.origin_of-origin.ensures
+    answer_read _ _ _ _ _ _ _ c.in-Some.ensures c.in-Some-next_in.ensures c.of_byte.ensures c.kind_at.ensures c.origin_of.ensures

@@ -1,15 +1,18 @@
-use mathlib.Core.Path.{sym, ◌∙◌}
-use native.Mathlib.Omega.{arith}
-use lib.ListN.{length}
-use Rattle.theory_check.specs.Before.{trailers_scan}
+use Rattle.std.specs.Prelude.{length}
+use Rattle.std.proofs.Common.{arith, sym, ◌∙◌}
 use Rattle.theory_decoding.specs.Length.{length_says}
+use Rattle.read_pages.proofs.Scans.{first_long, none_passed, pages_counted}
 use Rattle.read_pages.proofs.trailers.Goals as goal
 
 pub slice_bounds-settings_ok-end : goal.slice_bounds-settings_ok-end
-slice_bounds-settings_ok-end c = omega (arith, length_says (length c.args.image.now) c.requires)
+slice_bounds-settings_ok-end c = sym (first_long c.args.image.now c.requires)
+
+pub settings_ok-requires : goal.settings_ok-requires
+settings_ok-requires c = first_long c.args.image.now c.requires
 
 pub returns-then-not-settings_ok : goal.returns-then-not-settings_ok
-returns-then-not-settings_ok c = rw (trailers_scan c.args.image.now) (simp (sym c.settings_ok.ensures ∙ c.if-not-settings_ok.true))
+returns-then-not-settings_ok c =
+    let n = none_passed c.args.image.now (sym c.settings_ok.ensures ∙ c.if-not-settings_ok.true) in record { number = n.0; passed = n.1 }
 
 pub scan_pages-requires : goal.scan_pages-requires
 scan_pages-requires c =
@@ -18,4 +21,4 @@ scan_pages-requires c =
 
 pub returns : goal.returns
 returns c =
-    rw (trailers_scan c.args.image.now, sym c.settings_ok.ensures ∙ c.if-not-settings_ok.false) c.scan_pages.ensures
+    let n = pages_counted c.args.image.now (sym c.settings_ok.ensures ∙ c.if-not-settings_ok.false) _ c.scan_pages.ensures in record { number = n.0; passed = n.1 }

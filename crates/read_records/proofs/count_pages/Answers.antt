@@ -1,9 +1,6 @@
-use Rattle.read_records.specs.Loops.{count_start, count_up, count_skip, count_end}
+use Rattle.read_records.specs.Loops.{count_up, count_skip, count_end}
 use Rattle.read_records.proofs.count_pages.Goals as goal
 use Rattle.read_records.proofs.count_pages.Goals.{else-image-p-eq1, then-image-p-eq1}
-
-pub loop-p-init : goal.loop-p-init
-loop-p-init c = count_start _ _
 
 pub loop-p-preserved : goal.loop-p-preserved
 loop-p-preserved c =

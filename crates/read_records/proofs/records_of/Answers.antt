@@ -1,5 +1,5 @@
 -- `read_records::records_of`: the count decides whether the buffer is short, and the pages are written if it is not.
-use native.Mathlib.Omega.{arith}
+use Rattle.std.proofs.Common.{arith}
 use Rattle.read_records.specs.Call.{few_pages_lem, few_records, short, written}
 use Rattle.read_records.proofs.records_of.Goals as goal
 

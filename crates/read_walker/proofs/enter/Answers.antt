@@ -8,7 +8,7 @@ pub returns : goal.returns
 returns c =
     let a = c.args in
     let w = a.w in record {
-      walker = ap (λ (k : Kinds). walker k (w.left - 1) w.count (w.depth + 1) (4096 * a.p + 6) a.end w.level) c.in_helper.ensures;
+      walker = ap (λ (k : Kinds). walker k (w.left - 1) w.count (w.depth + 1) (4096 * a.p + 6) a.end w.level) c.kinds_in.ensures;
       widths = refl;
       back = refl;
     }

@@ -6,4 +6,4 @@ use Rattle.read_walker.proofs.first.Goals as goal
 pub returns : goal.returns
 returns c =
     let a = c.args in
-    ap (λ (k : Kinds). walker k a.left 0 0 a.start a.last a.level) c.in_aggregate.ensures
+    ap (λ (k : Kinds). walker k a.left 0 0 a.start a.last a.level) c.kinds_in.ensures

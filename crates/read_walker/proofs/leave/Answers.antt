@@ -16,7 +16,7 @@ pub returns-then-depth-eq0 : goal.returns-then-depth-eq0
 returns-then-depth-eq0 c =
     let a = c.args in
     record {
-      walker = out_own a.image.now a.w a.last _ _ c.in_aggregate-r.ensures c.if-depth-eq0.true ∙ ap (out_of a.image.now a.w a.last) (way (goal.at.returns-then-depth-eq0 c).After-back_at);
+      walker = out_own a.image.now a.w a.last _ _ c.kinds_in-r.ensures c.if-depth-eq0.true ∙ ap (out_of a.image.now a.w a.last) (way (goal.at.returns-then-depth-eq0 c).After-back_at);
       widths = refl;
     }
 

@@ -17,7 +17,7 @@ returns-then-not-enters c = record {
 }
 
 pub set_mark-requires : goal.set_mark-requires
-set_mark-requires c = (entered _ _ _ _ (sym c.enters.ensures ∙ c.if-not-enters.false)).names.low
+set_mark-requires c = omega (arith, (entered _ _ _ _ (sym c.enters.ensures ∙ c.if-not-enters.false)).names.low)
 
 pub returns : goal.returns
 returns c =

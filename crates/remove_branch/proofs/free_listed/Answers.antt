@@ -1,88 +1,72 @@
-use mathlib.Core.Path.{refl}
-use native.Mathlib.Omega.{arith}
-use lib.ListN.{get_or}
+-- `remove_branch::free_listed`: a turn takes the next page of the list.
+use Rattle.std.proofs.Common.{◌≡◌, ◌<◌, ◌≤◌, rules, arith, ap, get_or, length, List, ℕ}
 use Rattle.theory_layout.specs.Here.{PageIn}
-use Rattle.remove_branch.specs.Freeing.{turn_start, turn_few, turn_end, turn_page, turn_bit, turn_room, turn_listing, turn_again}
+use Rattle.remove_branch.specs.Freeing.{turn_start, turn_end, turn_page, turn_bit, turn_room, turn_listing, turn_again}
 use Rattle.remove_branch.proofs.free_listed.Goals as goal
+use Rattle.remove_branch.proofs.free_listed.Goals.{After-deref, After-record_end-end}
 
 pub loop-k-init : goal.loop-k-init
-loop-k-init c = turn_start
+loop-k-init g c = turn_start
 
-pub offset_bounds-list-k : goal.offset_bounds-list-k
-offset_bounds-list-k c = omega (arith, c.loop-k-test.true, (let w = c.requires in turn_few w (c.loop-k.invariant w)))
+-- the page at hand is on the list
+some : (g : _) (c : After-deref g) → c.loop-k.k < length c.loop-k.list.items
+some g c = omega (arith, c.len.ensures.value, c.loop-k-test.true)
 
-pub bounds-list-k : goal.bounds-list-k
-bounds-list-k c = omega (arith, c.loop-k-test.true, (let w = c.requires in turn_few w (c.loop-k.invariant w)))
+at_hand : (g : _) (c : After-deref g) → get_or c.deref.result.now c.loop-k.k 0 ≡ get_or c.loop-k.list.items c.loop-k.k 0
+at_hand g c = ap (λ (l : List ℕ). get_or l c.loop-k.k 0) c.deref.ensures.0
 
-pub overflow_cast-p : goal.overflow_cast-p
-overflow_cast-p c = omega (arith, ((let w = c.requires in turn_page w (c.loop-k.invariant w) c.loop-k-test.true _ refl)).high)
+page_in : (g : _) (c : After-deref g) → PageIn c.loop-k.image (get_or c.deref.result.now c.loop-k.k 0)
+page_in g c = let w = c.requires in turn_page w (c.loop-k.invariant w) (some g c) _ (at_hand g c)
 
 pub row_start-start-requires : goal.row_start-start-requires
-row_start-start-requires c = (let w = c.requires in turn_page w (c.loop-k.invariant w) c.loop-k-test.true _ refl)
+row_start-start-requires g c = page_in g (goal.at.row_start-start-requires g c).After-deref
 
-pub row_end-end-requires : goal.row_end-end-requires
-row_end-end-requires c = (let w = c.requires in turn_page w (c.loop-k.invariant w) c.loop-k-test.true _ refl)
+pub record_end-end-requires : goal.record_end-end-requires
+record_end-end-requires g c = let p = page_in g (goal.at.record_end-end-requires g c).After-deref in (p.high, p.inside)
+
+-- its row
+room : (g : _) (c : After-record_end-end g) → (c.row_start-start.result ≤ c.record_end-end.result) × (c.record_end-end.result ≤ length c.loop-k.image)
+room g c =
+    let w = c.requires in
+    let d = c.before.before.before in
+    turn_room w (c.loop-k.invariant w) (some g d) _ (at_hand g d) _ _ c.row_start-start.ensures c.record_end-end.ensures
 
 pub slice_bounds-list_direct-count : goal.slice_bounds-list_direct-count
-slice_bounds-list_direct-count c = omega (
-  arith,
-  (let w = c.requires in
-      turn_room w (c.loop-k.invariant w) c.loop-k-test.true _ refl _ _ c.row_start-start.ensures c.row_end-end.ensures),
-)
+slice_bounds-list_direct-count g c = omega (arith, room g (goal.at.slice_bounds-list_direct-count g c).After-record_end-end)
 
 pub slice_bounds-list_direct-start : goal.slice_bounds-list_direct-start
-slice_bounds-list_direct-start c = omega (
-  arith,
-  (let w = c.requires in
-      turn_room w (c.loop-k.invariant w) c.loop-k-test.true _ refl _ _ c.row_start-start.ensures c.row_end-end.ensures),
-)
+slice_bounds-list_direct-start g c = omega (arith, room g (goal.at.slice_bounds-list_direct-start g c).After-record_end-end)
 
 pub slice_bounds-list_direct-end : goal.slice_bounds-list_direct-end
-slice_bounds-list_direct-end c = omega (
-  arith,
-  (let w = c.requires in
-      turn_room w (c.loop-k.invariant w) c.loop-k-test.true _ refl _ _ c.row_start-start.ensures c.row_end-end.ensures),
-)
+slice_bounds-list_direct-end g c = omega (arith, room g (goal.at.slice_bounds-list_direct-end g c).After-record_end-end)
 
-pub list_direct-many-requires : goal.list_direct-many-requires
-list_direct-many-requires c =
+pub list_direct-requires : goal.list_direct-requires
+list_direct-requires g c =
     let w = c.requires in
-    turn_listing w (c.loop-k.invariant w) c.loop-k-test.true _ refl _ _ c.row_start-start.ensures c.row_end-end.ensures
+    let d = (goal.at.list_direct-requires g c).After-deref in
+    (search rules, turn_listing w (c.loop-k.invariant w) (some g d) _ (at_hand g d) _ _ c.row_start-start.ensures c.record_end-end.ensures)
 
 pub clear_page-requires : goal.clear_page-requires
-clear_page-requires c =
-    let p : PageIn c.loop-k.image (get_or c.loop-k.list c.loop-k.k 0) = let w = c.requires in turn_page w (c.loop-k.invariant w) c.loop-k-test.true _ refl in
-    (p.high, p.inside)
+clear_page-requires g c = let p = page_in g (goal.at.clear_page-requires g c).After-deref in (p.high, p.inside)
 
-pub set_free-requires : goal.set_free-requires
-set_free-requires c =
+pub clear_mark-requires : goal.clear_mark-requires
+clear_mark-requires g c =
     let w = c.requires in
-    omega (arith, turn_bit w (c.loop-k.invariant w) c.loop-k-test.true _ refl)
-
-pub overflow_add-k : goal.overflow_add-k
-overflow_add-k c = omega (arith, c.loop-k-test.true, (let w = c.requires in turn_few w (c.loop-k.invariant w)))
-
-pub loop-k-smaller : goal.loop-k-smaller
-loop-k-smaller c = omega (arith, c.loop-k-test.true, (let w = c.requires in turn_few w (c.loop-k.invariant w)))
+    let d = (goal.at.clear_mark-requires g c).After-deref in
+    omega (arith, turn_bit w (c.loop-k.invariant w) (some g d) _ (at_hand g d))
 
 pub loop-k-preserved : goal.loop-k-preserved
-loop-k-preserved c =
+loop-k-preserved g c =
+    let d = (goal.at.loop-k-preserved g c).After-deref in
     λ w.
     let t = c.loop-k.invariant w in
     let a = c.row_start-start.ensures in
-    let b = c.row_end-end.ensures in
-    rw (c.clear_page.ensures, c.set_free.ensures)
-    (turn_again w t c.loop-k-test.true _ refl _ _ a b _ _
-    (c.list_direct-many.ensures (turn_listing w t c.loop-k-test.true _ refl _ _ a b)))
+    let b = c.record_end-end.ensures in
+    rw (c.clear_page.ensures, c.clear_mark.ensures)
+    (turn_again w t (some g d) _ (at_hand g d) _ _ a b _ (c.list_direct.ensures (turn_listing w t (some g d) _ (at_hand g d) _ _ a b)))
 
 pub shape_of-image : goal.shape_of-image
-shape_of-image c = (c.loop-k.invariant c.requires).cleared.long
-
-pub shape_of-map : goal.shape_of-map
-shape_of-map c = (c.loop-k.invariant c.requires).cleared.marks.long
-
-pub shape_of-list : goal.shape_of-list
-shape_of-list c = (c.loop-k.invariant c.requires).long
+shape_of-image g c = (c.loop-k.invariant c.requires).cleared.long
 
 pub returns : goal.returns
-returns c = λ w. turn_end w (c.loop-k.invariant w) c.loop-k-test.false
+returns g c = λ w. turn_end w (c.loop-k.invariant w) (omega (arith, c.len.ensures.value, c.loop-k-test.false))

@@ -1,6 +1,5 @@
 -- `store::check` meets its contract: the check on the bytes is the check of the rules, every byte being below 256.
-use mathlib.Core.Path.{◌∙◌}
-use native.Mathlib.Omega.{arith}
+use Rattle.std.proofs.Common.{◌∙◌, arith}
 use Rattle.theory_check.specs.Exact.{exact}
 use Rattle.store.proofs.check.Goals as goal
 

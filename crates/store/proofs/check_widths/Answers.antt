@@ -1,8 +1,5 @@
 -- `store::check_widths` meets its contract: the check on the bytes is the check of the rules, every byte being below 256, and its table is right.
-use mathlib.Core.Path.{sym, ◌∙◌}
-use Prim.Native.Nat.{ℕ, ◌<◌}
-use native.Mathlib.Omega.{arith}
-use lib.ListN.{get_or}
+use Rattle.std.proofs.Common.{sym, ◌∙◌, ℕ, ◌<◌, arith, get_or}
 use Rattle.theory_check.specs.Exact.{exact}
 use Rattle.store.specs.Widths.{table}
 use Rattle.store.proofs.check_widths.Goals as goal

@@ -1,20 +1,26 @@
 -- `store::part_of` meets its contract: a part within the image, or none.
-use mathlib.Core.Path.{refl}
+use Rattle.std.proofs.Common.{◌≡◌, ◌+◌, ◌≤◌, length, arith, refl}
 use native.Mathlib.Nat.{add-sub_cancel_left}
-use borrow.Author.Tests.{le-leb, lt-leb}
-use Rattle.store.specs.Part.{slice, start_in}
+use Rattle.store.specs.Part.{inside_slice, inside_start, outside}
 use Rattle.store.proofs.part_of.Goals as goal
+use Rattle.store.proofs.part_of.Goals.{in_default-via-in-Some+else-end-image, in_default-via-in_default}
 
-pub returns-then-n-image : goal.returns-then-n-image
-unfolding slice start_in
-returns-then-n-image c =
-    let a = c.args in
-    rw (le-leb _ _ c.if-a-image.true, le-leb _ _ c.if-n-image.true, add-sub_cancel_left a.node.start a.node.len) (refl, refl)
+pub returns-in-Some : goal.returns-in-Some
+returns-in-Some c =
+    let img = c.args.image.now in
+    let x = c.args.node in
+    let end = c.in-Some.ensures.1 in
+    let h : x.start + x.len ≤ length img = omega (arith, end, c.if-end-image.true) in
+    rw (end, add-sub_cancel_left x.start x.len, inside_slice img x.start x.len h, inside_start img x.start x.len h) (refl, refl)
 
-pub returns-then-a-image : goal.returns-then-a-image
-unfolding slice start_in
-returns-then-a-image c = rw (le-leb _ _ c.if-a-image.true, lt-leb _ _ c.if-n-image.false) (refl, refl)
-
-pub returns : goal.returns
-unfolding slice start_in
-returns c = rw (lt-leb _ _ c.if-a-image.false) (refl, refl)
+pub returns-in_default : goal.returns-in_default
+returns-in_default c =
+    let img = c.args.image.now in
+    let x = c.args.node in
+    let none : x.start + x.len ≤ length img → ⊥ = elim c.in_default.branch [
+      | in_default-via-in-Some+else-end-image w ↦ λ h. omega (arith, h, w.in-Some.ensures.1, w.if-end-image.false)
+      | in_default-via-in_default w ↦ λ h. w.in_default.ensures (omega (arith, h, c.well_formed))
+    ] in
+    let o = outside img x.start x.len none in
+    let front : 0 + c.args.image.ref_ptr.1 ≡ c.args.image.ref_ptr.1 = omega arith in
+    rw (o.0, o.1, front) (refl, refl)

@@ -1,8 +1,0 @@
--- `listing_text::number`: the check on the bytes is the check of the rules, every byte being below 256.
-use mathlib.Core.Path.{◌∙◌}
-use native.Mathlib.Omega.{arith}
-use Rattle.theory_check.specs.Exact.{exact}
-use Rattle.listing_text.proofs.number.Goals as goal
-
-pub returns : goal.returns
-returns c = c.check.ensures ∙ exact c.args.image.now (λ i. omega (arith, c.type_inv.image i))
