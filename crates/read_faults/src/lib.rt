@@ -21,11 +21,11 @@ use read_pages::{PageState, page_state, settings_ok, trailers, zeros};
 
 // ── stage 1: page 0 ──
 
-// Whether every byte is 255, as erased flash has them.
+// Whether every byte is 255, as erased flash has them. No early exit: so the loop takes many bytes at a time.
 fn erased(s: &[u8]) -> bool
     ensures { result ≡ every (λ x. eqb x 255) s.now }
 {
-    s.iter().all(|&x| x == 255)
+    s.iter().fold(true, |all, &x| all & (x == 255))
 }
 
 // Why page 0 holds no settings.
