@@ -4,16 +4,10 @@
 ghost use Rattle.std.specs.Prelude.{◌≡◌, [], ◌∷◌, ◌<◌};
 ghost use Rattle.listing_lines.specs.Text.{digit, decimal_of, hex_of, content_of, line_of, head_line, refused_line};
 ghost use Rattle.listing_lines.specs.Digits.{fields_of};
+ghost use Rattle.listing_lines.specs.Wrote.{Room, Wrote};
 ghost use Rattle.listing_lines.specs.Writes.{Fits, Writes};
 
 use base_numbers::copy_in;
-
-// A lent buffer, and where the text that is written to it ends so far. Each method writes its text from there on.
-#[derive(Drop)]
-pub struct Writer<'a> {
-    pub out: &'a mut [u8],
-    pub at: usize,
-}
 
 // The digit of a number below 16.
 fn glyph(d: u8) -> u8
@@ -26,13 +20,101 @@ fn glyph(d: u8) -> u8
     }
 }
 
+// ── a text from a place on ──
+// Each of these writes its text from `at` on and gives where it ends: so the place is a variable, and no number in memory that the bytes written might be.
+
+fn put(b: u8, out: &mut [u8], at: usize) -> usize
+    requires { Room (b ∷ []) at out.old }
+    ensures { Wrote (b ∷ []) at out.old out.new result }
+{
+    out[at] = b;
+    at + 1
+}
+
+fn decimal(n: usize, out: &mut [u8], at: usize) -> usize
+    requires { Room (decimal_of n) at out.old }
+    ensures { Wrote (decimal_of n) at out.old out.new result }
+{
+    if n < 10 {
+        return put(glyph(n as u8), out, at);
+    }
+    let last = decimal(n / 10, out, at);
+    put(glyph((n % 10) as u8), out, last)
+}
+
+fn hexadecimal(bytes: &[u8], out: &mut [u8], at: usize) -> usize
+    requires { Room (hex_of bytes.now) at out.old }
+    ensures { Wrote (hex_of bytes.now) at out.old out.new result }
+{
+    let mut end = at;
+    for &b in bytes {
+        let half = put(glyph(b / 16), out, end);
+        end = put(glyph(b % 16), out, half);
+    }
+    end
+}
+
+// Content, or `-` when it is empty.
+fn content(bytes: &[u8], out: &mut [u8], at: usize) -> usize
+    requires { Room (content_of bytes.now) at out.old }
+    ensures { Wrote (content_of bytes.now) at out.old out.new result }
+{
+    if bytes.is_empty() {
+        return put(b'-', out, at);
+    }
+    hexadecimal(bytes, out, at)
+}
+
+// The fields of a node's line but the last.
+#[tactic(auto, using(crate::specs::Digits::fields_long))]
+fn fields(level: usize, letter: u8, label: usize, bytes: &[u8], out: &mut [u8], at: usize) -> usize
+    requires { Room (fields_of level letter label bytes.now) at out.old }
+    ensures { Wrote (fields_of level letter label bytes.now) at out.old out.new result }
+{
+    let a = decimal(level, out, at);
+    let b = put(b' ', out, a);
+    let c = put(letter, out, b);
+    let d = put(b' ', out, c);
+    let e = decimal(label, out, d);
+    let f = put(b' ', out, e);
+    content(bytes, out, f)
+}
+
+// One line of a node.
+#[tactic(auto, using(crate::specs::Digits::line_long))]
+fn line(
+    level: usize,
+    letter: u8,
+    label: usize,
+    bytes: &[u8],
+    origin: usize,
+    out: &mut [u8],
+    at: usize,
+) -> usize
+    requires { Room (line_of level letter label bytes.now origin) at out.old }
+    ensures { Wrote (line_of level letter label bytes.now origin) at out.old out.new result }
+{
+    let a = fields(level, letter, label, bytes, out, at);
+    let b = put(b' ', out, a);
+    let c = decimal(origin, out, b);
+    put(b'\n', out, c)
+}
+
+// ── the writer ──
+
+// A lent buffer, and where the text that is written to it ends so far. Each method writes its text from there on.
+#[derive(Drop)]
+pub struct Writer<'a> {
+    pub out: &'a mut [u8],
+    pub at: usize,
+}
+
 impl Writer<'_> {
     fn put(&mut self, b: u8)
         requires { Fits (b ∷ []) self.old }
         ensures { Writes (b ∷ []) self.old self.new }
     {
-        self.out[self.at] = b;
-        self.at += 1;
+        self.at = put(b, self.out, self.at);
     }
 
     pub fn words(&mut self, text: &[u8])
@@ -47,58 +129,22 @@ impl Writer<'_> {
         requires { Fits (decimal_of n) self.old }
         ensures { Writes (decimal_of n) self.old self.new }
     {
-        if 10 <= n {
-            self.decimal(n / 10);
-        }
-        self.put(glyph((n % 10) as u8));
+        self.at = decimal(n, self.out, self.at);
     }
 
     pub fn hexadecimal(&mut self, bytes: &[u8])
         requires { Fits (hex_of bytes.now) self.old }
         ensures { Writes (hex_of bytes.now) self.old self.new }
     {
-        for &b in bytes {
-            self.put(glyph(b / 16));
-            self.put(glyph(b % 16));
-        }
-    }
-
-    // Content, or `-` when it is empty.
-    fn content(&mut self, bytes: &[u8])
-        requires { Fits (content_of bytes.now) self.old }
-        ensures { Writes (content_of bytes.now) self.old self.new }
-    {
-        if bytes.is_empty() {
-            return self.put(b'-');
-        }
-        self.hexadecimal(bytes)
-    }
-
-    // The fields of a node's line but the last.
-    #[tactic(auto, using(crate::specs::Digits::fields_long))]
-    fn fields(&mut self, level: usize, letter: u8, label: usize, bytes: &[u8])
-        requires { Fits (fields_of level letter label bytes.now) self.old }
-        ensures { Writes (fields_of level letter label bytes.now) self.old self.new }
-    {
-        self.decimal(level);
-        self.put(b' ');
-        self.put(letter);
-        self.put(b' ');
-        self.decimal(label);
-        self.put(b' ');
-        self.content(bytes);
+        self.at = hexadecimal(bytes, self.out, self.at);
     }
 
     // One line of a node.
-    #[tactic(auto, using(crate::specs::Digits::line_long))]
     pub fn line(&mut self, level: usize, letter: u8, label: usize, bytes: &[u8], origin: usize)
         requires { Fits (line_of level letter label bytes.now origin) self.old }
         ensures { Writes (line_of level letter label bytes.now origin) self.old self.new }
     {
-        self.fields(level, letter, label, bytes);
-        self.put(b' ');
-        self.decimal(origin);
-        self.put(b'\n');
+        self.at = line(level, letter, label, bytes, origin, self.out, self.at);
     }
 
     // The head line.

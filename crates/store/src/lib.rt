@@ -216,13 +216,13 @@ pub fn read_node(image: &[u8], place: Place) -> Result<Details, Refusal>
     }
 }
 
-// The part of the image that a node's numbers name, none where they name none. It is the image's own, from the start on: no copy. A `get` would not say so.
-pub fn part_of(image: &[u8], node: Details) -> &[u8]
-    ensures { (result.now ≡ slice image.now node.start node.len)
-        × (result.ref_ptr ≡ byte_of image.entry (start_in image.now node.start node.len)) }
+// The part of the image that two numbers name, none where they name none. It is the image's own, from the start on: no copy. A `get` would not say so.
+pub fn part_of(image: &[u8], start: usize, len: usize) -> &[u8]
+    ensures { (result.now ≡ slice image.now start len)
+        × (result.ref_ptr ≡ byte_of image.entry (start_in image.now start len)) }
 {
-    match node.start.checked_add(node.len) {
-        Some(end) if end <= image.len() => &image[node.start..end],
+    match start.checked_add(len) {
+        Some(end) if end <= image.len() => &image[start..end],
         _ => &image[..0],
     }
 }
@@ -242,7 +242,7 @@ pub fn read<'a>(image: &'a [u8], place: Place) -> Result<ReadAnswer<'a>, Refusal
 {
     let node = read_node(image, place)?;
     Ok(ReadAnswer {
-        content: part_of(image, node),
+        content: part_of(image, node.start, node.len),
         node,
     })
 }
