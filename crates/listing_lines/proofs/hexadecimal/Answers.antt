@@ -15,8 +15,18 @@ put-half-requires c =
 
 pub put-end-requires : goal.put-end-requires
 put-end-requires c =
-    record { fits = omega (arith, c.requires.fits, length_hex c.args.bytes.now, hex_long c.loop-b.b-index c.args.bytes.now (omega arith), c.loop-b.invariant.ends, c.loop-b.invariant.same,
-        c.put-half.ensures.ends, c.put-half.ensures.same) }
+    record {
+      fits = omega (
+        arith,
+        c.requires.fits,
+        length_hex c.args.bytes.now,
+        hex_long c.loop-b.b-index c.args.bytes.now (omega arith),
+        c.loop-b.invariant.ends,
+        c.loop-b.invariant.same,
+        c.put-half.ensures.ends,
+        c.put-half.ensures.same,
+      );
+    }
 
 pub loop-b-preserved : goal.loop-b-preserved
 loop-b-preserved c =
