@@ -8,7 +8,8 @@ use Rattle.theory_decoding.specs.Length.{length_says}
 use Rattle.model.specs.BeforeWalk.{settings_ok, page_fits, pages_fit, page_count, before_walk, is_free, trailer_of}
 use Rattle.theory_check.specs.Tests.{state_of}
 use Rattle.theory_check.specs.Sums.{sum}
-use Rattle.theory_check.specs.Check.{in_use, trailers_of}
+use Rattle.theory_check.specs.Check.{in_use, trailers_of, scan_from}
+use Rattle.theory_check.specs.Before.{scan_is}
 use Rattle.read_pages.specs.declared.PageState.{PageState}
 use Rattle.read_pages.specs.declared.PageState.TheVariants.{Broken, Free, Record}
 use Rattle.read_pages.specs.Counts.{state_number, count_from}
@@ -48,6 +49,14 @@ module _ (img : List ℕ) (pages p n : ℕ) where
       let on : (m : ℕ) → count_from img pages (pages - (p + 1)) (p + 1) m ≡ count_from img pages (pages - (p + 1)) (suc p) m =
       (λ m. ap (λ (q : ℕ). count_from img pages (pages - (p + 1)) q m) (add-one p)) in
       rw left (turn (page_fits pages p (page_of img p)) (is_free (trailer_of (page_of img p))) _ _ _ s (rw whole at is) refl (on n) (on (n + 1)))
+
+-- The count as a number, 0 where there is none, is what the loop over the pages finds.
+pub scan_counted : (img : List ℕ) (pages k p n : ℕ) (r : Option ℕ) → r ≡ count_from img pages k p n → unwrap_or r 0 ≡ scan_from img pages k p n
+scan_counted img pages k p n r is = rw is (go (pages_fit img pages k p) (n + sum (in_use img) k p)) ∙ sym (scan_is img pages k p n)
+  where
+    go : (b : Bool) (m : ℕ) → unwrap_or (cond b (Some m) None) 0 ≡ cond b m 0
+    go true m = refl
+    go false m = refl
 
 -- ── the whole, where page 0 passes ──
 

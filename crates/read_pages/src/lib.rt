@@ -6,7 +6,7 @@ ghost use Rattle.model.specs.Limits.{most_pages, page_size};
 ghost use Rattle.model.specs.Reading.{length_ok};
 ghost use Rattle.model.specs.BeforeWalk.{all_zero, settings_ok, trailer_of, settled_fits, used_fits, back_fits, record_trailer, before_walk};
 ghost use Rattle.theory_check.specs.Tests.{state_of};
-ghost use Rattle.theory_check.specs.Check.{trailers_of};
+ghost use Rattle.theory_check.specs.Check.{trailers_of, scan_from};
 ghost use Rattle.read_pages.specs.Counts.{state_number, count_from};
 ghost use Rattle.read_pages.specs.Numbers.{settings_on, settings_trailer};
 
@@ -136,7 +136,8 @@ pub fn settings_ok(page: &[u8], pages: usize) -> bool
 // How many record pages there are from 1 on; none where a page is against the rules by itself.
 fn scan_pages(image: &[u8], pages: usize) -> Option<usize>
     requires { (page_size * pages ≤ length image.now) × (1 ≤ pages) × (pages ≤ most_pages) }
-    ensures { result ≡ count_from image.now pages (pages - 1) 1 0 }
+    ensures count { result ≡ count_from image.now pages (pages - 1) 1 0 }
+    ensures scan { unwrap_or result 0 ≡ scan_from image.now pages (pages - 1) 1 0 }
 {
     let mut n = 0;
     for p in 1..pages {

@@ -166,7 +166,7 @@ used_fits_lem img p e low high used =
     omega (arith, says.used, page_two img p (capacity + 2) (omega arith))
 
 -- The loop over the pages finds it.
-scan_is : (img : List ℕ) (pages k p n : ℕ) → scan_from img pages k p n ≡ cond (pages_fit img pages k p) (n + sum (in_use img) k p) 0
+pub scan_is : (img : List ℕ) (pages k p n : ℕ) → scan_from img pages k p n ≡ cond (pages_fit img pages k p) (n + sum (in_use img) k p) 0
 unfolding scan_from pages_fit state_of
 scan_is img pages zero p n = omega arith
 scan_is img pages (suc k) p n = go (page_fits pages p (page_of img p)) (is_free (trailer_of (page_of img p))) refl refl (scan_is img pages k (suc p))

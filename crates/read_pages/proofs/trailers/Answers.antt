@@ -21,4 +21,4 @@ scan_pages-requires c =
 
 pub returns : goal.returns
 returns c =
-    let n = pages_counted c.args.image.now (sym c.settings_ok.ensures ∙ c.if-not-settings_ok.false) _ c.scan_pages.ensures in record { number = n.0; passed = n.1 }
+    let n = pages_counted c.args.image.now (sym c.settings_ok.ensures ∙ c.if-not-settings_ok.false) _ c.scan_pages.ensures.count in record { number = n.0; passed = n.1 }
