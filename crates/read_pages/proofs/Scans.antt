@@ -9,7 +9,7 @@ use Rattle.model.specs.BeforeWalk.{settings_ok, page_fits, pages_fit, page_count
 use Rattle.theory_check.specs.Tests.{state_of}
 use Rattle.theory_check.specs.Sums.{sum}
 use Rattle.theory_check.specs.Check.{in_use, trailers_of, scan_from}
-use Rattle.theory_check.specs.Before.{scan_is}
+use Rattle.theory_check.specs.Before.{scan_is, trailers_scan}
 use Rattle.read_pages.specs.declared.PageState.{PageState}
 use Rattle.read_pages.specs.declared.PageState.TheVariants.{Broken, Free, Record}
 use Rattle.read_pages.specs.Counts.{state_number, count_from}
@@ -68,11 +68,14 @@ module _ (img : List ℕ) where
   unfolding trailers_of before_walk
   none_passed e = rw e (refl, refl)
 
-  pub pages_counted : settings_ok (page_of img 0) (page_count img) ≡ true → (r : Option ℕ) → r ≡ count_from img (page_count img) (page_count img - 1) 1 0
-      → (unwrap_or r 0 ≡ trailers_of img) × (is_some r ≡ before_walk img)
-  unfolding trailers_of before_walk
-  pages_counted e r is = rw (is, e) (go (pages_fit img (page_count img) (page_count img - 1) 1) (sum (in_use img) (page_count img - 1) 1))
+  pub pages_scanned : settings_ok (page_of img 0) (page_count img) ≡ true → scan_from img (page_count img) (page_count img - 1) 1 0 ≡ trailers_of img
+  pages_scanned e = sym (trailers_scan img ∙ ap (λ (b : Bool). cond b (scan_from img (page_count img) (page_count img - 1) 1 0) 0) e)
+
+  pub pages_passed : settings_ok (page_of img 0) (page_count img) ≡ true → (r : Option ℕ) → r ≡ count_from img (page_count img) (page_count img - 1) 1 0
+      → is_some r ≡ before_walk img
+  unfolding before_walk
+  pages_passed e r is = rw (is, e) (go (pages_fit img (page_count img) (page_count img - 1) 1) (0 + sum (in_use img) (page_count img - 1) 1))
     where
-      go : (b : Bool) (m : ℕ) → (unwrap_or (cond b (Some (0 + m)) None) 0 ≡ cond b m 0) × (is_some (cond {A = Option ℕ} b (Some (0 + m)) None) ≡ b)
-      go true m = (omega arith, refl)
-      go false m = (refl, refl)
+      go : (b : Bool) (m : ℕ) → is_some (cond {A = Option ℕ} b (Some m) None) ≡ b
+      go true m = refl
+      go false m = refl

@@ -1,7 +1,7 @@
 use Rattle.std.specs.Prelude.{length}
 use Rattle.std.proofs.Common.{arith, sym, ◌∙◌}
 use Rattle.theory_decoding.specs.Length.{length_says}
-use Rattle.read_pages.proofs.Scans.{first_long, none_passed, pages_counted}
+use Rattle.read_pages.proofs.Scans.{first_long, none_passed, pages_scanned, pages_passed}
 use Rattle.read_pages.proofs.trailers.Goals as goal
 
 pub slice_bounds-settings_ok-end : goal.slice_bounds-settings_ok-end
@@ -21,4 +21,8 @@ scan_pages-requires c =
 
 pub returns : goal.returns
 returns c =
-    let n = pages_counted c.args.image.now (sym c.settings_ok.ensures ∙ c.if-not-settings_ok.false) _ c.scan_pages.ensures.count in record { number = n.0; passed = n.1 }
+    let e = sym c.settings_ok.ensures ∙ c.if-not-settings_ok.false in
+    record {
+      number = c.scan_pages.ensures.scan ∙ pages_scanned c.args.image.now e;
+      passed = pages_passed c.args.image.now e _ c.scan_pages.ensures.count;
+    }
