@@ -21,7 +21,7 @@ fn glyph(d: u8) -> u8
 }
 
 // ── a text from a place on ──
-// Each of these writes its text from `at` on and gives where it ends: so the place is a variable, and no number in memory that the bytes written might be.
+// Each of these writes its text from `at` on and gives where it ends. Behind a writer's address the place would be read and written anew for each byte.
 
 fn put(b: u8, out: &mut [u8], at: usize) -> usize
     requires { Room (b ∷ []) at out.old }
@@ -71,13 +71,13 @@ fn fields(level: usize, letter: u8, label: usize, bytes: &[u8], out: &mut [u8], 
     requires { Room (fields_of level letter label bytes.now) at out.old }
     ensures { Wrote (fields_of level letter label bytes.now) at out.old out.new result }
 {
-    let a = decimal(level, out, at);
-    let b = put(b' ', out, a);
-    let c = put(letter, out, b);
-    let d = put(b' ', out, c);
-    let e = decimal(label, out, d);
-    let f = put(b' ', out, e);
-    content(bytes, out, f)
+    let at = decimal(level, out, at);
+    let at = put(b' ', out, at);
+    let at = put(letter, out, at);
+    let at = put(b' ', out, at);
+    let at = decimal(label, out, at);
+    let at = put(b' ', out, at);
+    content(bytes, out, at)
 }
 
 // One line of a node.
@@ -94,10 +94,10 @@ fn line(
     requires { Room (line_of level letter label bytes.now origin) at out.old }
     ensures { Wrote (line_of level letter label bytes.now origin) at out.old out.new result }
 {
-    let a = fields(level, letter, label, bytes, out, at);
-    let b = put(b' ', out, a);
-    let c = decimal(origin, out, b);
-    put(b'\n', out, c)
+    let at = fields(level, letter, label, bytes, out, at);
+    let at = put(b' ', out, at);
+    let at = decimal(origin, out, at);
+    put(b'\n', out, at)
 }
 
 // ── the writer ──

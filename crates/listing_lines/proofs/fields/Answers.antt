@@ -6,5 +6,5 @@ use Rattle.listing_lines.proofs.fields.Goals as goal
 pub returns : goal.returns
 unfolding fields_of
 returns c =
-    then (then (then (then (then (then c.decimal-a.ensures c.put-b.ensures) c.put-c.ensures) c.put-d.ensures) c.decimal-e.ensures)
-    c.put-f.ensures) c.content.ensures
+    then (then (then (then (then (then c.decimal-at.ensures c.put-at.ensures) c.put-at-2.ensures) c.put-at-3.ensures) c.decimal-at-2.ensures)
+    c.put-at-4.ensures) c.content.ensures

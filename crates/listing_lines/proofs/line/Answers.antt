@@ -7,4 +7,4 @@ use Rattle.listing_lines.proofs.line.Goals as goal
 pub returns : goal.returns
 unfolding line_of fields_of
 returns c =
-    then (then (then c.fields-a.ensures c.put-b.ensures) c.decimal-c.ensures) c.put.ensures
+    then (then (then c.fields-at.ensures c.put-at.ensures) c.decimal-at.ensures) c.put.ensures
