@@ -80,7 +80,7 @@ module _ (img : List ℕ) where
       go true m = refl
       go false m = refl
 
-  -- Both of one count.
+  -- Both, of any such count. Nothing here cites it: other crates may (DECISIONS 179).
   pub pages_counted : settings_ok (page_of img 0) (page_count img) ≡ true → (r : Option ℕ) → r ≡ count_from img (page_count img) (page_count img - 1) 1 0
       → (unwrap_or r 0 ≡ trailers_of img) × (is_some r ≡ before_walk img)
   pages_counted e r is = (scan_counted img (page_count img) (page_count img - 1) 1 0 r is ∙ pages_scanned e, pages_passed e r is)
